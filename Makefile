@@ -1,0 +1,9 @@
+# make test: proves every crate and runs all tests. make demo: what can be tried today.
+.PHONY: test demo
+
+test:
+	bash .ci/run
+
+demo:
+	@echo "The proved batch program is not built yet. This is the second program, plain Rust, on the example of document 01:"
+	@cd tests && cargo run --offline --quiet --example batch

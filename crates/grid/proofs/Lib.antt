@@ -1,0 +1,6 @@
+pub mod Squares
+pub mod Signed
+pub mod Nearest
+pub mod Order
+pub mod Factors
+pub mod LowestTerms

@@ -1,0 +1,5 @@
+pub mod Position
+pub mod Coordinate
+pub mod Area
+pub mod Fraction
+pub mod Says

@@ -1,0 +1,35 @@
+// Coordinates of commands, which are signed 16-bit numbers, and back.
+use crate::Position;
+ghost use mathlib.Core.Path.{_≡_};
+ghost use Rattle.grid.specs.Coordinate.{fromWord, toWord};
+ghost use Rattle.grid.specs.Position.{OnGrid};
+ghost use Rattle.grid.specs.Says.{Says};
+
+// The coordinate that a signed 16-bit word stands for.
+pub fn from_word(w: u16) -> u16
+    ensures { λ r. ⌜ r ≡ fromWord w ⌝ }
+{
+    let sum = w as u32 + limits::HALF_WIDTH as u32;
+    (sum % 65536) as u16
+}
+
+// The word that stands for a coordinate.
+pub fn to_word(x: u16) -> u16
+    ensures { λ r. ⌜ r ≡ toWord x ⌝ }
+{
+    let sum = x as u32 + (65536 - limits::HALF_WIDTH as u32);
+    (sum % 65536) as u16
+}
+
+// Whether a position is on the grid.
+pub fn on_grid(p: Position) -> bool
+    ensures { λ r. ⌜ Says r (OnGrid p) ⌝ }
+{
+    if limits::GRID_WIDTH < p.east {
+        return false;
+    }
+    if limits::GRID_WIDTH < p.north {
+        return false;
+    }
+    true
+}

@@ -1,0 +1,35 @@
+// Positions, sites and legs on the grid; squared distances; fractions.
+// Document 01, "Grid and sites" and "The split list". Coordinates are counted from the grid's south-west corner.
+pub mod coordinate;
+pub mod distance;
+pub mod factor;
+
+// A pair (easting, northing).
+pub struct Position {
+    pub east: u16,
+    pub north: u16,
+}
+
+pub struct Site {
+    pub number: u16,
+    pub position: Position,
+}
+
+// A leg runs from S to E.
+pub struct Leg {
+    pub s: Position,
+    pub e: Position,
+}
+
+// A box.
+pub struct Area {
+    pub west: u16,
+    pub south: u16,
+    pub east: u16,
+    pub north: u16,
+}
+
+pub struct Fraction {
+    pub num: u64,
+    pub den: u64,
+}

@@ -1,0 +1,55 @@
+-- The numbers that document 01 fixes. Each stands here for the definitions and in src/ for the code, and nowhere else.
+-- Assumes nothing.
+use Prim.Native.Nat.{ℕ, _*_}
+
+-- "each from -8,000 to 8,000, in steps of 100 m"
+abbrev pub halfWidth : ℕ
+halfWidth = 8000
+
+-- the largest coordinate, counted from the grid's south-west corner
+abbrev pub gridWidth : ℕ
+gridWidth = 2 * halfWidth
+
+-- the largest squared distance along one axis
+abbrev pub maxSquare : ℕ
+maxSquare = gridWidth * gridWidth
+
+-- the largest squared distance of two positions
+abbrev pub maxDistance : ℕ
+maxDistance = 2 * maxSquare
+
+-- "No denominator passes 1,024,000,000"
+abbrev pub maxDenominator : ℕ
+maxDenominator = 2 * maxDistance
+
+-- "A site has a number from 1 to 65,535"
+abbrev pub maxNumber : ℕ
+maxNumber = 65535
+
+-- "A table holds 0 to 512 sites"
+abbrev pub maxSites : ℕ
+maxSites = 512
+
+-- "A node holds at most 8 entries"
+abbrev pub maxEntries : ℕ
+maxEntries = 8
+
+-- "A node other than the root holds at least 3"
+abbrev pub minEntries : ℕ
+minEntries = 3
+
+-- "There are at most six levels"
+abbrev pub maxLevels : ℕ
+maxLevels = 6
+
+-- the nodes of the pool: at most half as many as sites, and seven more for an addition
+abbrev pub maxNodes : ℕ
+maxNodes = 264
+
+-- "The table is exactly 32,768 lent bytes"
+abbrev pub tableBytes : ℕ
+tableBytes = 32768
+
+-- "The work buffer is exactly 8,192 lent bytes"
+abbrev pub workBytes : ℕ
+workBytes = 8192

@@ -1,0 +1,63 @@
+-- A corner that two listed points shut out is above the hull at every weight: nothing at or beyond it changes the list.
+-- Assumes nothing.
+use mathlib.Core.Path.{_≡_, refl}
+use mathlib.Core.List.{List, [], _∷_, _++_, List·Memᴰ·head, List·Memᴰ·tail}
+use Prim.Native.Nat.{ℕ, _+_, _*_, _-_, _≤_, _<_}
+use native.Mathlib.Nat.{mul-le-mul-left, mul-le-mul-right, mul-lt-mul-of-pos-left, lt-of-mul-lt-mul-left}
+use native.Mathlib.Decide.{decLe}
+use native.Mathlib.Omega.{arith}
+use Rattle.split.specs.Hull.{Point, value, rise, fall, Step, Beats, In, IsHull}
+use Rattle.split.specs.Skip.{Shut, Witness}
+use Rattle.split.proofs.HullLaws.{grow, covers-one, covers-cons, self}
+use Rattle.split.proofs.Points.{mul-gap, gap, beats-less}
+
+rearranged : (x y p q : ℕ) → x ≤ y → p ≤ q → x * q + y * p ≤ x * p + y * q
+rearranged x y p q h k =
+    let e : y ≡ x + (y - x) = omega arith in
+    omega (arith, mul-le-mul-right (y - x) k, mul-gap p x y (y - x) e, mul-gap q x y (y - x) e)
+
+-- below the corner at one weight: below it further right if as low, further left if as far left
+further : (m n x y : ℕ) (v : Point) (a c : ℕ) → 0 < m → v .c ≤ c → y * m ≤ n * x → value x y v < x * a + y * c → value m n v < m * a + n * c
+further m n x y v a c pm h k f =
+    lt-of-mul-lt-mul-left x (omega (arith, mul-lt-mul-of-pos-left {k = m} f pm, rearranged (y * m) (n * x) (v .c) c k h))
+
+nearby : (m n x y : ℕ) (v : Point) (a c : ℕ) → 0 < n → v .a ≤ a → n * x ≤ y * m → value x y v < x * a + y * c → value m n v < m * a + n * c
+nearby m n x y v a c pn h k f =
+    lt-of-mul-lt-mul-left y (omega (arith, mul-lt-mul-of-pos-left {k = n} f pn, rearranged (n * x) (y * m) (v .a) a k h))
+
+module _ {l : List Point} {a c : ℕ} (w : Witness l a c) where
+  pub found : (m n : ℕ) → 0 < m → 0 < n → (x : Point) × In x l × (value m n x < m * a + n * c)
+  found m n pm pn = go (decLe (w .shut .n * m) (n * w .shut .m))
+    where
+      s : Shut (w .u) (w .v) a c
+      s = w .shut
+
+      go : Dec (w .shut .n * m ≤ n * w .shut .m) → (x : Point) × In x l × (value m n x < m * a + n * c)
+      go (yes k) = (w .v, w .has-v, further m n (s .m) (s .n) (w .v) a c pm (s .low) k (s .under-v))
+      go (no k) = (w .u, w .has-u, nearby m n (s .m) (s .n) (w .u) a c pn (s .left) (omega arith) (s .under-u))
+
+  -- THE SKIP: nothing that is at least the corner in both changes the list
+  pub skip-hull : (p : Point) → a ≤ p .a → c ≤ p .c → {Q : List Point} → IsHull Q l → IsHull (p ∷ Q) l
+  skip-hull p ha hc {Q} h = grow (λ q i. List·Memᴰ·tail i) (covers-cons (covers-one below) (self λ q i. i)) h
+    where
+      below : (m n : ℕ) → 0 < m → 0 < n → (x : Point) × In x Q × Beats m n x p
+      below m n pm pn =
+          let (x, i, f) = found m n pm pn in
+          (x, h .sub x i, beats-less (omega (arith, mul-le-mul-left m ha, mul-le-mul-left n hc)))
+
+  -- a whole box of points
+  pub skip-all : (R : List Point) → ((p : Point) → In p R → (a ≤ p .a) × (c ≤ p .c)) → {Q : List Point} → IsHull Q l → IsHull (R ++ Q) l
+  skip-all [] h s = s
+  skip-all (p ∷ R) h s =
+      let d = h p (List·Memᴰ·head refl) in
+      skip-hull p (d .0) (d .1) (skip-all R (λ q i. h q (List·Memᴰ·tail i)) s)
+
+-- The two tests. A vertex as low in both and lower in one:
+pub shut-one : (v : Point) (a c : ℕ) → v .a ≤ a → v .c ≤ c → v .a + v .c < a + c → Shut v v a c
+shut-one v a c h k f = record { m = 1; n = 1; left = h; low = k; under-u = omega arith; under-v = omega arith }
+
+-- an edge that the corner is strictly above:
+pub shut-edge : (u v : Point) (a c : ℕ) → Step u v → u .a ≤ a → v .c ≤ c
+    → value (fall u v) (rise u v) v < fall u v * a + rise u v * c → Shut u v a c
+shut-edge u v a c s h k f =
+    record { m = fall u v; n = rise u v; left = h; low = k; under-u = omega (arith, gap (fall u v) (rise u v) s); under-v = f }

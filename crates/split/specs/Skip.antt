@@ -1,0 +1,23 @@
+-- When all that lies no nearer than a corner (a, c) may be skipped: two listed points of which one is below the corner at every weight.
+-- Ties are no skip: a site at the corner itself might have the lower number.
+-- Assumes nothing.
+use mathlib.Core.List.{List}
+use Prim.Native.Nat.{ℕ, _+_, _*_, _≤_, _<_}
+use Rattle.split.specs.Hull.{Point, value, In}
+
+-- u is as far left as the corner (a, c), v as low, and at one weight both are below it
+pub record Shut (u v : Point) (a c : ℕ) : Type 0 where
+  pub m : ℕ
+  pub n : ℕ
+  pub left : u .a ≤ a
+  pub low : v .c ≤ c
+  pub under-u : value m n u < m * a + n * c
+  pub under-v : value m n v < m * a + n * c
+
+-- two points of the list shut the corner out
+pub record Witness (l : List Point) (a c : ℕ) : Type 0 where
+  pub u : Point
+  pub v : Point
+  pub has-u : In u l
+  pub has-v : In v l
+  pub shut : Shut u v a c

@@ -1,0 +1,13 @@
+//! The second program of document 01: the same rules written again, plainly, so that the
+//! proved service has something independent to be compared with.
+
+pub mod batch_program;
+pub mod book;
+pub mod command;
+pub mod fraction;
+pub mod grid;
+pub mod hull;
+pub mod layout;
+pub mod random;
+pub mod record;
+pub mod split;

@@ -1,0 +1,98 @@
+//! A repeatable source of random numbers, positions and commands.
+
+use crate::command;
+use crate::grid::{HALF_WIDTH, Leg, Position, Site};
+
+/// SplitMix64; the slight bias of taking remainders does not matter here.
+pub struct Random(u64);
+
+impl Random {
+    pub fn new(seed: u64) -> Self {
+        Random(seed)
+    }
+
+    fn next(&mut self) -> u64 {
+        self.0 = self.0.wrapping_add(0x9E37_79B9_7F4A_7C15);
+        let mut word = self.0;
+        word = (word ^ (word >> 30)).wrapping_mul(0xBF58_476D_1CE4_E5B9);
+        word = (word ^ (word >> 27)).wrapping_mul(0x94D0_49BB_1331_11EB);
+        word ^ (word >> 31)
+    }
+
+    /// From `low` to `high`, both included.
+    pub fn between(&mut self, low: i64, high: i64) -> i64 {
+        let choices = u64::try_from(high - low + 1).expect("low is not above high");
+        low + i64::try_from(self.next() % choices).expect("the range has 63 bits")
+    }
+
+    /// True once in `times`.
+    pub fn once_in(&mut self, times: i64) -> bool {
+        self.between(1, times) == 1
+    }
+
+    pub fn index(&mut self, length: usize) -> usize {
+        let last = i64::try_from(length).expect("a length has 63 bits") - 1;
+        usize::try_from(self.between(0, last)).expect("an index is not below 0")
+    }
+
+    pub fn pick<T: Copy>(&mut self, items: &[T]) -> T {
+        items[self.index(items.len())]
+    }
+
+    pub fn shuffle<T>(&mut self, items: &mut [T]) {
+        for i in (1..items.len()).rev() {
+            items.swap(i, self.index(i + 1));
+        }
+    }
+
+    /// In the rectangle with these corners, edges included.
+    pub fn position(&mut self, low: Position, high: Position) -> Position {
+        Position::new(
+            self.between(low.east, high.east),
+            self.between(low.north, high.north),
+        )
+    }
+}
+
+/// Commands of all six kinds, whole and known; every refusal but 5 comes up.
+pub fn commands(random: &mut Random, count: usize) -> Vec<Vec<u8>> {
+    std::iter::repeat_with(|| command(random))
+        .take(count)
+        .collect()
+}
+
+fn command(random: &mut Random) -> Vec<u8> {
+    // Few numbers, so that many are held; 0 is among them.
+    let number = u16::try_from(random.between(0, 40)).expect("a number has 16 bits");
+    let position = near_or_off(random);
+    let site = Site { number, position };
+    let leg = Leg {
+        s: near_or_off(random),
+        e: near_or_off(random),
+    };
+    match random.between(1, 12) {
+        1..=4 => command::add(site),
+        5 | 6 => command::remove(number),
+        7 | 8 => command::move_site(site),
+        9 => command::list(leg),
+        10 => command::stand(leg),
+        _ => command::print(),
+    }
+}
+
+/// Mostly within a few steps of the origin; now and then at the grid's edge or just off it.
+fn near_or_off(random: &mut Random) -> Position {
+    let edge = if random.once_in(2) {
+        HALF_WIDTH
+    } else {
+        HALF_WIDTH + 1
+    };
+    let mut coordinate = || {
+        if random.once_in(30) {
+            edge
+        } else {
+            random.between(-6, 6)
+        }
+    };
+    Position::new(coordinate(), coordinate())
+}
