@@ -1,0 +1,10 @@
+pub mod Lines
+pub mod Answers
+pub mod ProperBooks
+pub mod Lists
+pub mod Parsing
+pub mod Runs
+pub mod ProperRuns
+pub mod ReadBack
+pub mod Orders
+pub mod Refill

@@ -1,0 +1,101 @@
+-- The lists that a book answers: document 01's split lists, short enough for any report record, and nothing of them is cut off.
+-- Assumes nothing.
+use mathlib.Core.Path.{_≡_, refl, sym, ap, _∙_, subst, subst⁻¹}
+use mathlib.Core.Option.{Option, some}
+use mathlib.Core.List.{List, _∷_, map, List·Memᴰ, List·Memᴰ·head, List·Memᴰ·tail}
+use Prim.Native.Nat.{_+_, _*_, _≤_, _<_}
+use native.Mathlib.Omega.{arith}
+use lib.ListN.{length}
+use Rattle.limits.specs.Limits.{maxSites, maxDenominator}
+use Rattle.grid.specs.declared.Leg.{Leg}
+use Rattle.grid.specs.declared.Site.{Site}
+use Rattle.grid.specs.Fraction.{IsFraction, Below}
+use Rattle.grid.specs.Position.{LegOnGrid}
+use Rattle.grid.proofs.Order.{mid, mid-fraction}
+use Rattle.split.specs.SplitList.{Entry, endOf, Stretches, IsSplitList}
+use Rattle.split.specs.SplitOf.{splitOf}
+use Rattle.split.proofs.Unique.{end-fraction}
+use Rattle.split.proofs.Once.{few}
+use Rattle.split.proofs.Denominators.{bounded}
+use Rattle.split.proofs.Exists.{split-is}
+use Rattle.records.specs.Decode.{readRecord}
+use Rattle.records.proofs.Length.{record-length}
+use Rattle.records.proofs.ReadBack.{EntrySmall, listedOf, read-record}
+use Rattle.book.specs.declared.Command.{Command}
+use Rattle.book.specs.declared.Command.the-variants.{Add, Remove, Move, List as ListOf, Stand, Print}
+use Rattle.book.specs.Book.{Book}
+use Rattle.book.specs.Proper.{LegOk, Proper}
+use Rattle.book.specs.Reply.{Reply, done, refused, listed, recordOf}
+use Rattle.book.specs.Answer.{answer}
+use Rattle.book.proofs.Answers.{ListFits, list-accepted, PrintFits, print-accepted, add-not-listed, remove-not-listed, move-not-listed, stand-not-listed}
+use Rattle.book.proofs.ProperBooks.{proper-numbered}
+
+-- a listed site is held
+listed-held : (l : Leg) (s : List Site) (es : List Entry) → Stretches l s es → (f : Entry) → List·Memᴰ f es → List·Memᴰ (f .site) s
+listed-held l s es h f (List·Memᴰ·head {x = e} {xs = rest} q) =
+    let r : Below (e .start) (endOf rest) = h .0 .rises in
+    let t : IsFraction (mid (e .start) (endOf rest)) = mid-fraction (e .start) (endOf rest) (end-fraction l s (e ∷ rest) h) (end-fraction l s rest (h .1)) in
+    subst (λ (g : Entry). List·Memᴰ (g .site) s) (sym q) (h .0 .leads (mid (e .start) (endOf rest)) t (omega arith) (omega arith) .held)
+listed-held l s es h f (List·Memᴰ·tail {x = e} {xs = rest} m) = listed-held l s rest (h .1) f m
+
+-- a start is below 1
+start-below : (l : Leg) (s : List Site) (es : List Entry) → Stretches l s es → (f : Entry) → List·Memᴰ f es → f .start .num < f .start .den
+start-below l s es h f (List·Memᴰ·head {x = e} {xs = rest} q) = subst (λ (g : Entry). g .start .num < g .start .den) (sym q) (h .0 .below1)
+start-below l s es h f (List·Memᴰ·tail {x = e} {xs = rest} m) = start-below l s rest (h .1) f m
+
+-- a leg on the grid, and the split list of it over the book's lines
+pub record BookList (b : Book) (es : List Entry) : Type 0 where
+  pub leg : Leg
+  pub onGrid : LegOnGrid leg
+  pub list : IsSplitList leg (b .lines) es
+
+module _ (b : Book) (ok : Proper b) where
+  leg-ok : (l : Leg) → b .leg ≡ some l → LegOnGrid l
+  leg-ok l e = subst (λ (o : Option Leg). LegOk o) e (ok .legOk)
+
+  split-list : (l : Leg) (es : List Entry) → es ≡ splitOf l (b .lines) → IsSplitList l (b .lines) es
+  split-list l es e = subst⁻¹ (λ (fs : List Entry). IsSplitList l (b .lines) fs) e (split-is l (b .lines) (proper-numbered b ok))
+
+  -- A LISTED ANSWER is document 01's split list of a leg over the book's lines
+  pub answer-list : (c : Command) (es : List Entry) → answer b c ≡ listed es → BookList b es
+  answer-list (Add n p) es h = absurd (add-not-listed b n p es h)
+  answer-list (Remove n) es h = absurd (remove-not-listed b n es h)
+  answer-list (Move n p) es h = absurd (move-not-listed b n p es h)
+  answer-list (ListOf l) es h =
+      let f : ListFits b l es = list-accepted b l es h in
+      record { leg = l; onGrid = f .onGrid; list = split-list l es (f .is) }
+  answer-list (Stand l) es h = absurd (stand-not-listed b l es h)
+  answer-list Print es h =
+      let f : PrintFits b es = print-accepted b es h in
+      record { leg = f .line; onGrid = leg-ok (f .line) (f .stands); list = split-list (f .line) es (f .is) }
+
+  -- at most 512 entries
+  pub answer-few : (c : Command) (es : List Entry) → answer b c ≡ listed es → length es ≤ maxSites
+  answer-few c es h =
+      let r : BookList b es = answer-list c es h in
+      omega (arith, ok .few, few (r .leg) (b .lines) (proper-numbered b ok) es (r .list))
+
+  -- the record's fields hold every entry
+  pub answer-small : (c : Command) (es : List Entry) → answer b c ≡ listed es → (e : Entry) → List·Memᴰ e es → EntrySmall e
+  answer-small c es h e m =
+      let r : BookList b es = answer-list c es h in
+      let d : e .start .den ≤ maxDenominator = bounded (r .leg) (b .lines) (proper-numbered b ok) (r .onGrid) (ok .onGrid) es (r .list) e m in
+      let n : e .start .num < e .start .den = start-below (r .leg) (b .lines) es (r .list .rules) e m in
+      record {
+        number = omega (arith, ok .numbers (e .site) (listed-held (r .leg) (b .lines) es (r .list .rules) e m) .most);
+        num = omega arith;
+        den = omega arith;
+      }
+
+  -- NOTHING IS CUT OFF: a listed answer is read back from its record
+  pub answer-read : (c : Command) (es : List Entry) → answer b c ≡ listed es → readRecord (recordOf (answer b c)) ≡ map listedOf es
+  answer-read c es h = ap (λ (y : Reply). readRecord (recordOf y)) h ∙ read-record es (omega (arith, answer-few c es h)) (answer-small c es h)
+
+  -- NO RECORD is longer than that of 512 entries
+  pub answer-length : (c : Command) → length (recordOf (answer b c)) ≤ 3 + 10 * maxSites
+  answer-length c = go (answer b c) refl
+    where
+      go : (y : Reply) → answer b c ≡ y → length (recordOf y) ≤ 3 + 10 * maxSites
+      go done e = omega arith
+      go (refused x) e = omega arith
+      go (listed es) e = omega (arith, record-length es, answer-few c es e)

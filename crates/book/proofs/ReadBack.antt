@@ -1,0 +1,185 @@
+-- The bytes of commands are read back, wherever they stand; and a call on them takes the commands in turn.
+-- Assumes nothing.
+use mathlib.Core.Path.{_≡_, refl, sym, ap, _∙_, subst}
+use mathlib.Core.List.{List, [], _∷_, _++_, append-assoc, append-nil}
+use Prim.Native.Nat.{ℕ, _+_, _*_, _/_, _%_, _≤_, _<_}
+use native.Mathlib.Nat.{add-assoc, zero-add}
+use native.Mathlib.Omega.{arith}
+use lib.ListN.{length, length-append}
+use lib.Seq.{getD-append-add, getD-append-seam}
+use Rattle.words.specs.Words.{wordAt}
+use Rattle.grid.specs.declared.Position.{Position}
+use Rattle.grid.specs.declared.Leg.{Leg}
+use Rattle.grid.specs.Coordinate.{fromWord, toWord}
+use Rattle.grid.proofs.Signed.{word-of}
+use Rattle.records.proofs.ReadBack.{bytes2-hold}
+use Rattle.book.specs.declared.Command.{Command}
+use Rattle.book.specs.declared.Command.the-variants.{Add, Remove, Move, List as ListOf, Stand, Print}
+use Rattle.book.specs.declared.Parsed.the-variants.{End, Whole}
+use Rattle.book.specs.declared.Reason.the-variants.{AllUsed, NoRoom}
+use Rattle.book.specs.Command.{positionAt, legAt, parseAt}
+use Rattle.book.specs.Encode.{positionBytes, legBytes, commandBytes}
+use Rattle.book.specs.Book.{Book}
+use Rattle.book.specs.Reply.{recordOf}
+use Rattle.book.specs.Answer.{answer, after}
+use Rattle.book.specs.Run.{Turn, records, ends, run}
+use Rattle.book.proofs.Parsing.{parse-end, parse-add, parse-remove, parse-move, parse-list, parse-stand, parse-print}
+use Rattle.book.proofs.Runs.{turnOf, afterAll, records-one, records-more, Steps, steps-none, steps-one, ends-all, ends-full}
+
+-- two 16-bit numbers hold the position
+pub record PositionSmall (p : Position) : Type 0 where
+  pub east : p .east < 65536
+  pub north : p .north < 65536
+
+-- the command's fields hold its operands
+abbrev pub Encodable : Command → Type 0
+Encodable (Add n p) = (n < 65536) × PositionSmall p
+Encodable (Remove n) = n < 65536
+Encodable (Move n p) = (n < 65536) × PositionSmall p
+Encodable (ListOf l) = PositionSmall (l .s) × PositionSmall (l .e)
+Encodable (Stand l) = PositionSmall (l .s) × PositionSmall (l .e)
+Encodable Print = Unit {0}
+
+-- ---- numbers, positions and legs behind other bytes
+
+word-behind : (pre s : List ℕ) (i : ℕ) → wordAt (pre ++ s) (length pre + i) ≡ wordAt s i
+unfolding wordAt
+word-behind pre s i = rw (add-assoc (length pre) i 1, getD-append-add pre s i 0, getD-append-add pre s (i + 1) 0) refl
+
+position-behind : (pre s : List ℕ) (i : ℕ) → positionAt (pre ++ s) (length pre + i) ≡ positionAt s i
+position-behind pre s i =
+    let e : length pre + i + 2 ≡ length pre + (i + 2) = omega arith in
+    λ j. record { east = fromWord (word-behind pre s i j); north = fromWord ((ap (wordAt (pre ++ s)) e ∙ word-behind pre s (i + 2)) j) }
+
+leg-behind : (pre s : List ℕ) (i : ℕ) → legAt (pre ++ s) (length pre + i) ≡ legAt s i
+leg-behind pre s i =
+    let e : length pre + i + 4 ≡ length pre + (i + 4) = omega arith in
+    λ j. record { s = position-behind pre s i j; e = (ap (positionAt (pre ++ s)) e ∙ position-behind pre s (i + 4)) j }
+
+word-small : (x : ℕ) → toWord x < 65536
+unfolding toWord
+word-small x = omega arith
+
+coordinate-back : (x : ℕ) → x < 65536 → fromWord (toWord x % 256 + 256 * (toWord x / 256 % 256)) ≡ x
+coordinate-back x h = ap fromWord (bytes2-hold (toWord x) (word-small x)) ∙ word-of x h
+
+-- a number, a position and a leg, read from their bytes
+number-back : (x n : ℕ) (t : List ℕ) → n < 65536 → wordAt (x ∷ n % 256 ∷ n / 256 % 256 ∷ t) 1 ≡ n
+unfolding wordAt
+number-back x n t h = bytes2-hold n h
+
+position-back : (x y z : ℕ) (p : Position) (t : List ℕ) → PositionSmall p → positionAt (x ∷ y ∷ z ∷ positionBytes p ++ t) 3 ≡ p
+unfolding wordAt
+position-back x y z p t h = λ j. record { east = coordinate-back (p .east) (h .east) j; north = coordinate-back (p .north) (h .north) j }
+
+leg-back : (x : ℕ) (l : Leg) (t : List ℕ) → PositionSmall (l .s) → PositionSmall (l .e) → legAt (x ∷ legBytes l ++ t) 1 ≡ l
+unfolding wordAt
+leg-back x l t g h = λ j. record {
+  s = record { east = coordinate-back (l .s .east) (g .east) j; north = coordinate-back (l .s .north) (g .north) j };
+  e = record { east = coordinate-back (l .e .east) (h .east) j; north = coordinate-back (l .e .north) (h .north) j };
+}
+
+-- ---- commands
+
+module _ (pre : List ℕ) (t : List ℕ) where
+  inside : (s : List ℕ) (k : ℕ) → k ≤ length s → length pre + k ≤ length (pre ++ s)
+  inside s k h = omega (arith, length-append pre s)
+
+  -- A COMMAND IS READ BACK, with whatever bytes before it and behind it
+  pub read-back : (c : Command) → Encodable c → parseAt (pre ++ (commandBytes c ++ t)) (length pre) ≡ Whole c (length pre + length (commandBytes c))
+  read-back (Add n p) h =
+      let s : List ℕ = commandBytes (Add n p) ++ t in
+      let k : length pre + 7 ≤ length (pre ++ s) = inside s 7 (omega arith) in
+      parse-add (pre ++ s) (length pre) (omega arith) (getD-append-seam pre 0x41 _ 0) k n p
+      (sym (word-behind pre s 1 ∙ number-back 0x41 n _ (h .0))) (sym (position-behind pre s 3 ∙ position-back _ _ _ p t (h .1)))
+  read-back (Remove n) h =
+      let s : List ℕ = commandBytes (Remove n) ++ t in
+      let k : length pre + 3 ≤ length (pre ++ s) = inside s 3 (omega arith) in
+      parse-remove (pre ++ s) (length pre) (omega arith) (getD-append-seam pre 0x44 _ 0) k n
+      (sym (word-behind pre s 1 ∙ number-back 0x44 n _ h))
+  read-back (Move n p) h =
+      let s : List ℕ = commandBytes (Move n p) ++ t in
+      let k : length pre + 7 ≤ length (pre ++ s) = inside s 7 (omega arith) in
+      parse-move (pre ++ s) (length pre) (omega arith) (getD-append-seam pre 0x4D _ 0) k n p
+      (sym (word-behind pre s 1 ∙ number-back 0x4D n _ (h .0))) (sym (position-behind pre s 3 ∙ position-back _ _ _ p t (h .1)))
+  read-back (ListOf l) h =
+      let s : List ℕ = commandBytes (ListOf l) ++ t in
+      let k : length pre + 9 ≤ length (pre ++ s) = inside s 9 (omega arith) in
+      parse-list (pre ++ s) (length pre) (omega arith) (getD-append-seam pre 0x4C _ 0) k l
+      (sym (leg-behind pre s 1 ∙ leg-back 0x4C l t (h .0) (h .1)))
+  read-back (Stand l) h =
+      let s : List ℕ = commandBytes (Stand l) ++ t in
+      let k : length pre + 9 ≤ length (pre ++ s) = inside s 9 (omega arith) in
+      parse-stand (pre ++ s) (length pre) (omega arith) (getD-append-seam pre 0x53 _ 0) k l
+      (sym (leg-behind pre s 1 ∙ leg-back 0x53 l t (h .0) (h .1)))
+  read-back Print h =
+      let s : List ℕ = commandBytes Print ++ t in
+      let k : length pre + 1 ≤ length (pre ++ s) = inside s 1 (omega arith) in
+      parse-print (pre ++ s) (length pre) (omega arith) (getD-append-seam pre 0x50 _ 0)
+
+-- a command alone
+pub read-one : (c : Command) → Encodable c → parseAt (commandBytes c) 0 ≡ Whole c (length (commandBytes c))
+read-one c h =
+    subst (λ (s : List ℕ). parseAt s 0 ≡ Whole c (length (commandBytes c))) (append-nil (commandBytes c))
+    (read-back [] [] c h ∙ ap (Whole c) (zero-add (length (commandBytes c))))
+
+-- ---- calls
+
+-- commands behind each other
+abbrev pub allBytes : List Command → List ℕ
+allBytes [] = []
+allBytes (c ∷ cs) = commandBytes c ++ allBytes cs
+
+-- every command's fields hold its operands
+abbrev pub AllEncodable : List Command → Type 0
+AllEncodable [] = Unit {0}
+AllEncodable (c ∷ cs) = Encodable c × AllEncodable cs
+
+-- the turns of commands, each on the book that those before it leave
+abbrev pub turnsOf : Book → List Command → List Turn
+turnsOf b [] = []
+turnsOf b (c ∷ cs) = turnOf b c ∷ turnsOf (after b c (answer b c)) cs
+
+module _ (room : ℕ) (b₀ : Book) where
+  on : (pre : List ℕ) (cs : List Command) (past : List Turn) (b : Book) → AllEncodable cs → length (records past) + length (records (turnsOf b cs)) ≤ room
+      → Steps (pre ++ allBytes cs) room b₀ (length pre) past b
+      → run (pre ++ allBytes cs) room b₀ ≡ ends AllUsed (length (pre ++ allBytes cs)) (past ++ turnsOf b cs) (afterAll b (turnsOf b cs))
+  unfolding records
+  on pre [] past b h l g =
+      rw (append-nil pre, append-nil past)
+      (subst (λ (s : List ℕ). run s room b₀ ≡ ends AllUsed (length pre) past b) (append-nil pre)
+      (ends-all (pre ++ []) room b₀ (length pre) past b g End (sym (parse-end (pre ++ []) (length pre) (rw (append-nil pre) (omega arith)))) refl))
+  on pre (c ∷ cs) past b h l g =
+      let b′ : Book = after b c (answer b c) in
+      let past′ : List Turn = past ++ (turnOf b c ∷ []) in
+      let n : length (records past) + length (recordOf (answer b c)) + length (records (turnsOf b′ cs)) ≤ room =
+      omega (arith, l, length-append (recordOf (answer b c)) (records (turnsOf b′ cs))) in
+      let e : pre ++ (commandBytes c ++ allBytes cs) ≡ (pre ++ commandBytes c) ++ allBytes cs = sym (append-assoc pre (commandBytes c) (allBytes cs)) in
+      let st : Steps (pre ++ allBytes (c ∷ cs)) room b₀ (length pre + length (commandBytes c)) past′ b′ =
+      steps-one (pre ++ allBytes (c ∷ cs)) room b₀ (length pre) past b g _ (sym (read-back pre (allBytes cs) c (h .0))) c _ refl (omega arith) in
+      let st′ : Steps ((pre ++ commandBytes c) ++ allBytes cs) room b₀ (length (pre ++ commandBytes c)) past′ b′ =
+      rw (← e, length-append pre (commandBytes c)) st in
+      let m : length (records past′) + length (records (turnsOf b′ cs)) ≤ room = rw (records-more past (turnOf b c)) n in
+      subst
+      (λ (s : List ℕ). run s room b₀ ≡ ends AllUsed (length s) (past ++ turnsOf b (c ∷ cs)) (afterAll b′ (turnsOf b′ cs))) (sym e)
+      (on (pre ++ commandBytes c) cs past′ b′ (h .1) m st′
+      ∙ ap (λ (ts : List Turn). ends AllUsed (length ((pre ++ commandBytes c) ++ allBytes cs)) ts (afterAll b′ (turnsOf b′ cs)))
+      (append-assoc past (turnOf b c ∷ []) (turnsOf b′ cs)))
+
+-- A CALL ON COMMANDS, where all records fit: each is answered in turn
+pub run-commands : (cs : List Command) (room : ℕ) (b : Book) → AllEncodable cs → length (records (turnsOf b cs)) ≤ room
+    → run (allBytes cs) room b ≡ ends AllUsed (length (allBytes cs)) (turnsOf b cs) (afterAll b (turnsOf b cs))
+unfolding records
+run-commands cs room b h l = on room b [] cs [] b h (omega arith) (steps-none (allBytes cs) room b)
+
+-- A CALL ON ONE COMMAND
+pub run-one : (c : Command) (room : ℕ) (b : Book) → Encodable c → length (recordOf (answer b c)) ≤ room
+    → run (commandBytes c) room b ≡ ends AllUsed (length (commandBytes c)) (turnOf b c ∷ []) (after b c (answer b c))
+run-one c room b h l =
+    subst (λ (s : List ℕ). run s room b ≡ ends AllUsed (length s) (turnOf b c ∷ []) (after b c (answer b c))) (append-nil (commandBytes c))
+    (run-commands (c ∷ []) room b (h, tt) (rw (records-one (turnOf b c)) l))
+
+-- one whose record does not fit
+pub run-one-full : (c : Command) (room : ℕ) (b : Book) → Encodable c → room < length (recordOf (answer b c)) → run (commandBytes c) room b ≡ ends NoRoom 0 [] b
+unfolding records
+run-one-full c room b h l = ends-full (commandBytes c) room b 0 [] b (steps-none (commandBytes c) room b) _ (sym (read-one c h)) c _ refl (omega arith)

@@ -1,0 +1,78 @@
+-- The tests of each command's row, in order, and what an accepted command is answered.
+-- Document 01, the column "Tests in order" and "The site book": "the first cause met gives 21 and its number".
+-- Assumes nothing.
+use mathlib.Core.List.{List, [], _∷_}
+use mathlib.Core.Option.{Option, none, some}
+use mathlib.Core.Bool.{Bool, true, false, cond, not, _&&_}
+use Prim.Native.Nat.{ℕ}
+use lib.ListN.{length}
+use lib.Dec.{eqb, leb}
+use Rattle.limits.specs.Limits.{gridWidth, maxSites}
+use Rattle.grid.specs.declared.Position.{Position}
+use Rattle.grid.specs.declared.Leg.{Leg}
+use Rattle.split.specs.SplitOf.{splitOf}
+use Rattle.book.specs.declared.Command.{Command}
+use Rattle.book.specs.declared.Command.the-variants.{Add, Remove, Move, List as ListOf, Stand, Print}
+use Rattle.book.specs.declared.Cause.{Cause}
+use Rattle.book.specs.declared.Cause.the-variants.{NumberZero, OffGrid, Held, NotHeld, Full, NoSite, NoLeg}
+use Rattle.book.specs.Book.{Book, sitesOf, standingList, holds, change}
+use Rattle.book.specs.Reply.{Reply, done, refused, listed}
+
+-- a test: whether the cause is met
+pub record Test : Type 0 where
+  pub met : Bool
+  pub cause : Cause
+
+-- the cause is met where the answer is yes
+abbrev pub test : Bool → Cause → Test
+test met cause = record { met = met; cause = cause }
+
+-- "a coordinate outside -8,000 to 8,000"
+abbrev pub offGrid : Position → Bool
+offGrid p = not (leb (p .east) gridWidth && leb (p .north) gridWidth)
+
+-- of a leg's two positions
+abbrev pub legOffGrid : Leg → Bool
+legOffGrid l = not (not (offGrid (l .s)) && not (offGrid (l .e)))
+
+-- "no standing leg"
+abbrev pub legless : Option Leg → Bool
+legless none = true
+legless (some l) = false
+
+-- "no site held"
+abbrev pub siteless : Book → Bool
+siteless b = eqb (length (sitesOf b)) 0
+
+-- "Tests in order"
+abbrev pub tests : Book → Command → List Test
+tests b (Add n p) = test (eqb n 0) NumberZero ∷ test (offGrid p) OffGrid ∷ test (holds n (b .lines)) Held ∷ test (eqb (length (b .lines)) maxSites) Full ∷ []
+tests b (Remove n) = test (eqb n 0) NumberZero ∷ test (not (holds n (b .lines))) NotHeld ∷ []
+tests b (Move n p) = test (eqb n 0) NumberZero ∷ test (offGrid p) OffGrid ∷ test (not (holds n (b .lines))) NotHeld ∷ []
+tests b (ListOf l) = test (legOffGrid l) OffGrid ∷ test (siteless b) NoSite ∷ []
+tests b (Stand l) = test (legOffGrid l) OffGrid ∷ []
+tests b Print = test (legless (b .leg)) NoLeg ∷ test (siteless b) NoSite ∷ []
+
+-- "the first cause met gives 21 and its number"; the reply where none is met
+abbrev pub firstCause : List Test → Reply → Reply
+firstCause [] y = y
+firstCause (t ∷ ts) y = cond (t .met) (refused (t .cause)) (firstCause ts y)
+
+-- what an accepted command is answered: "2B each", "4C gives 3D with the split list of its leg over the lines, 50 with that of the standing leg"
+abbrev pub accepted : Book → Command → Reply
+accepted b (Add n p) = done
+accepted b (Remove n) = done
+accepted b (Move n p) = done
+accepted b (ListOf l) = listed (splitOf l (sitesOf b))
+accepted b (Stand l) = done
+accepted b Print = listed (standingList b)
+
+-- the book's answer
+unfoldable pub answer : Book → Command → Reply
+answer b c = firstCause (tests b c) (accepted b c)
+
+-- "With 21, 66, 67 or 68 the command changes neither lines nor leg."
+abbrev pub after : Book → Command → Reply → Book
+after b c done = change c b
+after b c (refused x) = b
+after b c (listed es) = b

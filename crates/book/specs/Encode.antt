@@ -1,0 +1,33 @@
+-- The bytes of a command: what parsing reads back (proofs/ReadBack.antt). Document 01, the table of commands.
+-- Assumes nothing.
+use mathlib.Core.List.{List, [], _∷_, _++_}
+use Prim.Native.Nat.{ℕ}
+use Rattle.grid.specs.declared.Position.{Position}
+use Rattle.grid.specs.declared.Site.{Site}
+use Rattle.grid.specs.declared.Leg.{Leg}
+use Rattle.grid.specs.Coordinate.{toWord}
+use Rattle.records.specs.Bytes.{bytes2}
+use Rattle.book.specs.declared.Command.{Command}
+use Rattle.book.specs.declared.Command.the-variants.{Add, Remove, Move, List as ListOf, Stand, Print}
+
+-- a position, as two signed 16-bit numbers
+abbrev pub positionBytes : Position → List ℕ
+positionBytes p = bytes2 (toWord (p .east)) ++ bytes2 (toWord (p .north))
+
+-- "S, E"
+abbrev pub legBytes : Leg → List ℕ
+legBytes l = positionBytes (l .s) ++ positionBytes (l .e)
+
+-- a command and its operands
+abbrev pub commandBytes : Command → List ℕ
+commandBytes (Add n p) = 0x41 ∷ bytes2 n ++ positionBytes p
+commandBytes (Remove n) = 0x44 ∷ bytes2 n
+commandBytes (Move n p) = 0x4D ∷ bytes2 n ++ positionBytes p
+commandBytes (ListOf l) = 0x4C ∷ legBytes l
+commandBytes (Stand l) = 0x53 ∷ legBytes l
+commandBytes Print = 0x50 ∷ []
+
+-- an addition for each site
+abbrev pub additions : List Site → List ℕ
+additions [] = []
+additions (p ∷ s) = commandBytes (Add (p .number) (p .position)) ++ additions s

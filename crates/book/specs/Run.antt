@@ -1,0 +1,62 @@
+-- A batch call on the book: the commands in turn. Document 01, "The site book".
+-- Assumes nothing.
+use mathlib.Core.List.{List, [], _∷_, _++_}
+use mathlib.Core.Bool.{cond}
+use Prim.Native.Nat.{ℕ, zero, suc, _+_}
+use lib.ListN.{length}
+use lib.Dec.{eqb, leb}
+use Rattle.limits.specs.Limits.{workBytes}
+use Rattle.book.specs.declared.Command.{Command}
+use Rattle.book.specs.declared.Parsed.{Parsed}
+use Rattle.book.specs.declared.Parsed.the-variants.{End, Unknown, Cut, Whole}
+use Rattle.book.specs.declared.Reason.{Reason}
+use Rattle.book.specs.declared.Reason.the-variants.{AllUsed, WrongLength, UnknownCommand, CutShort, NoRoom}
+use Rattle.book.specs.Command.{parseAt}
+use Rattle.book.specs.Book.{Book}
+use Rattle.book.specs.Reply.{Reply, recordOf}
+use Rattle.book.specs.Answer.{answer, after}
+
+-- a command that got a record
+pub record Turn : Type 0 where
+  pub command : Command
+  pub reply : Reply
+
+-- the bytes of the records, in turn
+unfoldable pub records : List Turn → List ℕ
+records [] = []
+records (t ∷ ts) = recordOf (t .reply) ++ records ts
+
+-- how a call ends: the reason, "the bytes of the commands that got a record", those commands, and the book then
+pub record Outcome : Type 0 where
+  pub reason : Reason
+  pub used : ℕ
+  pub turns : List Turn
+  pub book : Book
+
+-- the call ends here
+abbrev pub ends : Reason → ℕ → List Turn → Book → Outcome
+ends reason used turns book = record { reason = reason; used = used; turns = turns; book = book }
+
+-- one turn, by what stands at byte `at`: "66 and 67 end the call there"; "A record longer than the report room left is not written; 68 ends the call."
+-- `past` are the turns before, and `on` goes on.
+unfoldable pub turn : (ℕ → List Turn → Book → Outcome) → Parsed → ℕ → ℕ → List Turn → Book → Outcome
+turn on End room at past b = ends AllUsed at past b
+turn on Unknown room at past b = ends UnknownCommand at past b
+turn on Cut room at past b = ends CutShort at past b
+turn on (Whole c next) room at past b =
+    cond (leb (length (records past) + length (recordOf (answer b c))) room)
+    (on next (past ++ (record { command = c; reply = answer b c } ∷ [])) (after b c (answer b c)))
+    (ends NoRoom at past b)
+
+-- the commands from byte `at` on, in at most k turns
+unfoldable pub runFrom : ℕ → List ℕ → ℕ → ℕ → List Turn → Book → Outcome
+runFrom zero cs room at past b = ends AllUsed at past b
+runFrom (suc k) cs room at past b = turn (runFrom k cs room) (parseAt cs at) room at past b
+
+-- all commands, with so much report room: each takes at least a byte, so that one turn more than bytes is enough
+abbrev pub run : List ℕ → ℕ → Book → Outcome
+run cs room b = runFrom (suc (length cs)) cs room 0 [] b
+
+-- a batch call: "A work buffer of wrong length gives 64 and no step."
+abbrev pub call : ℕ → List ℕ → ℕ → Book → Outcome
+call work cs room b = cond (eqb work workBytes) (run cs room b) (ends WrongLength 0 [] b)

@@ -1,0 +1,22 @@
+-- What laying out writes: "The laying-out call writes an empty table with no standing leg." Every byte is fixed: zero, but for the stack of
+-- free nodes, on which all nodes of the pool stand.
+-- Assumes nothing.
+use mathlib.Core.List.{List}
+use Prim.Native.Nat.{ℕ, zero, suc, _+_, _*_}
+use lib.ListN.{replicate}
+use Rattle.limits.specs.Limits.{maxNodes, tableBytes}
+use Rattle.words.specs.Words.{putWord}
+use Rattle.node.specs.Layout.{freeStart, stackStart}
+
+-- n bytes 0
+abbrev pub zeros : ℕ → List ℕ
+zeros n = replicate n 0
+
+-- the nodes 0 up to k on the stack of b
+unfoldable pub stacked : ℕ → List ℕ → List ℕ
+stacked zero b = b
+stacked (suc k) b = putWord (stacked k b) (stackStart + 2 * k) k
+
+-- the empty table
+unfoldable pub emptyTable : List ℕ
+emptyTable = putWord (stacked maxNodes (zeros tableBytes)) freeStart maxNodes

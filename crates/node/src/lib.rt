@@ -1,0 +1,41 @@
+// A node of the tree and its entries in the table's bytes, the stack of free nodes, and the tree's header.
+// Follows document 01, "The tree". specs/Layout.antt says where each stands.
+pub mod boxes;
+pub mod free;
+pub mod header;
+pub mod pool;
+
+// The tree's first byte: the number of levels. Below it the table has what the tree never touches.
+pub const TREE_START: usize = 5184;
+
+// The root's node.
+pub const ROOT_START: usize = 5186;
+
+// The number of free nodes, and the stack of their ids.
+pub const FREE_START: usize = 5188;
+
+pub const STACK_START: usize = 5190;
+
+// The nodes: each a count of 16 bits and eight entries.
+pub const POOL_START: usize = 6896;
+
+pub const NODE_BYTES: usize = 98;
+
+pub const ENTRY_BYTES: usize = 12;
+
+// An entry of a node: at a leaf the number of a site, above the leaves the child node's id, and the smallest box of what lies under it.
+// Coordinates are counted from the grid's south-west corner. The spare number is 0.
+pub struct Entry {
+    pub reference: u16,
+    pub west: u16,
+    pub south: u16,
+    pub east: u16,
+    pub north: u16,
+    pub spare: u16,
+}
+
+// The tree: nothing, or the height at which the root's entries stand, 0 where they are leaf entries, and the root's node.
+pub enum Root {
+    Empty,
+    Top(usize, usize),
+}

@@ -1,0 +1,1 @@
+// The bytes of report records: definitions alone, in specs/, and their laws, in proofs/.

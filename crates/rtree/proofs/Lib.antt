@@ -1,0 +1,9 @@
+pub mod Every
+pub mod Totals
+pub mod Kept
+pub mod Inside
+pub mod Levels
+pub mod Roots
+pub mod Outside
+pub mod Descent
+pub mod Perms

@@ -1,0 +1,4 @@
+pub mod Tree
+pub mod Rooted
+pub mod Change
+pub mod Perm
