@@ -1,0 +1,21 @@
+-- The starred lines of document 01, one statement over the table, computed by the checker.
+-- Assumes nothing.
+use mathlib.Core.Path.{_≡_, refl}
+use native.Mathlib.Decide.{decLe, decLt}
+use Rattle.words.specs.Words.{wordAt}
+use Rattle.grid.specs.Position.{squaredDifference, distance}
+use Rattle.grid.specs.Coordinate.{fromWord, toWord}
+use Rattle.grid.specs.Fraction.{gcdBy, gcdOf, lowest}
+use Rattle.split.specs.SplitList.{rank}
+use Rattle.split.specs.SplitOf.{hides?, step?, under?, push, insert, build, splitOf}
+use Rattle.records.specs.ListRecord.{entryBytes, listBytes, recordBytes}
+use Rattle.book.specs.Book.{writeLine, strikeLine, moveLine, holds, change}
+use Rattle.book.specs.Command.{parseAt}
+use Rattle.book.specs.Answer.{answer}
+use Rattle.book.specs.Run.{records, turn, runFrom}
+use Rattle.demands.specs.Starred.{starredLines, written, given}
+
+-- THE STARRED LINES
+pub starred : given starredLines ≡ written starredLines
+unfolding records turn runFrom parseAt wordAt fromWord toWord answer holds change writeLine strikeLine moveLine splitOf build insert push hides? under? step? decLe decLt distance squaredDifference rank lowest gcdOf gcdBy entryBytes listBytes recordBytes
+starred = refl

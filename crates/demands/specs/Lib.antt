@@ -1,0 +1,5 @@
+pub mod Step
+pub mod Batch
+pub mod Whole
+pub mod Demands
+pub mod Starred

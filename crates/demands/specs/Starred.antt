@@ -1,0 +1,75 @@
+-- The starred lines of document 01, "Legs to try": command bytes and record bytes, the refusals 6 and 7 and the removals included.
+-- Assumes nothing.
+use mathlib.Core.List.{List, [], _∷_, _++_}
+use Prim.Native.Nat.{ℕ, _+_, _-_}
+use Rattle.limits.specs.Limits.{halfWidth}
+use Rattle.grid.specs.declared.Position.{Position}
+use Rattle.grid.specs.declared.Leg.{Leg}
+use Rattle.records.specs.Bytes.{bytes2, bytes4}
+use Rattle.book.specs.declared.Command.{Command}
+use Rattle.book.specs.declared.Command.the-variants.{Add, Remove, List as ListOf, Print}
+use Rattle.book.specs.Book.{emptyBook}
+use Rattle.book.specs.Encode.{commandBytes}
+use Rattle.book.specs.Run.{records, run}
+use Rattle.split.specs.Legs.{at, atSouth, atWest, southWest, northEast, leg, ten}
+
+-- commands, and the records that they get
+pub record Line : Type 0 where
+  pub commands : List Command
+  pub answers : List ℕ
+
+-- a line of the table
+abbrev pub line : List Command → List ℕ → Line
+line cs rs = record { commands = cs; answers = rs }
+
+-- the bytes of the commands
+abbrev pub bytesOf : List Command → List ℕ
+bytesOf [] = []
+bytesOf (c ∷ cs) = commandBytes c ++ bytesOf cs
+
+-- an entry of a record: site k from n/d
+abbrev pub since : ℕ → ℕ → ℕ → List ℕ
+since k n d = bytes2 k ++ bytes4 n ++ bytes4 d
+
+-- a list record of one entry, and of two
+abbrev pub one : List ℕ → List ℕ
+one e = 0x3D ∷ bytes2 1 ++ e
+
+abbrev pub two : List ℕ → List ℕ → List ℕ
+two e f = 0x3D ∷ bytes2 2 ++ e ++ f
+
+-- two additions and the list of a leg
+abbrev pub pair : ℕ → Position → ℕ → Position → Leg → List Command
+pair k p j q l = Add k p ∷ Add j q ∷ ListOf l ∷ []
+
+-- "Site 1 (2,3), 2 (7,1): 1 from 0/1, 2 from 37/100. Add 3 (9,-4): no change. Remove 2 and 3: 1 from 0/1."
+-- "2 (3,4), 5 (3,-4): 2 from 0/1."
+-- "1 (0,0), 2 (10,0), 3 (5,5): 1 from 0/1, 2 from 1/2; 3 touches once."
+-- "1 (-2,0), 2 (2,0): 2 from 0/1."
+-- "1 (8,0), 2 (12,0): 1 from 0/1; they tie at 1."
+-- "Leg (4,4) to (4,4), 7 (4,5), 3 (5,4): 3 from 0/1."
+-- "Leg (-8000,-8000) to (8000,8000), site 1 at its start and 2 at its end: 1 from 0/1, 2 from 1/2."
+-- "No site: 6. Print without standing leg and site: 7."
+abbrev pub starredLines : List Line
+starredLines =
+    line
+    (pair 1 (at 2 3) 2 (at 7 1) ten ++ (Add 3 (atSouth 9 4) ∷ ListOf ten ∷ Remove 2 ∷ Remove 3 ∷ ListOf ten ∷ []))
+    (0x2B ∷ 0x2B ∷ two (since 1 0 1) (since 2 37 100) ++ (0x2B ∷ two (since 1 0 1) (since 2 37 100)) ++ (0x2B ∷ 0x2B ∷ one (since 1 0 1)))
+    ∷ line (pair 2 (at 3 4) 5 (atSouth 3 4) ten) (0x2B ∷ 0x2B ∷ one (since 2 0 1))
+    ∷ line (Add 1 (at 0 0) ∷ pair 2 (at 10 0) 3 (at 5 5) ten) (0x2B ∷ 0x2B ∷ 0x2B ∷ two (since 1 0 1) (since 2 1 2))
+    ∷ line (pair 1 (atWest 2 0) 2 (at 2 0) ten) (0x2B ∷ 0x2B ∷ one (since 2 0 1))
+    ∷ line (pair 1 (at 8 0) 2 (at 12 0) ten) (0x2B ∷ 0x2B ∷ one (since 1 0 1))
+    ∷ line (pair 7 (at 4 5) 3 (at 5 4) (leg (at 4 4) (at 4 4))) (0x2B ∷ 0x2B ∷ one (since 3 0 1))
+    ∷ line (pair 1 southWest 2 northEast (leg southWest northEast)) (0x2B ∷ 0x2B ∷ two (since 1 0 1) (since 2 1 2))
+    ∷ line (ListOf ten ∷ Print ∷ []) (0x21 ∷ 6 ∷ 0x21 ∷ 7 ∷ [])
+    ∷ []
+
+-- the records as document 01 has them
+abbrev pub written : List Line → List (List ℕ)
+written [] = []
+written (x ∷ xs) = x .answers ∷ written xs
+
+-- the records that the book gives to the bytes of the commands, from laying out on
+abbrev pub given : List Line → List (List ℕ)
+given [] = []
+given (x ∷ xs) = records (run (bytesOf (x .commands)) 1000 emptyBook .turns) ∷ given xs

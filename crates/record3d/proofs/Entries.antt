@@ -1,0 +1,71 @@
+-- The entries of a row one by one, and their bytes.
+-- Assumes nothing.
+use mathlib.Core.Path.{_≡_, refl, ap, sym, _∙_}
+use mathlib.Core.List.{List, [], _∷_, _++_, append-assoc}
+use Prim.Native.Nat.{ℕ, zero, suc, _+_, _<_}
+use native.Mathlib.Omega.{arith}
+use lib.ListN.{length, length-append}
+use Rattle.words.specs.Words.{putWord}
+use Rattle.grid.specs.declared.Fraction.{Fraction}
+use Rattle.grid.specs.declared.Leg.{Leg}
+use Rattle.grid.specs.Fraction.{zeroFraction}
+use Rattle.split.specs.SplitList.{Entry}
+use Rattle.split.specs.Hull.{Point}
+use Rattle.split.specs.SplitOf.{changeover, after, entries, onto}
+use Rattle.row.specs.Vertices.{vertexIn, stack, entriesIn}
+use Rattle.records.specs.Bytes.{bytes2, bytes4, write}
+use Rattle.records.specs.ListRecord.{entryBytes, listBytes, recordBytes}
+use Rattle.record3d.specs.RowEntries.{entryAt}
+use Rattle.records.proofs.Writing.{write-append}
+use Rattle.record3d.proofs.Writing.{put-word-is}
+
+-- The return of `put_entry`.
+pub entry-is : (b b₁ b₂ b₃ : List ℕ) (i n : ℕ) (s : Fraction) (e : Entry) → n < 65536 → b₁ ≡ putWord b i n → b₂ ≡ write b₁ (i + 2) (bytes4 (s .num))
+    → b₃ ≡ write b₂ (i + 6) (bytes4 (s .den)) → n ≡ e .site .number → s ≡ e .start → b₃ ≡ write b i (entryBytes e)
+unfolding entryBytes
+entry-is b b₁ b₂ b₃ i n s e small e₁ e₂ e₃ en es =
+    let h : i + 6 ≡ i + 2 + 4 = omega arith in
+    e₃ ∙ ap (λ (y : List ℕ). write y (i + 6) (bytes4 (s .den))) (e₂ ∙ ap (λ (y : List ℕ). write y (i + 2) (bytes4 (s .num))) (put-word-is b b₁ i n small e₁))
+    ∙ (λ j. write (write (write b i (bytes2 (en j))) (i + 2) (bytes4 (es j .num))) (h j) (bytes4 (es j .den)))
+    ∙ sym (write-append (write b i (bytes2 (e .site .number))) (i + 2) (bytes4 (e .start .num)) (bytes4 (e .start .den)))
+    ∙ sym (write-append b i (bytes2 (e .site .number)) (bytes4 (e .start .num) ++ bytes4 (e .start .den)))
+
+-- The entries of a row, one more.
+onto-acc : (h acc : List Point) → onto h acc ≡ onto h [] ++ acc
+onto-acc [] acc = refl
+onto-acc (w ∷ h) acc = onto-acc h (w ∷ acc) ∙ sym (ap (λ (y : List Point). y ++ acc) (onto-acc h (w ∷ [])) ∙ append-assoc (onto h []) (w ∷ []) acc)
+
+abbrev entryOf : Point → Point → Entry
+entryOf u v = record { site = v .site; start = changeover u v }
+
+after-snoc : (w : Point) (r : List Point) (u v : Point) → after w (r ++ u ∷ v ∷ []) ≡ after w (r ++ u ∷ []) ++ entryOf u v ∷ []
+after-snoc w [] u v = refl
+after-snoc w (x ∷ r) u v = ap (λ (y : List Entry). record { site = x .site; start = changeover w x } ∷ y) (after-snoc x r u v)
+
+entries-snoc : (r : List Point) (u v : Point) → entries (r ++ u ∷ v ∷ []) ≡ entries (r ++ u ∷ []) ++ entryOf u v ∷ []
+entries-snoc [] u v = refl
+entries-snoc (w ∷ r) u v = ap (λ (y : List Entry). record { site = w .site; start = zeroFraction } ∷ y) (after-snoc w r u v)
+
+module _ (l : Leg) (t r : List ℕ) where
+  pub entries-one : (i : ℕ) → entriesIn l t r (suc i) ≡ entriesIn l t r i ++ entryAt l t r i ∷ []
+  entries-one zero = refl
+  entries-one (suc i) =
+      ap entries (onto-acc (stack l t r i) (vertexIn l t r i ∷ vertexIn l t r (suc i) ∷ []))
+      ∙ entries-snoc (onto (stack l t r i) []) (vertexIn l t r i) (vertexIn l t r (suc i))
+      ∙ sym (ap (λ (y : List Point). entries y ++ entryAt l t r (suc i) ∷ []) (onto-acc (stack l t r i) (vertexIn l t r i ∷ [])))
+
+  -- AS MANY ENTRIES AS VERTICES
+  pub entries-length : (i : ℕ) → length (entriesIn l t r i) ≡ i
+  entries-length zero = refl
+  entries-length (suc i) =
+      ap length (entries-one i) ∙ length-append (entriesIn l t r i) (entryAt l t r i ∷ []) ∙ (omega (arith, entries-length i))
+
+-- The return of `put_list`.
+pub record-is : (l : Leg) (t r : List ℕ) (k : ℕ) (b b₁ b₂ : List ℕ) (p n : ℕ) → n ≡ k → n < 65536 → b₁ ≡ putWord (write b p (61 ∷ [])) (p + 1) n
+    → b₂ ≡ write b₁ (p + 3) (listBytes (entriesIn l t r k)) → b₂ ≡ write b p (recordBytes (entriesIn l t r k))
+unfolding recordBytes
+record-is l t r k b b₁ b₂ p n en small e₁ e₂ =
+    let h : p + 3 ≡ p + 1 + 2 = omega arith in
+    e₂ ∙ ap (λ (y : List ℕ). write y (p + 3) (listBytes (entriesIn l t r k))) (put-word-is (write b p (61 ∷ [])) b₁ (p + 1) n small e₁)
+    ∙ (λ j. write (write (write b p (61 ∷ [])) (p + 1) (bytes2 ((en ∙ sym (entries-length l t r k)) j))) (h j) (listBytes (entriesIn l t r k)))
+    ∙ sym (write-append (write b p (61 ∷ [])) (p + 1) (bytes2 (length (entriesIn l t r k))) (listBytes (entriesIn l t r k)))

@@ -1,0 +1,4 @@
+pub mod Writing
+pub mod Starts
+pub mod Entries
+pub mod PutEntries

@@ -1,0 +1,41 @@
+-- Where a row is cut: the loop of `cut`.
+-- Assumes nothing.
+use mathlib.Core.Path.{_≡_, subst}
+use mathlib.Core.List.{List}
+use Prim.Native.Nat.{ℕ, _+_, _-_, _≤_, _<_}
+use native.Mathlib.Omega.{arith}
+use Rattle.grid.specs.declared.Leg.{Leg}
+use Rattle.row.specs.declared.Vertex.{Vertex}
+use Rattle.row.specs.Vertices.{IsVertex, placeAt, vertexIn, Held, Cut}
+use Rattle.row.proofs.Reading.{a-of}
+use Rattle.row.proofs.Stacks.{rising}
+
+-- lo and hi are still on their sides of the cut
+pub record Narrowed (l : Leg) (t r : List ℕ) (k a lo hi : ℕ) : Type 0 where
+  pub order : lo ≤ hi
+  pub within : hi ≤ k
+  pub left : 0 < lo → vertexIn l t r (lo - 1) .a ≤ a
+  pub right : hi < k → a < vertexIn l t r hi .a
+
+pub cut-begun : (l : Leg) (t r : List ℕ) (k a : ℕ) → Narrowed l t r k a 0 k
+cut-begun l t r k a = record { order = omega arith; within = omega arith; left = λ h. absurd (omega arith); right = λ h. absurd (omega arith) }
+
+module _ {l : Leg} {t r : List ℕ} {k a lo hi : ℕ} (n : Narrowed l t r k a lo hi) where
+  pub cut-up : {mid : ℕ} {u : Vertex} → IsVertex l t (placeAt r mid) u → mid < hi → u .a ≤ a → Narrowed l t r k a (mid + 1) hi
+  cut-up {mid} hu h g =
+      let e : (mid + 1) - 1 ≡ mid = omega arith in
+      record { order = omega arith; within = n .within; left = λ p. rw e (omega (arith, a-of hu)); right = n .right }
+
+  pub cut-down : {mid : ℕ} {u : Vertex} → IsVertex l t (placeAt r mid) u → lo ≤ mid → mid < hi → a < u .a → Narrowed l t r k a lo mid
+  cut-down hu h g f =
+      record { order = omega arith; within = omega (arith, n .within); left = n .left; right = λ p. omega (arith, a-of hu) }
+
+  pub cut-found : hi ≤ lo → Held l t r k → Cut l t r k a lo
+  cut-found h hd =
+      let e : hi ≡ lo = omega (arith, n .order) in
+      let f : lo < k → a < vertexIn l t r lo .a = subst (λ (i : ℕ). i < k → a < vertexIn l t r i .a) e (n .right) in
+      record {
+        within = omega (arith, n .order, n .within);
+        left = n .left;
+        right = λ i p q. omega (arith, f (omega arith), rising l t r k lo i p q (hd .convex));
+      }

@@ -1,0 +1,5 @@
+pub mod Products
+pub mod Reading
+pub mod Stacks
+pub mod Bisection
+pub mod Listing

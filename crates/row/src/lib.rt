@@ -1,0 +1,92 @@
+// Split lists in rows of places. A place is half the byte offset of a site record; a row is 16-bit places, one after the other,
+// the vertex that is nearest to S first.
+use grid::Leg;
+use grid::Position;
+use grid::Site;
+ghost use mathlib.Core.Path.{_≡_};
+ghost use Prim.Native.Nat.{_+_, _*_, _^_, _<_, _≤_};
+ghost use lib.ListN.{length};
+ghost use Rattle.grid.specs.Position.{LegOnGrid};
+ghost use Rattle.row.specs.Places.{siteAt, HasSite};
+ghost use Rattle.row.specs.Vertices.{IsVertex, placeAt, Held, Cut};
+
+// The bytes of a row that holds every site.
+pub const ROW_BYTES: usize = 2 * limits::MAX_SITES;
+
+// A site in hand: its place, its squared distances from S and from E, its number.
+pub struct Vertex {
+    pub place: usize,
+    pub a: u32,
+    pub c: u32,
+    pub number: u16,
+}
+
+// The product of two differences of squared distances, in 64 bits.
+pub fn product(x: u32, y: u32) -> u64
+    requires { ⌜ x * y < 2 ^ 64 ⌝ }
+    ensures { λ r. ⌜ r ≡ x * y ⌝ }
+{
+    x as u64 * y as u64
+}
+
+// The site at a place, wherever it lies.
+pub fn site_at(t: &[u8], p: usize) -> Site
+    requires { ⌜ (p < 65536) × (2 * p + 6 ≤ length (now t)) ⌝ }
+    ensures { λ r. ⌜ r ≡ siteAt (now (t .entry)) p ⌝ }
+{
+    let base = 2 * p;
+    let number = words::word(t, base);
+    let east = words::word(t, base + 2);
+    let north = words::word(t, base + 4);
+    Site {
+        number: number,
+        position: Position {
+            east: east,
+            north: north,
+        },
+    }
+}
+
+// The site at a place, measured from the leg's ends.
+pub fn vertex_at(t: &[u8], leg: Leg, p: usize) -> Vertex
+    requires { ⌜ HasSite (now t) p × LegOnGrid leg ⌝ }
+    ensures { λ r. ⌜ IsVertex leg (now (t .entry)) p r ⌝ }
+{
+    let site = site_at(t, p);
+    let a = grid::distance::between(site.position, leg.s) as u32;
+    let c = grid::distance::between(site.position, leg.e) as u32;
+    Vertex {
+        place: p,
+        a: a,
+        c: c,
+        number: site.number,
+    }
+}
+
+// The vertex that stands in a row at i.
+pub fn vertex_in(t: &[u8], row: &[u8], leg: Leg, k: usize, i: usize) -> Vertex
+    requires { ⌜ Held leg (now t) (now row) k × LegOnGrid leg × (i < k) ⌝ }
+    ensures { λ r. ⌜ IsVertex leg (now (t .entry)) (placeAt (now (row .entry)) i) r ⌝ }
+{
+    let p = words::word(row, 2 * i) as usize;
+    vertex_at(t, leg, p)
+}
+
+// How many of the first k are not right of a, by bisection.
+pub fn cut(t: &[u8], row: &[u8], leg: Leg, k: usize, a: u32) -> usize
+    requires { ⌜ Held leg (now t) (now row) k × LegOnGrid leg ⌝ }
+    ensures { λ r. ⌜ Cut leg (now (t .entry)) (now (row .entry)) k a r ⌝ }
+{
+    let mut lo = 0;
+    let mut hi = k;
+    while lo < hi {
+        let mid = lo + (hi - lo) / 2;
+        let u = vertex_in(t, row, leg, k, mid);
+        if u.a <= a {
+            lo = mid + 1;
+            continue;
+        }
+        hi = mid;
+    }
+    lo
+}

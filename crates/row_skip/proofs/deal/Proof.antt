@@ -1,0 +1,46 @@
+use borrow.Author.Needs.{needs}
+use native.Mathlib.Omega.{arith}
+use Rattle.row.proofs.Reading.{itself, itself-has}
+use Rattle.row_skip.proofs.Dealing.{deal-full, deal-skipped, deal-inserted}
+use Rattle.row_skip.proofs.deal.Statement.{statement}
+use Rattle.row_skip.proofs.deal.Tie as tie
+
+returns : tie.Need-returns
+returns c = search (needs, deal-full)
+
+vertex-at-requires : tie.Need-vertex-at-requires
+vertex-at-requires c κs = search needs
+
+covers-requires : tie.Need-covers-requires
+covers-requires c κs = search needs
+
+same-length : tie.Need-same-length
+same-length c = search needs
+
+returns-2 : tie.Need-returns-2
+returns-2 c = search (needs, deal-skipped)
+
+insert-requires : tie.Need-insert-requires
+insert-requires c κs =
+    let s = c .before .before .before .before .before .before .before .before in
+    let v = c .before .before .before .before .vertex-at .ensures in
+    ((s .pre .0 .0, s .pre .0 .1, record { few = omega arith; rows = s .pre .1 .1 }), (itself v, itself-has v (s .pre .0 .2)))
+
+same-length-2 : tie.Need-same-length-2
+same-length-2 c = search needs
+
+returns-3 : tie.Need-returns-3
+returns-3 c = search (needs, deal-inserted)
+
+pub deal-spec : {M : Type 1} → statement M
+deal-spec =
+    tie.close
+    (tie.spec
+    returns
+    vertex-at-requires
+    covers-requires
+    same-length
+    returns-2
+    insert-requires
+    same-length-2
+    returns-3)

@@ -1,0 +1,149 @@
+// Skipping what cannot enter the list in a row, and dealing with a site: skipping it or inserting it.
+// One witness is enough for a skip: the last vertex, the first one, or the one edge found by bisection. Ties are no skip (document 01,
+// "Where a list goes astray"; heuristic 2 of document 002 skips them).
+use grid::Area;
+use grid::Leg;
+use row::Vertex;
+ghost use mathlib.Core.Path.{_≡_};
+ghost use Prim.Native.Nat.{_+_, _*_, _^_, _<_, _≤_};
+ghost use lib.ListN.{length};
+ghost use Rattle.grid.specs.Area.{AreaOnGrid};
+ghost use Rattle.grid.specs.Position.{LegOnGrid};
+ghost use Rattle.grid.specs.Says.{If};
+ghost use Rattle.split.specs.Skip.{Shut, Witness};
+ghost use Rattle.row.specs.Places.{HasSite};
+ghost use Rattle.row.specs.Vertices.{bare, Small, rowBytes, stack, Held};
+ghost use Rattle.row_skip.specs.Skipping.{SmallCorner, IsCorner, Space, Dealt};
+
+// The least squared distances from S and from E of what lies in a box.
+pub struct Corner {
+    pub a: u32,
+    pub c: u32,
+}
+
+// The corner of a box.
+pub fn corner_of(leg: Leg, b: Area) -> Corner
+    requires { ⌜ LegOnGrid leg × AreaOnGrid b ⌝ }
+    ensures { λ r. ⌜ IsCorner leg b r ⌝ }
+{
+    let a = grid::distance::from_area(b, leg.s) as u32;
+    let c = grid::distance::from_area(b, leg.e) as u32;
+    Corner { a: a, c: c }
+}
+
+// Whether v is as low as the corner in both, and lower in one.
+fn lower(v: Vertex, corner: Corner) -> bool
+    requires { ⌜ Small v × SmallCorner corner ⌝ }
+    ensures { λ r. ⌜ If r (Shut (bare v) (bare v) (corner .a) (corner .c)) ⌝ }
+{
+    if corner.a < v.a {
+        return false;
+    }
+    if corner.c < v.c {
+        return false;
+    }
+    let sum = v.a + v.c;
+    if sum < corner.a + corner.c {
+        return true;
+    }
+    false
+}
+
+// What is compared at the weights m and n.
+fn weigh(m: u32, n: u32, a: u32, c: u32) -> u64
+    requires { ⌜ (m < 2 ^ 31) × (n < 2 ^ 31) × (a < 2 ^ 31) × (c < 2 ^ 31) ⌝ }
+    ensures { λ r. ⌜ r ≡ m * a + n * c ⌝ }
+{
+    row::product(m, a) + row::product(n, c)
+}
+
+// Whether the corner is strictly above the edge of u and v.
+fn above(u: Vertex, v: Vertex, corner: Corner) -> bool
+    requires { ⌜ Small u × Small v × SmallCorner corner ⌝ }
+    ensures { λ r. ⌜ If r (Shut (bare u) (bare v) (corner .a) (corner .c)) ⌝ }
+{
+    if v.a <= u.a {
+        return false;
+    }
+    if u.c <= v.c {
+        return false;
+    }
+    if corner.a < u.a {
+        return false;
+    }
+    if corner.c < v.c {
+        return false;
+    }
+    let fall = u.c - v.c;
+    let rise = v.a - u.a;
+    let edge = weigh(fall, rise, v.a, v.c);
+    let here = weigh(fall, rise, corner.a, corner.c);
+    if edge < here {
+        return true;
+    }
+    false
+}
+
+// Whether the last vertex or the first one shuts the corner out.
+fn covered_by_end(t: &[u8], row: &[u8], leg: Leg, k: usize, corner: Corner) -> bool
+    requires { ⌜ Held leg (now t) (now row) k × LegOnGrid leg × (0 < k) × SmallCorner corner ⌝ }
+    ensures { λ r. ⌜ If r (Witness (stack leg (now (t .entry)) (now (row .entry)) k) (corner .a) (corner .c)) ⌝ }
+{
+    let last = row::vertex_in(t, row, leg, k, k - 1);
+    if lower(last, corner) {
+        return true;
+    }
+    let first = row::vertex_in(t, row, leg, k, 0);
+    if lower(first, corner) {
+        return true;
+    }
+    false
+}
+
+// Whether the edge from n - 1 to n shuts the corner out.
+fn covered_by_edge(t: &[u8], row: &[u8], leg: Leg, k: usize, n: usize, corner: Corner) -> bool
+    requires { ⌜ Held leg (now t) (now row) k × LegOnGrid leg × SmallCorner corner ⌝ }
+    ensures { λ r. ⌜ If r (Witness (stack leg (now (t .entry)) (now (row .entry)) k) (corner .a) (corner .c)) ⌝ }
+{
+    if n == 0 {
+        return false;
+    }
+    if k <= n {
+        return false;
+    }
+    let u = row::vertex_in(t, row, leg, k, n - 1);
+    let v = row::vertex_in(t, row, leg, k, n);
+    above(u, v, corner)
+}
+
+// Whether the list shuts out all that is at or beyond the corner. Any edge that passes is a proof, so which one is tried needs none.
+pub fn covers(t: &[u8], row: &[u8], leg: Leg, k: usize, corner: Corner) -> bool
+    requires { ⌜ Held leg (now t) (now row) k × LegOnGrid leg × SmallCorner corner ⌝ }
+    ensures { λ r. ⌜ If r (Witness (stack leg (now (t .entry)) (now (row .entry)) k) (corner .a) (corner .c)) ⌝ }
+{
+    if k == 0 {
+        return false;
+    }
+    if covered_by_end(t, row, leg, k, corner) {
+        return true;
+    }
+    let n = row::cut(t, row, leg, k, corner.a);
+    covered_by_edge(t, row, leg, k, n, corner)
+}
+
+// Deals with the site at p: the row that begins the work buffer becomes the list of one site more.
+pub fn deal(t: &[u8], leg: Leg, p: usize, work: &mut [u8], k: usize) -> usize
+    requires { ⌜ Held leg (now t) (now work) k × LegOnGrid leg × HasSite (now t) p ⌝ }
+    requires { ⌜ Space leg (now t) (now work) k p × (2 * rowBytes ≤ length (now work)) ⌝ }
+    ensures { λ r. ⌜ Dealt leg (now (t .entry)) (now (work .entry)) k p (now (work .exit)) r ⌝ }
+{
+    if k == limits::MAX_SITES {
+        return k;
+    }
+    let x = row::vertex_at(t, leg, p);
+    let corner = Corner { a: x.a, c: x.c };
+    if covers(t, work, leg, k, corner) {
+        return k;
+    }
+    row_insert::insert(t, work, leg, k, x)
+}

@@ -1,0 +1,4 @@
+pub mod Layout
+pub mod Lines
+pub mod Changes
+pub mod Rules

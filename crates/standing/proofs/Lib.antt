@@ -1,0 +1,4 @@
+pub mod Legs
+pub mod Zeros
+pub mod Numbers
+pub mod Stored

@@ -1,0 +1,50 @@
+-- A line's record as a place.
+-- Assumes nothing.
+use mathlib.Core.Path.{_≡_, refl, sym, ap, subst, _∙_}
+use mathlib.Core.Bool.{Bool, true, false}
+use mathlib.Core.List.{List, List·Memᴰ}
+use Prim.Native.Nat.{ℕ, _+_, _*_, _/_, _≤_, _<_}
+use native.Mathlib.Omega.{arith}
+use lib.ListN.{length, getD}
+use Rattle.limits.specs.Limits.{maxSites, tableBytes}
+use Rattle.grid.specs.declared.Site.{Site}
+use Rattle.grid.specs.Position.{OnGrid}
+use Rattle.row.specs.Places.{siteAtByte, siteAt, HasSite}
+use Rattle.book.specs.Book.{holds}
+use Rattle.sites.specs.Layout.{recordStart}
+use Rattle.sites.specs.Lines.{countIn, lineAt, linesIn, Array, noSite, numberOf, StandsAt, StandsNowhere}
+use Rattle.sites.specs.Rules.{SitesOk}
+use Rattle.sites.specs.declared.Found.{Found}
+use Rattle.sites.specs.Lines.{FoundAs}
+use Rattle.sites.proofs.Reading.{lines-length, line-at}
+use Rattle.sites.proofs.Finding.{at-member, absent-held}
+use Rattle.stored_list.specs.Loading.{PlaceOf}
+
+pub array-of : (b : List ℕ) → length b ≡ tableBytes → SitesOk b → Array b
+array-of b len s = record { len = len; few = s .few; rising = s .rising; spare = s .spare }
+
+clash : true ≡ false → ⊥
+clash x = let z : _≡_ {A = ℕ} 0 1 = cc in omega arith
+
+module _ (b : List ℕ) (n : ℕ) (len : length b ≡ tableBytes) (s : SitesOk b) where
+  pub start-few : (r : Found) (k : ℕ) → r ≡ Found.At k → FoundAs r n (linesIn b) → k ≤ maxSites
+  start-few r k e f =
+      let g : StandsAt k n (linesIn b) = subst (λ (x : Found). FoundAs x n (linesIn b)) e f in
+      omega (arith, g .line, lines-length b, s .few)
+
+  pub place-is : (r : Found) (k p : ℕ) → r ≡ Found.At k → FoundAs r n (linesIn b) → 2 * p ≡ recordStart k → PlaceOf b n p
+  place-is r k p e f q =
+      let g : StandsAt k n (linesIn b) = subst (λ (x : Found). FoundAs x n (linesIn b)) e f in
+      let lt : k < countIn b = omega (arith, g .line, lines-length b) in
+      let at : siteAt b p ≡ getD (linesIn b) k noSite = ap (siteAtByte b) q ∙ sym (line-at b k noSite lt) in
+      let m : List·Memᴰ (siteAt b p) (linesIn b) = subst (λ (x : Site). List·Memᴰ x (linesIn b)) (sym at) (at-member g) in
+      record {
+        number = ap (λ (x : Site). x .number) at ∙ g .number;
+        line = m;
+        site = record { small = omega (arith, s .few); inside = omega (arith, s .few); on-grid = s .onGrid (siteAt b p) m };
+      }
+
+  pub never-absent : (r : Found) (k : ℕ) → r ≡ Found.Absent k → FoundAs r n (linesIn b) → holds n (linesIn b) ≡ true → PlaceOf b n 0
+  never-absent r k e f h =
+      let g : StandsNowhere k n (linesIn b) = subst (λ (x : Found). FoundAs x n (linesIn b)) e f in
+      absurd (clash (sym h ∙ absent-held g))

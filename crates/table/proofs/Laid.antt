@@ -1,0 +1,85 @@
+-- The table just laid out is sound, and holds the empty book.
+-- Assumes nothing.
+use mathlib.Core.Path.{_≡_, refl, sym, ap, subst, _∙_}
+use mathlib.Core.List.{List, [], List·Memᴰ, List·Memᴰ·not-nil}
+use mathlib.Core.Option.{Option, none}
+use Prim.Native.Nat.{ℕ, _+_, _<_}
+use native.Mathlib.Omega.{arith}
+use lib.ListN.{length, getD}
+use lib.Dec.{eqb}
+use borrow.Author.Tests.{eq-eqb}
+use Rattle.words.specs.Words.{wordAt}
+use Rattle.grid.specs.declared.Site.{Site}
+use Rattle.grid.specs.declared.Leg.{Leg}
+use Rattle.split.specs.SplitList.{Entry}
+use Rattle.book.specs.Book.{Book, emptyBook, listOf}
+use Rattle.book.specs.Proper.{LegOk, Rising}
+use Rattle.sites.specs.Lines.{countIn, linesFrom, linesIn, SpareZero}
+use Rattle.sites.specs.Rules.{SitesOk}
+use Rattle.standing.specs.Layout.{flagStart, lengthStart, listStart}
+use Rattle.standing.specs.Standing.{legIn, wordsFrom, standingIn, numbersOf, ZeroFrom, HeaderOk}
+use Rattle.node.specs.Tally.{total}
+use Rattle.empty_table.specs.EmptyTable.{emptyTable}
+use Rattle.empty_table.proofs.EmptyTree.{empty-length, empty-low, empty-word, empty-rooted, empty-leaves}
+use Rattle.tree_check.specs.Sites.{leafList}
+use Rattle.node.specs.Node.{firsts}
+use Rattle.table.specs.Table.{bookOf, Whole, StandingOk, Sound}
+
+no-count : countIn emptyTable ≡ 0
+no-count = empty-word 0 (omega arith)
+
+no-lines : linesIn emptyTable ≡ []
+unfolding linesIn linesFrom
+no-lines = ap (linesFrom emptyTable 0) no-count
+
+no-leg : legIn emptyTable ≡ none
+unfolding legIn
+no-leg = rw (eq-eqb (wordAt emptyTable flagStart) 0 (empty-word flagStart (omega arith))) refl
+
+-- THE EMPTY BOOK
+pub laid-book : bookOf emptyTable ≡ emptyBook
+laid-book = λ i. record { lines = no-lines i; leg = no-leg i }
+
+laid-sites : SitesOk emptyTable
+unfolding SpareZero
+laid-sites =
+    record {
+      few = omega (arith, no-count);
+      numbers = λ p m. absurd (List·Memᴰ·not-nil (subst (λ (s : List Site). List·Memᴰ p s) no-lines m));
+      rising = subst (λ (s : List Site). Rising s) (sym no-lines) tt;
+      onGrid = λ p m. absurd (List·Memᴰ·not-nil (subst (λ (s : List Site). List·Memᴰ p s) no-lines m));
+      spare = λ k h. absurd (omega (arith, no-count));
+    }
+
+laid-header : HeaderOk emptyTable
+unfolding ZeroFrom
+laid-header =
+    record {
+      flag = omega (arith, empty-word flagStart (omega arith));
+      unset = λ z i l u. empty-low i (omega arith);
+      kept = λ i l u. empty-low i (omega arith);
+    }
+
+no-list : standingIn emptyTable ≡ []
+unfolding standingIn wordsFrom
+no-list = ap (wordsFrom emptyTable listStart) (empty-word lengthStart (omega arith))
+
+-- THE TABLE JUST LAID OUT IS SOUND
+pub laid-sound : Sound emptyTable
+unfolding leafList firsts numbersOf total
+laid-sound =
+    record {
+      whole = record {
+        len = empty-length;
+        sites = laid-sites;
+        header = laid-header;
+        tree = record {
+          rooted = empty-rooted;
+          leaf = λ w. ap (total w) empty-leaves ∙ sym (ap (λ (n : ℕ). total w (leafList emptyTable n)) no-count);
+        };
+      };
+      standing = record {
+        leg = subst (λ (o : Option Leg). LegOk o) (sym no-leg) tt;
+        list = no-list ∙ sym (ap numbersOf (λ i. listOf (no-leg i) (no-lines i)));
+      };
+    }

@@ -1,0 +1,5 @@
+pub mod Totals
+pub mod Same
+pub mod Leaves
+pub mod Books
+pub mod Laid

@@ -1,0 +1,4 @@
+pub mod Points
+pub mod Restanding
+pub mod Relining
+pub mod Accepting

@@ -1,0 +1,28 @@
+-- What a change of the sites leaves before the standing list is made anew.
+-- Assumes nothing.
+use mathlib.Core.Path.{_≡_}
+use mathlib.Core.List.{List}
+use Prim.Native.Nat.{ℕ, _+_}
+use Rattle.limits.specs.Limits.{tableBytes}
+use Rattle.words.specs.Words.{Only}
+use Rattle.grid.specs.declared.Site.{Site}
+use Rattle.sites.specs.Lines.{linesIn}
+use Rattle.standing.specs.Standing.{legIn}
+use Rattle.node.specs.declared.Entry.{Entry}
+use Rattle.node.specs.Layout.{treeStart}
+use Rattle.node.specs.Header.{rootIn}
+use Rattle.node.specs.Tally.{total}
+use Rattle.rtree.specs.Rooted.{Rooted, leavesIn}
+use Rattle.table.specs.Table.{Whole}
+
+-- the table has other lines, its tree has their leaf entries, and the standing leg is as it was
+pub record Relined (l : List Site) (b b′ : List ℕ) : Type 0 where
+  pub whole : Whole b′
+  pub lines : linesIn b′ ≡ l
+  pub leg : legIn b′ ≡ legIn b
+
+-- the tree has the leaf entry new in the place of old, and nothing below the tree has changed
+pub record Swapped (old new : Entry) (b b′ : List ℕ) : Type 0 where
+  pub rooted : Rooted (rootIn b′) b′
+  pub leaf : (w : Entry → ℕ) → w old + total w (leavesIn b′) ≡ w new + total w (leavesIn b)
+  pub only : Only treeStart tableBytes b b′

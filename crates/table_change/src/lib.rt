@@ -1,0 +1,162 @@
+// Accepted changes, carried out: the site array, the tree, and then the standing list.
+use grid::Leg;
+use grid::Position;
+use grid::Site;
+use node::Entry;
+use sites::Found;
+use standing::Standing;
+ghost use mathlib.Core.Path.{_≡_};
+ghost use Prim.Native.Nat.{_*_, _<_, _≤_};
+ghost use lib.ListN.{length};
+ghost use Rattle.limits.specs.Limits.{maxSites};
+ghost use Rattle.grid.specs.Position.{OnGrid};
+ghost use Rattle.row.specs.Vertices.{rowBytes};
+ghost use Rattle.book.specs.declared.Command.{Command};
+ghost use Rattle.book.specs.Book.{writeLine, strikeLine, moveLine, change};
+ghost use Rattle.book.specs.Proper.{LegOk, NumberOk};
+ghost use Rattle.book.specs.Reply.{Reply};
+ghost use Rattle.book.specs.Answer.{answer};
+ghost use Rattle.sites.specs.Lines.{linesIn, StandsAt, StandsNowhere};
+ghost use Rattle.standing.specs.Standing.{legIn};
+ghost use Rattle.table.specs.Table.{bookOf, leafEntry, Whole, Sound};
+ghost use Rattle.demands.specs.Step.{Holds};
+ghost use mathlib.Core.List.{List·Memᴰ};
+ghost use Rattle.node.specs.Header.{rootIn};
+ghost use Rattle.rtree.specs.Rooted.{Rooted, leavesIn};
+ghost use Rattle.table_change.specs.Changes.{Swapped, Relined};
+
+// The leaf entry of a site.
+fn leaf(p: Site) -> Entry
+    ensures { λ r. ⌜ r ≡ leafEntry p ⌝ }
+{
+    let east = p.position.east;
+    let north = p.position.north;
+    Entry {
+        reference: p.number,
+        west: east,
+        south: north,
+        east: east,
+        north: north,
+        spare: 0,
+    }
+}
+
+// Makes the standing list anew.
+fn restand(t: &mut [u8], work: &mut [u8])
+    requires { ⌜ Whole (now t) × LegOk (legIn (now t)) × (2 * rowBytes ≤ length (now work)) ⌝ }
+    ensures { λ _. ⌜ Holds (now (t .exit)) (bookOf (now (t .entry))) ⌝ }
+{
+    let s = standing::leg(t);
+    match s {
+        Standing::Unset => words::put_word(t, standing::LENGTH_START, 0),
+        Standing::Along(leg) => {
+            let k = tree_search::search(t, leg, work);
+            standing::store_list(t, work, leg, k);
+        }
+    }
+}
+
+// Adds a site whose record goes before record k.
+fn grow(t: &mut [u8], k: usize, site: Site)
+    requires { ⌜ Whole (now t) × StandsNowhere k (site .number) (linesIn (now t)) × (length (linesIn (now t)) < maxSites) ⌝ }
+    requires { ⌜ NumberOk site × OnGrid (site .position) ⌝ }
+    ensures { λ _. ⌜ Relined (writeLine site (linesIn (now (t .entry)))) (now (t .entry)) (now (t .exit)) ⌝ }
+{
+    sites::change::insert(t, k, site);
+    let e = leaf(site);
+    tree_add::add(t, e);
+}
+
+// Removes the site of record k.
+fn shrink(t: &mut [u8], k: usize, n: u16)
+    requires { ⌜ Whole (now t) × StandsAt k n (linesIn (now t)) ⌝ }
+    ensures { λ _. ⌜ Relined (strikeLine n (linesIn (now (t .entry)))) (now (t .entry)) (now (t .exit)) ⌝ }
+{
+    let e = leaf(sites::line(t, k));
+    sites::change::delete(t, k);
+    tree_remove::remove(t, e);
+}
+
+// Puts one leaf entry in the place of another.
+fn swap_leaf(t: &mut [u8], old: Entry, new: Entry)
+    requires { ⌜ Rooted (rootIn (now t)) (now t) × List·Memᴰ old (leavesIn (now t)) × (length (leavesIn (now t)) ≤ maxSites) ⌝ }
+    ensures { λ _. ⌜ Swapped old new (now (t .entry)) (now (t .exit)) ⌝ }
+{
+    tree_remove::remove(t, old);
+    tree_add::add(t, new);
+}
+
+// Gives the site of record k a new position.
+fn relocate(t: &mut [u8], k: usize, n: u16, p: Position)
+    requires { ⌜ Whole (now t) × StandsAt k n (linesIn (now t)) × OnGrid p ⌝ }
+    ensures { λ _. ⌜ Relined (moveLine n p (linesIn (now (t .entry)))) (now (t .entry)) (now (t .exit)) ⌝ }
+{
+    let old = leaf(sites::line(t, k));
+    let new = leaf(Site {
+        number: n,
+        position: p,
+    });
+    sites::change::place(t, k, p);
+    swap_leaf(t, old, new);
+}
+
+// Adds a site. Document 01, command 41.
+pub fn add(t: &mut [u8], work: &mut [u8], n: u16, p: Position)
+    requires { ⌜ Sound (now t) × (answer (bookOf (now t)) (Command.Add n p) ≡ Reply.done) × (2 * rowBytes ≤ length (now work)) ⌝ }
+    ensures { λ _. ⌜ Holds (now (t .exit)) (change (Command.Add n p) (bookOf (now (t .entry)))) ⌝ }
+{
+    let found = sites::find(t, n);
+    match found {
+        Found::Absent(k) => {
+            grow(
+                t,
+                k,
+                Site {
+                    number: n,
+                    position: p,
+                },
+            );
+            restand(t, work);
+        }
+        Found::At(_) => {}
+    }
+}
+
+// Removes a site. Document 01, command 44.
+pub fn remove(t: &mut [u8], work: &mut [u8], n: u16)
+    requires { ⌜ Sound (now t) × (answer (bookOf (now t)) (Command.Remove n) ≡ Reply.done) × (2 * rowBytes ≤ length (now work)) ⌝ }
+    ensures { λ _. ⌜ Holds (now (t .exit)) (change (Command.Remove n) (bookOf (now (t .entry)))) ⌝ }
+{
+    let found = sites::find(t, n);
+    match found {
+        Found::At(k) => {
+            shrink(t, k, n);
+            restand(t, work);
+        }
+        Found::Absent(_) => {}
+    }
+}
+
+// Moves a site. Document 01, command 4D.
+pub fn replace(t: &mut [u8], work: &mut [u8], n: u16, p: Position)
+    requires { ⌜ Sound (now t) × (answer (bookOf (now t)) (Command.Move n p) ≡ Reply.done) × (2 * rowBytes ≤ length (now work)) ⌝ }
+    ensures { λ _. ⌜ Holds (now (t .exit)) (change (Command.Move n p) (bookOf (now (t .entry)))) ⌝ }
+{
+    let found = sites::find(t, n);
+    match found {
+        Found::At(k) => {
+            relocate(t, k, n, p);
+            restand(t, work);
+        }
+        Found::Absent(_) => {}
+    }
+}
+
+// Sets the standing leg. Document 01, command 53.
+pub fn stand(t: &mut [u8], work: &mut [u8], leg: Leg)
+    requires { ⌜ Sound (now t) × (answer (bookOf (now t)) (Command.Stand leg) ≡ Reply.done) × (2 * rowBytes ≤ length (now work)) ⌝ }
+    ensures { λ _. ⌜ Holds (now (t .exit)) (change (Command.Stand leg) (bookOf (now (t .entry)))) ⌝ }
+{
+    standing::store_leg(t, leg);
+    restand(t, work);
+}

@@ -1,0 +1,21 @@
+-- What an addition does: the contract of the crate's one call.
+-- Assumes nothing.
+use mathlib.Core.Path.{_≡_}
+use mathlib.Core.List.{List}
+use Prim.Native.Nat.{ℕ, _+_}
+use Rattle.limits.specs.Limits.{tableBytes}
+use Rattle.words.specs.Words.{Only}
+use Rattle.node.specs.declared.Entry.{Entry}
+use Rattle.node.specs.Layout.{treeStart}
+use Rattle.node.specs.Header.{rootIn}
+use Rattle.node.specs.Tally.{total}
+use Rattle.rtree.specs.Rooted.{Rooted, leavesIn}
+
+-- the leaf entry e is added to the tree
+pub record Added (e : Entry) (b b′ : List ℕ) : Type 0 where
+  -- the tree keeps its rules
+  pub rooted : Rooted (rootIn b′) b′
+  -- its leaf entries are those there were and e, whatever is counted of them
+  pub leaf : (w : Entry → ℕ) → total w (leavesIn b′) ≡ w e + total w (leavesIn b)
+  -- the bytes below the tree, and their number, are as they were
+  pub only : Only treeStart tableBytes b b′

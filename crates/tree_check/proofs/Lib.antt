@@ -1,0 +1,9 @@
+pub mod Rises
+pub mod Marking
+pub mod Stack
+pub mod Passing
+pub mod RootPassing
+pub mod Shares
+pub mod Pool
+pub mod Astray
+pub mod Tying

@@ -1,0 +1,5 @@
+pub mod Says
+pub mod Sites
+pub mod Tied
+pub mod Marks
+pub mod Walk

@@ -1,0 +1,16 @@
+-- What the test of a table's tree decides. Document 01, "The tree".
+-- Assumes nothing.
+use mathlib.Core.List.{List}
+use mathlib.Core.Path.{_≡_}
+use Prim.Native.Nat.{ℕ}
+use Rattle.node.specs.declared.Entry.{Entry}
+use Rattle.node.specs.Header.{rootIn}
+use Rattle.node.specs.Tally.{total}
+use Rattle.rtree.specs.Rooted.{Rooted, leavesIn}
+use Rattle.tree_check.specs.Sites.{leafList}
+
+-- the tree that the header tells keeps its rules, and its leaf entries are those of the first n records of the site array
+pub record Tied (n : ℕ) (b : List ℕ) : Type 0 where
+  pub rooted : Rooted (rootIn b) b
+  -- "Every held site is in one leaf entry", and there is no other leaf entry: whatever is counted, both give the same total
+  pub leaf : (w : Entry → ℕ) → total w (leavesIn b) ≡ total w (leafList b n)

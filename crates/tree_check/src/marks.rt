@@ -1,0 +1,49 @@
+// The marks of what a walk has met, in lent bytes.
+ghost use mathlib.Core.Path.{_≡_};
+ghost use Prim.Native.Nat.{_≤_, _<_};
+ghost use lib.ListN.{length, getD, set};
+ghost use Rattle.node.specs.Told.{Told};
+ghost use Rattle.tree_check.specs.Marks.{markBytes, seenBytes, Blank, Full};
+ghost use Rattle.tree_check.specs.Says.{Says};
+
+// A byte for each node and for each record.
+const MARK_BYTES: usize = 776;
+
+// Takes every mark away.
+pub fn clear(seen: &mut [u8])
+    requires { ⌜ length (now seen) ≡ seenBytes ⌝ }
+    ensures { λ _. ⌜ Blank (now (seen .exit)) ⌝ }
+{
+    let mut i = 0;
+    while i < MARK_BYTES {
+        seen[i] = 0;
+        i += 1;
+    }
+}
+
+// Sets mark m. Whether it was not set before.
+pub fn mark(seen: &mut [u8], m: usize) -> bool
+    requires { ⌜ m < length (now seen) ⌝ }
+    ensures { λ r. ⌜ Told r (getD (now (seen .entry)) m 0 ≡ 0) (now (seen .exit) ≡ set (now (seen .entry)) m 1) ⌝ }
+{
+    if seen[m] == 0 {
+        seen[m] = 1;
+        return true;
+    }
+    false
+}
+
+// Whether each of the first l marks is set.
+pub fn full(seen: &[u8], l: usize) -> bool
+    requires { ⌜ (length (now seen) ≡ seenBytes) × (l ≤ markBytes) ⌝ }
+    ensures { λ r. ⌜ Says r (Full l (now (seen .entry))) ⌝ }
+{
+    let mut m = 0;
+    while m < l {
+        if seen[m] == 0 {
+            return false;
+        }
+        m += 1;
+    }
+    true
+}

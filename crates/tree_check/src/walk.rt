@@ -1,0 +1,137 @@
+// The walk over the tree. "A node is read by reading its entries, and an entry above the leaves by reading its child node": two functions that
+// call each other, the height falling at each descent.
+use crate::marks;
+use crate::sites;
+use limits::MAX_LEVELS;
+use limits::MAX_NODES;
+use limits::MIN_ENTRIES;
+use node::Entry;
+use node::Root;
+use node::boxes;
+use node::header;
+use node::pool;
+ghost use mathlib.Core.List.{[], _∷_};
+ghost use mathlib.Core.Path.{_≡_};
+ghost use Prim.Native.Nat.{_≤_, _<_};
+ghost use lib.ListN.{length, drop};
+ghost use Rattle.limits.specs.Limits.{maxNodes, tableBytes};
+ghost use Rattle.node.specs.declared.Root.{Root};
+ghost use Rattle.node.specs.Header.{rootIn};
+ghost use Rattle.node.specs.Node.{entries};
+ghost use Rattle.node.specs.Told.{Told};
+ghost use Rattle.tree_check.specs.Marks.{Marked, Prepared};
+ghost use Rattle.tree_check.specs.Says.{Says};
+ghost use Rattle.tree_check.specs.Walk.{met, Pass, Fits, Enough, rootMet, RootPass};
+
+// Whether the leaf entry e is that of a record that has no mark yet. Marks the record.
+fn check_leaf(t: &[u8], n: usize, e: Entry, seen: &mut [u8]) -> bool
+    requires { ⌜ Prepared n (now t) (now seen) ⌝ }
+    ensures { λ r. ⌜ Told r (Pass (now (t .entry)) n 0 (e ∷ []) (now (seen .entry))) (Marked (met (now (t .entry)) n 0 (e ∷ [])) (now (seen .entry)) (now (seen .exit))) ⌝ }
+{
+    let k = sites::find(t, n, e.reference, seen);
+    if n <= k {
+        return false;
+    }
+    let p = sites::leaf_of(t, k);
+    if boxes::same(e, p) {
+        return marks::mark(seen, MAX_NODES + k);
+    }
+    false
+}
+
+// Whether e's child node has entries enough and e is the smallest box of them.
+fn fits(t: &[u8], e: Entry) -> bool
+    requires { ⌜ (length (now t) ≡ tableBytes) × (e .reference < maxNodes) ⌝ }
+    ensures { λ r. ⌜ Says r (Fits (now (t .entry)) e) ⌝ }
+{
+    let c = e.reference as usize;
+    if pool::count(t, c) < MIN_ENTRIES {
+        return false;
+    }
+    let f = boxes::hull_of(t, c);
+    boxes::same(e, f)
+}
+
+// Whether the entry e, which stands at height h, passes. Marks what lies under it.
+fn check_entry(t: &[u8], n: usize, h: usize, e: Entry, seen: &mut [u8]) -> bool
+    requires { ⌜ Prepared n (now t) (now seen) ⌝ }
+    ensures { λ r. ⌜ Told r (Pass (now (t .entry)) n h (e ∷ []) (now (seen .entry))) (Marked (met (now (t .entry)) n h (e ∷ [])) (now (seen .entry)) (now (seen .exit))) ⌝ }
+{
+    if h == 0 {
+        return check_leaf(t, n, e, seen);
+    }
+    let c = e.reference as usize;
+    if MAX_NODES <= c {
+        return false;
+    }
+    let first = marks::mark(seen, c);
+    if first {
+        if fits(t, e) {
+            return check_node(t, n, h - 1, c, 0, seen);
+        }
+    }
+    false
+}
+
+// Whether the entries of node c from k on, which stand at height h, pass. Marks what lies under them.
+fn check_node(t: &[u8], n: usize, h: usize, c: usize, k: usize, seen: &mut [u8]) -> bool
+    requires { ⌜ Prepared n (now t) (now seen) × (c < maxNodes) × (k ≤ length (entries (now t) c)) ⌝ }
+    ensures { λ r. ⌜ Told r (Pass (now (t .entry)) n h (drop k (entries (now (t .entry)) c)) (now (seen .entry))) (Marked (met (now (t .entry)) n h (drop k (entries (now (t .entry)) c))) (now (seen .entry)) (now (seen .exit))) ⌝ }
+{
+    if k < pool::count(t, c) {
+        let e = pool::entry_at(t, c, k);
+        if check_entry(t, n, h, e, seen) {
+            return check_node(t, n, h, c, k + 1, seen);
+        }
+        return false;
+    }
+    true
+}
+
+// Whether the root c, whose entries stand at height g, has as many as a root has to have.
+fn enough(t: &[u8], g: usize, c: usize) -> bool
+    requires { ⌜ (length (now t) ≡ tableBytes) × (c < maxNodes) ⌝ }
+    ensures { λ r. ⌜ Says r (Enough (now (t .entry)) g c) ⌝ }
+{
+    let k = pool::count(t, c);
+    if k < 1 {
+        return false;
+    }
+    if g == 0 {
+        return true;
+    }
+    if k < 2 {
+        return false;
+    }
+    true
+}
+
+// Whether the tree under the node c, whose entries stand at height g, passes. Marks what lies under it.
+fn check_top(t: &[u8], n: usize, g: usize, c: usize, seen: &mut [u8]) -> bool
+    requires { ⌜ Prepared n (now t) (now seen) ⌝ }
+    ensures { λ r. ⌜ Told r (RootPass (now (t .entry)) n (Root.Top g c) (now (seen .entry))) (Marked (rootMet (now (t .entry)) n (Root.Top g c)) (now (seen .entry)) (now (seen .exit))) ⌝ }
+{
+    if MAX_LEVELS <= g {
+        return false;
+    }
+    if MAX_NODES <= c {
+        return false;
+    }
+    if enough(t, g, c) {
+        if marks::mark(seen, c) {
+            return check_node(t, n, g, c, 0, seen);
+        }
+    }
+    false
+}
+
+// Whether the tree that the header tells passes. Marks what lies under it.
+pub fn check_root(t: &[u8], n: usize, seen: &mut [u8]) -> bool
+    requires { ⌜ Prepared n (now t) (now seen) ⌝ }
+    ensures { λ r. ⌜ Told r (RootPass (now (t .entry)) n (rootIn (now (t .entry))) (now (seen .entry))) (Marked (rootMet (now (t .entry)) n (rootIn (now (t .entry)))) (now (seen .entry)) (now (seen .exit))) ⌝ }
+{
+    match header::read_root(t) {
+        Root::Empty => true,
+        Root::Top(g, c) => check_top(t, n, g, c, seen),
+    }
+}

@@ -1,0 +1,7 @@
+pub mod Members
+pub mod Depth
+pub mod Renewing
+pub mod Cutting
+pub mod Taking
+pub mod Shrinking
+pub mod Removing

@@ -1,0 +1,36 @@
+-- What looking for a leaf entry and taking it needs, and what it does.
+-- Assumes nothing.
+use mathlib.Core.Path.{_≡_}
+use mathlib.Core.List.{List}
+use Prim.Native.Nat.{ℕ, suc, _+_, _≤_}
+use lib.ListN.{length}
+use Rattle.limits.specs.Limits.{maxNodes, tableBytes}
+use Rattle.words.specs.Words.{Only}
+use Rattle.node.specs.declared.Entry.{Entry}
+use Rattle.node.specs.Layout.{freeStart}
+use Rattle.node.specs.Node.{entries}
+use Rattle.node.specs.Free.{free}
+use Rattle.node.specs.Tally.{total, tally}
+use Rattle.rtree.specs.Tree.{joined, leaves, leavesAt, nodesAt, Each, Sound}
+use Rattle.rtree.specs.Change.{Ready}
+use Rattle.tree_remove.specs.declared.Outcome.{Outcome}
+
+-- a leaf entry may be taken from under node n, whose entries stand at height h
+pub record Open (h n : ℕ) (b : List ℕ) : Type 0 where
+  pub ready : Ready h n b
+  pub least : (h ≡ 0 → ⊥) → 2 ≤ length (entries b n)
+  pub fits : length (nodesAt (entries b) h n) + length (free b) ≤ maxNodes
+
+-- one leaf entry e is gone from under node n, whose entries stand at height h; n may be left with one entry fewer
+pub record Cut (h n : ℕ) (e : Entry) (b b′ : List ℕ) : Type 0 where
+  pub sound : Each (Sound (entries b′) h) (entries b′ n)
+  pub least : length (entries b n) ≤ suc (length (entries b′ n))
+  pub leaf : (w : Entry → ℕ) → w e + total w (leavesAt (entries b′) h n) ≡ total w (leavesAt (entries b) h n)
+  pub ids : (w : ℕ → ℕ) → total w (nodesAt (entries b′) h n) + total w (free b′) ≡ total w (nodesAt (entries b) h n) + total w (free b)
+  pub rest : (m : ℕ) → tally m (nodesAt (entries b) h n) + tally m (free b) ≡ 0 → entries b′ m ≡ entries b m
+  pub only : Only freeStart tableBytes b b′
+
+-- how a search for e under the entries l of node n, which stand at height h, went: none of the leaf entries there is e and nothing has changed, or e is gone from under n
+unfoldable pub Searched : Outcome → ℕ → ℕ → Entry → List Entry → List ℕ → List ℕ → Type 0
+Searched Outcome.Absent h n e l b b′ = (b′ ≡ b) × Each (λ p. p ≡ e → ⊥) (joined (leaves (entries b) h) l)
+Searched Outcome.Gone h n e l b b′ = Cut h n e b b′

@@ -1,0 +1,78 @@
+// A leaf entry is looked for and taken: "an entry above the leaves" is read "by reading its child node", by two functions that call each other.
+// Only boxes that hold the entry's are searched. On the way up each parent repairs its child's entry.
+use crate::Outcome;
+use node::Entry;
+use node::boxes;
+use node::pool;
+use tree_repair::repair;
+ghost use mathlib.Core.Path.{_≡_};
+ghost use mathlib.Core.List.{[], _∷_};
+ghost use Prim.Native.Nat.{_<_, _≤_};
+ghost use lib.ListN.{length, getD, drop};
+ghost use Rattle.node.specs.Boxes.{In};
+ghost use Rattle.node.specs.Node.{entries, noEntry};
+ghost use Rattle.node.specs.Told.{Told};
+ghost use Rattle.tree_remove.specs.Take.{Open, Searched};
+
+// Whether the box of f holds the box of e.
+fn holds(f: Entry, e: Entry) -> bool
+    ensures { λ r. ⌜ Told r (In e f) (In e f) ⌝ }
+{
+    if e.west < f.west {
+        return false;
+    }
+    if e.south < f.south {
+        return false;
+    }
+    if f.east < e.east {
+        return false;
+    }
+    if f.north < e.north {
+        return false;
+    }
+    true
+}
+
+// Takes the leaf entry e from under f, which is entry k of node n and stands at height h.
+fn take_child(table: &mut [u8], h: usize, n: usize, k: usize, f: Entry, e: Entry) -> Outcome
+    requires { ⌜ Open h n (now table) × (k < length (entries (now table) n)) × (f ≡ getD (entries (now table) n) k noEntry) ⌝ }
+    ensures { λ r. ⌜ Searched r h n e (f ∷ []) (now (table .entry)) (now (table .exit)) ⌝ }
+{
+    if h == 0 {
+        if boxes::same(f, e) {
+            pool::drop_entry(table, n, k);
+            return Outcome::Gone;
+        }
+        return Outcome::Absent;
+    }
+    let c = f.reference as usize;
+    let r = take(table, h - 1, c, 0, e);
+    match r {
+        Outcome::Absent => Outcome::Absent,
+        Outcome::Gone => {
+            repair::repair(table, n, k, f);
+            Outcome::Gone
+        }
+    }
+}
+
+// Takes the leaf entry e from under the entries from k on of node n, which stand at height h.
+pub fn take(table: &mut [u8], h: usize, n: usize, k: usize, e: Entry) -> Outcome
+    requires { ⌜ Open h n (now table) × (k ≤ length (entries (now table) n)) ⌝ }
+    ensures { λ r. ⌜ Searched r h n e (drop k (entries (now (table .entry)) n)) (now (table .entry)) (now (table .exit)) ⌝ }
+{
+    if k < pool::count(table, n) {
+        let f = pool::entry_at(table, n, k);
+        if holds(f, e) {
+            let r = take_child(table, h, n, k, f, e);
+            match r {
+                Outcome::Absent => take(table, h, n, k + 1, e),
+                Outcome::Gone => Outcome::Gone,
+            }
+        } else {
+            take(table, h, n, k + 1, e)
+        }
+    } else {
+        Outcome::Absent
+    }
+}

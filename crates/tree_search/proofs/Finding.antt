@@ -1,0 +1,95 @@
+-- The whole tree searched: its root node is read like any other, and the list found is that of all its sites.
+-- Assumes nothing.
+use mathlib.Core.Path.{_≡_, ap, subst}
+use mathlib.Core.List.{List, [], append-nil}
+use Prim.Native.Nat.{ℕ, _*_, _≤_, _<_}
+use native.Mathlib.Omega.{arith}
+use lib.ListN.{length}
+use Rattle.limits.specs.Limits.{maxSites}
+use Rattle.words.proofs.Frame.{only-refl}
+use Rattle.grid.specs.declared.Site.{Site}
+use Rattle.grid.specs.declared.Leg.{Leg}
+use Rattle.grid.specs.Position.{LegOnGrid}
+use Rattle.split.specs.SplitList.{Numbered, SameSites}
+use Rattle.split.specs.SplitOf.{splitOf}
+use Rattle.row.specs.Vertices.{rowBytes, Held, Lists, entriesIn}
+use Rattle.row.proofs.Listing.{lists-none, lists-is}
+use Rattle.node.specs.declared.Root.{Root}
+use Rattle.node.specs.Node.{entries}
+use Rattle.node.specs.Header.{rootIn}
+use Rattle.rtree.specs.Tree.{leavesAt, Each}
+use Rattle.rtree.specs.Rooted.{treeLeaves, RootNode, Rooted, leavesIn}
+use Rattle.rtree.specs.Perm.{Perm}
+use Rattle.rtree.proofs.Perms.{perm-sym}
+use Rattle.rtree.proofs.Roots.{root-node}
+use Rattle.tree_search.specs.Sites.{LeafPoint, sites, Placed}
+use Rattle.tree_search.specs.Searching.{under, around, Readable, Ahead, Searched, Found}
+use Rattle.tree_search.proofs.OnGrid.{each-placed}
+use Rattle.tree_search.proofs.Reading.{node-order}
+use Rattle.tree_search.proofs.Searching.{searched-perm, ahead-perm}
+
+held-none : (l : Leg) (t r : List ℕ) → Held l t r 0
+held-none l t r = record { inside = omega arith; few = omega arith; sites = λ i h. absurd (omega arith); convex = tt }
+
+-- the empty tree has no site
+module _ (t : List ℕ) (q : rootIn t ≡ Root.Empty) where
+  no-leaves : leavesIn t ≡ []
+  unfolding leavesIn treeLeaves
+  no-leaves = ap (treeLeaves (entries t)) q
+
+  no-sites : sites (leavesIn t) ≡ []
+  unfolding sites
+  no-sites = ap sites no-leaves
+
+  pub empty-found : (l : Leg) (r : List ℕ) → Found l t r r 0
+  empty-found l r =
+      record { within = omega arith; held = held-none l t r; lists = rw no-sites (lists-none l t r); only = only-refl }
+
+-- a tree under the node n, whose entries stand at height g
+module _ (t : List ℕ) (g n : ℕ) (rt : Rooted (rootIn t) t) (q : rootIn t ≡ Root.Top g n) where
+  top : RootNode (entries t) g n
+  top = root-node g n t (subst (λ (x : Root). Rooted x t) q rt)
+
+  pub top-readable : Readable t g n
+  top-readable = record { len = rt .len; id = top .id; sound = top .below }
+
+  pub top-some : 0 < length (entries t n)
+  top-some = omega (arith, top .one)
+
+  top-leaves : leavesIn t ≡ under t g (entries t n)
+  unfolding leavesIn treeLeaves leavesAt
+  top-leaves = ap (treeLeaves (entries t)) q
+
+  pub top-placed : Each LeafPoint (leavesIn t) → Each Placed (entries t n)
+  top-placed p = each-placed (entries t) g (entries t n) (top .below) (subst (Each LeafPoint) top-leaves p)
+
+  top-order : (first all : ℕ) → first < length (entries t n) → all ≡ length (entries t n) → Perm (under t g (around (entries t n) first all)) (leavesIn t)
+  top-order first all f e = rw top-leaves (node-order t g n first all f e)
+
+  module _ (first all : ℕ) (f : first < length (entries t n)) (e : all ≡ length (entries t n)) (l : Leg) (r : List ℕ) where
+    pub top-ahead : Each LeafPoint (leavesIn t) → length (leavesIn t) ≤ maxSites → LegOnGrid l → 2 * rowBytes ≤ length r
+        → Ahead l t r 0 (under t g (around (entries t n) first all))
+    top-ahead p few leg rows =
+        ahead-perm
+        (perm-sym (top-order first all f e))
+        (record { leg = leg; held = held-none l t r; rows = rows; points = p; room = omega arith })
+
+    pub top-found : (r′ : List ℕ) (m : ℕ) → Searched l t r 0 (under t g (around (entries t n) first all)) r′ m → Found l t r r′ m
+    top-found r′ m h =
+        let s : Searched l t r 0 (leavesIn t) r′ m = searched-perm (top-order first all f e) h in
+        record {
+          within = omega (arith, s .within);
+          held = s .held;
+          lists = subst (Lists l t r′ m) (append-nil (sites (leavesIn t))) (s .lists [] (lists-none l t r));
+          only = s .only;
+        }
+
+-- a list without a number twice, in another order
+numbered-same : (s u : List Site) → SameSites u s → Numbered u → Numbered s
+numbered-same s u w n =
+    record { small = λ p i. n .small p (w .back p i); one = λ p q i j. n .one p q (w .back p i) (w .back q j) }
+
+-- THE LIST FOUND is the split list of the tree's sites, in whatever order
+module _ {l : Leg} {t r r′ : List ℕ} {k : ℕ} (f : Found l t r r′ k) (u : List Site) (n : Numbered u) (w : SameSites u (sites (leavesIn t))) where
+  pub found-is : entriesIn l t r′ k ≡ splitOf l u
+  found-is = lists-is l t r′ k (sites (leavesIn t)) u (numbered-same (sites (leavesIn t)) u w n) n w (f .lists)

@@ -1,0 +1,159 @@
+-- A node read entry by entry, and an entry above the leaves by its child node.
+-- Assumes nothing.
+use mathlib.Core.Path.{_≡_, refl, sym, ap, subst, subst⁻¹, _∙_}
+use mathlib.Core.Bool.{Bool, true}
+use mathlib.Core.List.{List, _++_}
+use Prim.Native.Nat.{ℕ, suc, _*_, _-_, _≤_, _<_}
+use native.Mathlib.Omega.{arith}
+use lib.ListN.{length}
+use Rattle.limits.specs.Limits.{maxSites}
+use Rattle.grid.specs.declared.Site.{Site}
+use Rattle.grid.specs.declared.Leg.{Leg}
+use Rattle.grid.specs.Position.{OnGrid}
+use Rattle.grid.specs.Says.{If}
+use Rattle.row.specs.Places.{siteAtByte, siteAt, HasSite}
+use Rattle.row_skip.specs.Skipping.{Space, Dealt}
+use Rattle.row_skip.proofs.Witnesses.{if-true}
+use Rattle.node.specs.declared.Entry.{Entry}
+use Rattle.node.specs.Layout.{place}
+use Rattle.node.specs.Node.{entryAt, entries, noEntry}
+use Rattle.node.proofs.Reading.{getD-entries, eight}
+use Rattle.rtree.specs.Tree.{joined, leaves, leavesAt, Each, Child, Sound}
+use Rattle.rtree.specs.Perm.{Perm}
+use Rattle.rtree.proofs.Every.{each-at}
+use Rattle.rtree.proofs.Totals.{leaves-under}
+use Rattle.rtree.proofs.Perms.{perm-sym}
+use Rattle.tree_search.specs.Sites.{siteOf, LeafPoint, Placed}
+use Rattle.tree_search.specs.Searching.{entryOf, under, around, Follows, Skips, Readable, Ahead, Searched}
+use Rattle.tree_search.proofs.Orders.{perm-joined}
+use Rattle.tree_search.proofs.OnGrid.{placed, each-placed}
+use Rattle.tree_search.proofs.Around.{around-none, around-step, around-all}
+use Rattle.tree_search.proofs.Searching.{searched-none, searched-leaf, searched-skip, searched-perm, searched-then, ahead-first, ahead-rest, ahead-perm}
+
+-- entry i of node n, at height h
+module _ (t : List ℕ) (h n i : ℕ) (rd : Readable t h n) (lt : i < length (entries t n)) where
+  pub entry-sound : Sound (entries t) h (entryOf t n i)
+  entry-sound = each-at (Sound (entries t) h) (entries t n) i noEntry (rd .sound) lt
+
+  module _ {l : Leg} {r : List ℕ} {k : ℕ} (ah : Ahead l t r k (leaves (entries t) h (entryOf t n i))) where
+    pub entry-placed : Placed (entryOf t n i)
+    entry-placed = placed (entries t) h (entryOf t n i) entry-sound (ah .points)
+
+    pub entry-skipped : (b : Bool) → b ≡ true → If b (Skips l t r k (entryOf t n i)) → Searched l t r k (leaves (entries t) h (entryOf t n i)) r k
+    entry-skipped b e w = searched-skip (entries t) h (entryOf t n i) entry-sound (ah .points) (ah .held) (if-true b e w)
+
+byte-site : (t : List ℕ) (x : ℕ) → siteAtByte t x ≡ siteOf (entryAt t x)
+unfolding siteAtByte entryAt
+byte-site t x = refl
+
+-- entry i of the leaf n begins with a site record, at the place p
+module _ (t : List ℕ) (n i p : ℕ) (lt : i < length (entries t n)) (at : 2 * p ≡ place n i) where
+  leaf-site : siteAt t p ≡ siteOf (entryOf t n i)
+  leaf-site = byte-site t (2 * p) ∙ ap (λ (x : ℕ). siteOf (entryAt t x)) at ∙ ap siteOf (sym (getD-entries t n i lt))
+
+  leaf-point : {l : Leg} {r : List ℕ} {k : ℕ} → Ahead l t r k (leaves (entries t) 0 (entryOf t n i)) → LeafPoint (entryOf t n i)
+  unfolding leaves Each
+  leaf-point ah = ah .points .0
+
+  leaf-room : {l : Leg} {r : List ℕ} {k : ℕ} → Ahead l t r k (leaves (entries t) 0 (entryOf t n i)) → k < maxSites
+  unfolding leaves
+  leaf-room ah = omega (arith, ah .room)
+
+  module _ {l : Leg} {r : List ℕ} {k : ℕ} (rd : Readable t 0 n) (ah : Ahead l t r k (leaves (entries t) 0 (entryOf t n i))) where
+    pub leaf-has : HasSite t p
+    leaf-has =
+        record {
+          small = omega (arith, eight t n, rd .id);
+          inside = omega (arith, eight t n, rd .id, rd .len);
+          on-grid = subst⁻¹ (λ (s : Site). OnGrid (s .position)) leaf-site (leaf-point ah .on-grid);
+        }
+
+    pub leaf-space : Space l t r k p
+    leaf-space full = absurd (omega (arith, leaf-room ah))
+
+    pub leaf-searched : {r′ : List ℕ} {m : ℕ} → Dealt l t r k p r′ m → Searched l t r k (leaves (entries t) 0 (entryOf t n i)) r′ m
+    leaf-searched d = searched-leaf (entries t) (entryOf t n i) leaf-site d
+
+-- the leaf entries under node n are those under its entries, from any one on
+pub node-order : (t : List ℕ) (h n first all : ℕ) → first < length (entries t n) → all ≡ length (entries t n)
+    → Perm (under t h (around (entries t n) first all)) (under t h (entries t n))
+node-order t h n first all f q = rw q (perm-joined (leaves (entries t) h) (around-all (entries t n) first (omega arith)))
+
+-- e, which is entry i of node n above the leaves, is read by its child node
+module _ (t : List ℕ) (h n i : ℕ) (e : Entry) (rd : Readable t h n) (lt : i < length (entries t n)) (some : 0 < h) (qe : e ≡ entryOf t n i) where
+  up : suc (h - 1) ≡ h
+  up = omega arith
+
+  kid : Child (entries t) (Sound (entries t) (h - 1)) e
+  unfolding Sound
+  kid =
+      subst⁻¹ (λ (d : Entry). Sound (entries t) (suc (h - 1)) d) qe
+      (subst⁻¹ (λ (x : ℕ). Sound (entries t) x (entryOf t n i)) up (entry-sound t h n i rd lt))
+
+  pub child-readable : Readable t (h - 1) (e .reference)
+  child-readable = record { len = rd .len; id = kid .id; sound = kid .below }
+
+  pub child-some : 0 < length (entries t (e .reference))
+  child-some = omega (arith, kid .least)
+
+  at-node : leavesAt (entries t) (h - 1) (e .reference) ≡ under t (h - 1) (entries t (e .reference))
+  unfolding leavesAt
+  at-node = refl
+
+  child-leaves : leaves (entries t) h (entryOf t n i) ≡ under t (h - 1) (entries t (e .reference))
+  child-leaves =
+      ap (λ (x : ℕ). leaves (entries t) x (entryOf t n i)) (sym up)
+      ∙ ap (leaves (entries t) (suc (h - 1))) (sym qe)
+      ∙ leaves-under (entries t) (h - 1) e
+      ∙ at-node
+
+  child-order : (first all : ℕ) → first < length (entries t (e .reference)) → all ≡ length (entries t (e .reference))
+      → Perm (under t (h - 1) (around (entries t (e .reference)) first all)) (leaves (entries t) h (entryOf t n i))
+  child-order first all f q = rw child-leaves (node-order t (h - 1) (e .reference) first all f q)
+
+  module _ {l : Leg} {r : List ℕ} {k : ℕ} (ah : Ahead l t r k (leaves (entries t) h (entryOf t n i))) where
+    pub child-placed : Each Placed (entries t (e .reference))
+    child-placed =
+        each-placed (entries t) (h - 1) (entries t (e .reference)) (kid .below) (subst (Each LeafPoint) child-leaves (ah .points))
+
+    pub child-ahead : (first all : ℕ) → first < length (entries t (e .reference)) → all ≡ length (entries t (e .reference))
+        → Ahead l t r k (under t (h - 1) (around (entries t (e .reference)) first all))
+    child-ahead first all f q = ahead-perm (perm-sym (child-order first all f q)) ah
+
+  pub child-searched : {l : Leg} {r r′ : List ℕ} {k m : ℕ} (first all : ℕ) → first < length (entries t (e .reference)) → all ≡ length (entries t (e .reference))
+      → Searched l t r k (under t (h - 1) (around (entries t (e .reference)) first all)) r′ m
+      → Searched l t r k (leaves (entries t) h (entryOf t n i)) r′ m
+  child-searched first all f q s = searched-perm (child-order first all f q) s
+
+-- so many entries of node n from the ith on: none
+pub node-none : {l : Leg} {t r : List ℕ} {k : ℕ} (h n i left : ℕ) → left ≡ 0 → Ahead l t r k (under t h (around (entries t n) i left))
+    → Searched l t r k (under t h (around (entries t n) i left)) r k
+unfolding joined
+node-none {t = t} h n i left q ah =
+    rw (q, around-none (entries t n) i) (searched-none (ah .held))
+
+-- entry i, then the others
+module _ (t : List ℕ) (h n i j left : ℕ) (lt : i < length (entries t n)) (some : 0 < left) (le : left ≤ length (entries t n)) (f : Follows (length (entries t n)) i j) where
+  abbrev first : List Entry
+  first = leaves (entries t) h (entryOf t n i)
+
+  abbrev rest : List Entry
+  rest = under t h (around (entries t n) j (left - 1))
+
+  parted : under t h (around (entries t n) i left) ≡ first ++ rest
+  unfolding joined
+  parted = ap (joined (leaves (entries t) h)) (around-step (entries t n) i j left lt some le f)
+
+  module _ {l : Leg} {r : List ℕ} {k : ℕ} (ah : Ahead l t r k (under t h (around (entries t n) i left))) where
+    both : Ahead l t r k (first ++ rest)
+    both = subst (Ahead l t r k) parted ah
+
+    pub node-first : Ahead l t r k (leaves (entries t) h (entryOf t n i))
+    node-first = ahead-first first rest both
+
+    pub node-rest : {r₁ : List ℕ} {m : ℕ} → Searched l t r k (leaves (entries t) h (entryOf t n i)) r₁ m → Ahead l t r₁ m (under t h (around (entries t n) j (left - 1)))
+    node-rest s = ahead-rest first rest both s
+
+  pub node-searched : {l : Leg} {r r₁ r₂ : List ℕ} {k m₁ m₂ : ℕ} → Searched l t r k (leaves (entries t) h (entryOf t n i)) r₁ m₁
+      → Searched l t r₁ m₁ (under t h (around (entries t n) j (left - 1))) r₂ m₂ → Searched l t r k (under t h (around (entries t n) i left)) r₂ m₂
+  node-searched {l} {r} {r₁} {r₂} {k} {m₁} {m₂} a b = subst⁻¹ (λ (q : List Entry). Searched l t r k q r₂ m₂) parted (searched-then first rest a b)

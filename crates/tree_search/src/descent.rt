@@ -1,0 +1,92 @@
+// The descent: two functions calling each other, the height falling at each child node.
+use crate::boxes;
+use crate::nearest;
+use grid::Leg;
+ghost use mathlib.Core.Path.{_≡_};
+ghost use Prim.Native.Nat.{_*_, _<_, _≤_};
+ghost use lib.ListN.{length};
+ghost use Rattle.limits.specs.Limits.{maxEntries, maxNodes, tableBytes};
+ghost use Rattle.node.specs.Layout.{place};
+ghost use Rattle.node.specs.Node.{entries};
+ghost use Rattle.rtree.specs.Tree.{leaves};
+ghost use Rattle.tree_search.specs.Searching.{entryOf, under, around, Follows, Readable, Ahead, Searched};
+
+// The place of the site record that entry i of node n begins with.
+fn leaf_place(n: usize, i: usize) -> usize
+    requires { ⌜ (n < maxNodes) × (i < maxEntries) ⌝ }
+    ensures { λ r. ⌜ 2 * r ≡ place n i ⌝ }
+{
+    (node::POOL_START + node::NODE_BYTES * n + 2 + node::ENTRY_BYTES * i) / 2
+}
+
+// The entry that is read after entry i of node n: the next one, and the first after the last.
+fn after(t: &[u8], n: usize, i: usize) -> usize
+    requires { ⌜ (length (now t) ≡ tableBytes) × (n < maxNodes) × (i < length (entries (now t) n)) ⌝ }
+    ensures { λ r. ⌜ Follows (length (entries (now (t .entry)) n)) i r ⌝ }
+{
+    let m = node::pool::count(t, n);
+    if i + 1 < m {
+        return i + 1;
+    }
+    0
+}
+
+// Deals with the site of entry i of the leaf n.
+fn search_leaf(t: &[u8], leg: Leg, n: usize, i: usize, work: &mut [u8], k: usize) -> usize
+    requires { ⌜ Readable (now t) 0 n × (i < length (entries (now t) n)) ⌝ }
+    requires { ⌜ Ahead leg (now t) (now work) k (leaves (entries (now t)) 0 (entryOf (now t) n i)) ⌝ }
+    ensures { λ r. ⌜ Searched leg (now (t .entry)) (now (work .entry)) k (leaves (entries (now (t .entry))) 0 (entryOf (now (t .entry)) n i)) (now (work .exit)) r ⌝ }
+{
+    let p = leaf_place(n, i);
+    row_skip::deal(t, leg, p, work, k)
+}
+
+// Deals with every site under entry i of node n, whose entries stand at height h.
+fn search_entry(
+    t: &[u8],
+    leg: Leg,
+    h: usize,
+    n: usize,
+    i: usize,
+    work: &mut [u8],
+    k: usize,
+) -> usize
+    requires { ⌜ Readable (now t) h n × (i < length (entries (now t) n)) ⌝ }
+    requires { ⌜ Ahead leg (now t) (now work) k (leaves (entries (now t)) h (entryOf (now t) n i)) ⌝ }
+    ensures { λ r. ⌜ Searched leg (now (t .entry)) (now (work .entry)) k (leaves (entries (now (t .entry))) h (entryOf (now (t .entry)) n i)) (now (work .exit)) r ⌝ }
+{
+    if h == 0 {
+        return search_leaf(t, leg, n, i, work, k);
+    }
+    if boxes::shuts(t, work, leg, k, n, i) {
+        return k;
+    }
+    let e = node::pool::entry_at(t, n, i);
+    let c = e.reference as usize;
+    let first = nearest::nearest(t, leg, c);
+    let all = node::pool::count(t, c);
+    search_node(t, leg, h - 1, c, first, all, work, k)
+}
+
+// Deals with every site under so many entries of node n, which stand at height h: from the ith on, the first after the last.
+pub fn search_node(
+    t: &[u8],
+    leg: Leg,
+    h: usize,
+    n: usize,
+    i: usize,
+    left: usize,
+    work: &mut [u8],
+    k: usize,
+) -> usize
+    requires { ⌜ Readable (now t) h n × (i < length (entries (now t) n)) × (left ≤ length (entries (now t) n)) ⌝ }
+    requires { ⌜ Ahead leg (now t) (now work) k (under (now t) h (around (entries (now t) n) i left)) ⌝ }
+    ensures { λ r. ⌜ Searched leg (now (t .entry)) (now (work .entry)) k (under (now (t .entry)) h (around (entries (now (t .entry)) n) i left)) (now (work .exit)) r ⌝ }
+{
+    if left == 0 {
+        return k;
+    }
+    let next = after(t, n, i);
+    let dealt = search_entry(t, leg, h, n, i, work, k);
+    search_node(t, leg, h, n, next, left - 1, work, dealt)
+}

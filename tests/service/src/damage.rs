@@ -1,0 +1,107 @@
+//! Tables that nobody vouches for: what the checker says of them, the service has to say.
+
+use crate::bytes::{
+    ENTRIES_LISTED, ENTRY_LEN, FREE_NODES, LEVELS, MOST_NODES, RECORD_LEN, ROOT, SITE_ARRAY,
+    SITES_HELD, STACK, STANDING_LIST, entry_at, free_at, node_at, number,
+};
+use crate::desk::{Desk, Lent};
+use crate::table::{Rule, meaning};
+use crate::{BROKEN_TABLE, Service};
+use reference::book::WRONG_LENGTH;
+use reference::grid::WORK_LEN;
+use std::ops::Range;
+
+/// Sends the commands to a service with this table. Returns the broken rules, for which 65 must
+/// come; without any, the answer must be that of the book in the table.
+pub fn offer(service: &impl Service, table: &[u8], commands: &[u8]) -> Vec<Rule> {
+    match meaning(table) {
+        Err(broken) => {
+            assert_refused(service, table, commands, &broken);
+            broken
+        }
+        Ok(_) => {
+            Desk::take_up(service, table.to_vec()).serve(commands);
+            vec![]
+        }
+    }
+}
+
+fn assert_refused(service: &impl Service, table: &[u8], commands: &[u8], broken: &[Rule]) {
+    let mut after = table.to_vec();
+    let mut lent = Lent::new(commands.len(), WORK_LEN, 3 * commands.len());
+    let answer = lent.batch(service, &mut after, commands);
+    assert_eq!(answer, (BROKEN_TABLE, 0, 0), "{broken:?}");
+    lent.assert_after(&answer, &[]);
+    assert!(after == table, "65 leaves the table: {broken:?}");
+}
+
+/// A work buffer of wrong length comes before the table's contents.
+pub fn assert_wrong_length_first(service: &impl Service, table: &[u8], work_len: usize) {
+    let mut after = table.to_vec();
+    let mut lent = Lent::new(work_len, work_len, 10);
+    let answer = lent.batch(service, &mut after, &[0x50]);
+    assert_eq!(answer, (u32::from(WRONG_LENGTH), 0, 0));
+    lent.assert_after(&answer, &[]);
+    assert!(after == table, "64 leaves the table");
+}
+
+/// A part of the table's bytes that a rule speaks of.
+#[derive(Clone, Debug)]
+pub struct Region {
+    pub name: &'static str,
+    pub bytes: Range<usize>,
+}
+
+/// All bytes of a sound table that a rule speaks of.
+pub fn regions(table: &[u8]) -> Vec<Region> {
+    let held = SITE_ARRAY + RECORD_LEN * number(table, SITES_HELD);
+    let listed = STANDING_LIST + 2 * number(table, ENTRIES_LISTED);
+    let free = free_at(number(table, FREE_NODES));
+    let mut regions = vec![
+        ("header", 0..SITE_ARRAY),
+        ("site array", SITE_ARRAY..held),
+        ("standing list", STANDING_LIST..listed),
+        ("tree header", LEVELS..STACK),
+        ("stack", STACK..free),
+    ];
+    for node in nodes(table) {
+        let (count, entries) = (node_at(node), node_at(node) + 2);
+        let end = entries + ENTRY_LEN * number(table, count);
+        regions.push(("node count", count..entries));
+        regions.push(("node entries", entries..end));
+    }
+    let region = |(name, bytes)| Region { name, bytes };
+    regions.into_iter().map(region).collect()
+}
+
+/// The nodes of a sound table's tree: those not on the stack.
+pub fn nodes(table: &[u8]) -> Vec<usize> {
+    let free: Vec<usize> = (0..number(table, FREE_NODES))
+        .map(|i| number(table, free_at(i)))
+        .collect();
+    (0..MOST_NODES)
+        .filter(|node| !free.contains(node))
+        .collect()
+}
+
+/// The nodes above the leaves of a sound table's tree.
+pub fn inner_nodes(table: &[u8]) -> Vec<usize> {
+    let mut inner = Vec::new();
+    let mut row = vec![number(table, ROOT)];
+    for _ in 1..number(table, LEVELS) {
+        inner.extend(&row);
+        let children = |node| {
+            let entries = 0..number(table, node_at(node));
+            entries.map(move |i| number(table, entry_at(node, i)))
+        };
+        row = row.into_iter().flat_map(children).collect();
+    }
+    inner
+}
+
+/// The table with one bit flipped.
+pub fn flipped(table: &[u8], at: usize, bit: usize) -> Vec<u8> {
+    let mut damaged = table.to_vec();
+    damaged[at] ^= 1 << bit;
+    damaged
+}

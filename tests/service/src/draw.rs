@@ -1,0 +1,134 @@
+//! Random commands over a pool of numbers, positions and legs, small enough that many meet.
+
+use reference::command;
+use reference::grid::{Leg, MOST_SITES, Position, Site};
+use reference::layout::{LAYOUTS, case};
+use reference::random::Random;
+
+/// Coordinates off the grid: the nearest and the farthest.
+const OFF_GRID: [i64; 4] = [-32_768, -8_001, 8_001, 32_767];
+const KNOWN: [u8; 6] = [
+    command::ADD,
+    command::REMOVE,
+    command::MOVE,
+    command::LIST,
+    command::STAND,
+    command::PRINT,
+];
+
+pub struct Pool {
+    numbers: Vec<u16>,
+    positions: Vec<Position>,
+    legs: Vec<Leg>,
+}
+
+impl Pool {
+    /// The sites of one random case, its leg and some legs of other cases.
+    pub fn new(random: &mut Random, count: usize) -> Self {
+        let layout = random.pick(&LAYOUTS);
+        let own = case(random, layout, count);
+        let others = LAYOUTS.map(|layout| case(random, layout, 0).leg);
+        Pool {
+            numbers: own.sites.iter().map(|site| site.number).collect(),
+            positions: own.sites.iter().map(|site| site.position).collect(),
+            // The case's own leg is the one beside the sites.
+            legs: [vec![own.leg; LAYOUTS.len()], others.to_vec()].concat(),
+        }
+    }
+
+    pub fn leg(&self, random: &mut Random) -> Leg {
+        random.pick(&self.legs)
+    }
+
+    /// One addition for each number, up to a full table, in any order.
+    pub fn additions(&self, random: &mut Random) -> Vec<Vec<u8>> {
+        let mut numbers = self.numbers.clone();
+        random.shuffle(&mut numbers);
+        numbers.truncate(MOST_SITES);
+        let site = |number| Site {
+            number,
+            position: random.pick(&self.positions),
+        };
+        numbers.into_iter().map(site).map(command::add).collect()
+    }
+
+    /// Whole and known commands of all six kinds.
+    pub fn commands(&self, random: &mut Random, count: usize) -> Vec<Vec<u8>> {
+        (0..count).map(|_| self.command(random)).collect()
+    }
+
+    fn command(&self, random: &mut Random) -> Vec<u8> {
+        let number = self.number(random);
+        let site = Site {
+            number,
+            position: self.position(random),
+        };
+        match random.between(1, 14) {
+            1..=5 => command::add(site),
+            6 | 7 => command::remove(number),
+            8 | 9 => command::move_site(site),
+            10 | 11 => command::list(self.any_leg(random)),
+            12 => command::stand(self.any_leg(random)),
+            _ => command::print(),
+        }
+    }
+
+    fn number(&self, random: &mut Random) -> u16 {
+        if random.once_in(40) {
+            0
+        } else {
+            random.pick(&self.numbers)
+        }
+    }
+
+    fn position(&self, random: &mut Random) -> Position {
+        let position = random.pick(&self.positions);
+        now_and_then_off_grid(random, position)
+    }
+
+    fn any_leg(&self, random: &mut Random) -> Leg {
+        let Leg { s, e } = self.leg(random);
+        Leg {
+            s: now_and_then_off_grid(random, s),
+            e: now_and_then_off_grid(random, e),
+        }
+    }
+}
+
+fn now_and_then_off_grid(random: &mut Random, mut position: Position) -> Position {
+    if random.once_in(40) {
+        position.east = random.pick(&OFF_GRID);
+    }
+    if random.once_in(40) {
+        position.north = random.pick(&OFF_GRID);
+    }
+    position
+}
+
+/// A byte that begins no command.
+pub fn unknown_byte(random: &mut Random) -> u8 {
+    loop {
+        let byte = u8::try_from(random.between(0, 255)).expect("a byte");
+        if !KNOWN.contains(&byte) {
+            return byte;
+        }
+    }
+}
+
+/// The commands' bytes, now and then with an unknown byte among them or the last one cut short.
+pub fn broken_off(random: &mut Random, mut commands: Vec<Vec<u8>>) -> Vec<u8> {
+    match random.between(1, 5) {
+        1 => {
+            let at = random.index(commands.len() + 1);
+            commands.insert(at, vec![unknown_byte(random)]);
+            commands.concat()
+        }
+        2 => {
+            let mut bytes = commands.concat();
+            let last = commands.last().map_or(0, Vec::len);
+            bytes.truncate(bytes.len() - random.index(last.max(1)));
+            bytes
+        }
+        _ => commands.concat(),
+    }
+}

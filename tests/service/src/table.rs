@@ -1,0 +1,154 @@
+//! A checker of a table's bytes: every rule of docs/LAYOUT.md by itself, whatever made the table.
+//!
+//! Nodes do not say whether they are leaves; the number of levels does. So all leaves are on one
+//! level in any bytes, and that rule has no case here.
+
+mod tree;
+
+use crate::bytes::{
+    ENTRIES_LISTED, FAR_EDGE, HEADER_KEPT, LEG_FLAG, LEG_WORDS, LEVELS, SITES_HELD, leg, listed,
+    number, record_at, sites, word,
+};
+use reference::book::Book;
+use reference::grid::{MOST_SITES, Site, TABLE_LEN};
+use std::collections::BTreeSet;
+
+/// What a table must keep; a broken one gives reason 65.
+#[derive(Clone, Copy, Debug, PartialEq, Eq, PartialOrd, Ord)]
+pub enum Rule {
+    /// 32,768 bytes.
+    Length,
+    /// Bytes 14 to 63 are 0.
+    HeaderKeptZero,
+    AtMost512Sites,
+    NumberNotZero,
+    NumbersRise,
+    SiteOnGrid,
+    RecordKeptZero,
+    /// 0 or 1.
+    LegFlag,
+    LegOnGrid,
+    /// Without a standing leg its four words are 0.
+    NoLegIsZero,
+    /// The numbers of the split list of the standing leg; none without a leg.
+    StandingList,
+    AtMostSixLevels,
+    /// Below 264: the root's id, a child's, a free node's.
+    NodeId,
+    AtMostEightEntries,
+    AtLeastThreeEntries,
+    /// In a root that is no leaf.
+    AtLeastTwoInRoot,
+    /// In a root that is a leaf.
+    AtLeastOneInRoot,
+    /// A box at a leaf is a point.
+    LeafIsPoint,
+    /// A box above the leaves is the smallest one.
+    SmallestBox,
+    EntryKeptZero,
+    /// Every held site is in one leaf entry.
+    SiteInOneLeafEntry,
+    /// Every leaf entry is that of a held site.
+    NoOtherLeafEntry,
+    /// Free nodes and nodes of the tree are 264.
+    FreeCount,
+    /// Each node is once in the tree or once on the stack.
+    NodeOnce,
+}
+
+/// What a sound table says.
+#[derive(Clone, Debug, PartialEq, Eq)]
+pub struct Meaning {
+    pub book: Book,
+    /// The site numbers of the standing list.
+    pub listed: Vec<u16>,
+    pub levels: usize,
+    /// In the tree.
+    pub nodes: usize,
+}
+
+/// The table's meaning, or every rule that it breaks.
+pub fn meaning(table: &[u8]) -> Result<Meaning, Vec<Rule>> {
+    let broken = broken_rules(table);
+    if !broken.is_empty() {
+        return Err(broken);
+    }
+    Ok(Meaning {
+        book: book(table),
+        listed: listed(table),
+        levels: number(table, LEVELS),
+        nodes: tree::nodes(table),
+    })
+}
+
+/// The rules that the bytes break, each once; any bytes will do.
+pub fn broken_rules(table: &[u8]) -> Vec<Rule> {
+    if table.len() != TABLE_LEN {
+        return vec![Rule::Length];
+    }
+    let mut broken = Broken::default();
+    broken.unless(
+        table[HEADER_KEPT].iter().all(|byte| *byte == 0),
+        Rule::HeaderKeptZero,
+    );
+    site_rules(table, &mut broken);
+    leg_rules(table, &mut broken);
+    // A list is that of sites and a leg that can be read.
+    if broken.0.is_empty() {
+        broken.unless(standing_list_holds(table), Rule::StandingList);
+    }
+    tree::rules(table, &sites(table), &mut broken);
+    broken.0.into_iter().collect()
+}
+
+#[derive(Default)]
+struct Broken(BTreeSet<Rule>);
+
+impl Broken {
+    fn unless(&mut self, holds: bool, rule: Rule) {
+        if !holds {
+            self.0.insert(rule);
+        }
+    }
+}
+
+fn site_rules(table: &[u8], broken: &mut Broken) {
+    broken.unless(
+        number(table, SITES_HELD) <= MOST_SITES,
+        Rule::AtMost512Sites,
+    );
+    let mut last = 0;
+    for k in 0..number(table, SITES_HELD).min(MOST_SITES) {
+        let field = |offset| word(table, record_at(k) + offset);
+        broken.unless(field(0) != 0, Rule::NumberNotZero);
+        broken.unless(k == 0 || last < field(0), Rule::NumbersRise);
+        let on_grid = field(2) <= FAR_EDGE && field(4) <= FAR_EDGE;
+        broken.unless(on_grid, Rule::SiteOnGrid);
+        broken.unless(field(6) == 0, Rule::RecordKeptZero);
+        last = field(0);
+    }
+}
+
+fn leg_rules(table: &[u8], broken: &mut Broken) {
+    let words = LEG_WORDS.map(|at| word(table, at));
+    match word(table, LEG_FLAG) {
+        0 => broken.unless(words == [0; 4], Rule::NoLegIsZero),
+        1 => broken.unless(words.iter().all(|w| *w <= FAR_EDGE), Rule::LegOnGrid),
+        _ => broken.unless(false, Rule::LegFlag),
+    }
+}
+
+fn standing_list_holds(table: &[u8]) -> bool {
+    let book = book(table);
+    let list = book.leg.map(|leg| book.split_list(&leg));
+    let numbers = list.iter().flatten().map(|entry| entry.site);
+    number(table, ENTRIES_LISTED) <= MOST_SITES && numbers.eq(listed(table))
+}
+
+fn book(table: &[u8]) -> Book {
+    let line = |site: Site| (site.number, site.position);
+    Book {
+        lines: sites(table).into_iter().map(line).collect(),
+        leg: leg(table),
+    }
+}

@@ -1,0 +1,239 @@
+//! Damaged tables: 65 comes exactly when the checker finds a broken rule, and leaves table and
+//! report; where it finds none, the answer is that of the book in the bytes.
+
+use reference::book::Book;
+use reference::command::{add, list, print, remove, stand};
+use reference::grid::{Leg, MOST_SITES, Site, TABLE_LEN};
+use reference::random::Random;
+use service::bytes::{
+    ENTRY_LEN, Entry, FREE_NODES, LEVELS, NODE_POOL, ROOT, SITE_ARRAY, STACK_END, STANDING_LIST,
+    empty_table, entry_at, node_at, number, put_number,
+};
+use service::damage::{assert_wrong_length_first, flipped, nodes, offer, regions};
+use service::desk::Desk;
+use service::draw::Pool;
+use service::shape::{self, Dealing};
+use service::table::broken_rules;
+use service::{Service, on_each_service};
+use std::collections::BTreeMap;
+
+const SIZES: [usize; 17] = [
+    0, 0, 1, 1, 2, 3, 3, 8, 9, 9, 17, 17, 40, 40, 100, 300, MOST_SITES,
+];
+/// Up to this many sites all eight bits of a byte are flipped, above and on the stack one.
+const FEW_SITES: usize = 9;
+const WORDS_CHANGED: usize = 6_000;
+const ENTRIES_SWAPPED: usize = 2_000;
+const RUBBISH: usize = 1_000;
+const TOUCHED_FREE_BYTES: usize = 500;
+
+on_each_service!(
+    one_flipped_bit_in_every_byte_that_counts,
+    words_changed_to_likely_values,
+    swapped_entries,
+    rubbish,
+    nodes_in_a_ring_or_shared,
+    free_bytes_do_not_count,
+    wrong_lengths_come_before_a_broken_table,
+);
+
+/// A sound table of any shape and its sites' pool.
+fn sound_table(random: &mut Random, count: usize) -> (Vec<u8>, Pool) {
+    let pool = Pool::new(random, count.max(1));
+    let mut additions = pool.additions(random);
+    additions.truncate(count);
+    let mut book = Book::new();
+    book.records(&additions);
+    if !random.once_in(3) {
+        book.records(&[stand(pool.leg(random))]);
+    }
+    let table = match random.between(1, 3) {
+        1 => shape::table(&book, &mut Dealing::Even),
+        2 => shape::table(&book, &mut Dealing::Tallest),
+        _ => shape::table(&book, &mut Dealing::Any(random)),
+    };
+    (table, pool)
+}
+
+/// Commands that read all of the book and change it.
+fn questions(random: &mut Random, pool: &Pool) -> Vec<u8> {
+    let mut commands = vec![list(pool.leg(random)), print(), list(pool.leg(random))];
+    commands.extend(pool.commands(random, 4));
+    commands.extend([add(Site::new(40_000, 3, 4)), print(), remove(40_000)]);
+    commands.concat()
+}
+
+fn one_flipped_bit_in_every_byte_that_counts(service: &impl Service) {
+    let mut random = Random::new(71);
+    let mut told: BTreeMap<&str, [usize; 2]> = BTreeMap::new();
+    for count in SIZES {
+        let (table, pool) = sound_table(&mut random, count);
+        for region in regions(&table) {
+            let outcome = told.entry(region.name).or_default();
+            for at in region.bytes {
+                let bits = if count <= FEW_SITES && region.name != "stack" {
+                    (0..8).collect()
+                } else {
+                    vec![random.index(8)]
+                };
+                for bit in bits {
+                    let commands = questions(&mut random, &pool);
+                    let broken = offer(service, &flipped(&table, at, bit), &commands);
+                    outcome[usize::from(broken.is_empty())] += 1;
+                }
+            }
+        }
+    }
+    println!("refused and taken: {told:?}");
+    assert_eq!(told.len(), 7);
+    assert!(told.values().all(|[refused, _]| *refused >= 100));
+    // A leg that moves a little may have the same list.
+    assert!(told["header"][1] >= 10);
+}
+
+/// A value such as stands somewhere in a table: a count, an id, a number, a coordinate.
+fn likely_value(random: &mut Random, table: &[u8]) -> usize {
+    let nodes = nodes(table);
+    match random.between(1, 5) {
+        1 => random.index(10),
+        2 => random.index(266),
+        3 if !nodes.is_empty() => random.pick(&nodes),
+        4 => 7_990 + random.index(20),
+        _ => number(table, 2 * random.index(STACK_END / 2)),
+    }
+}
+
+fn words_changed_to_likely_values(service: &impl Service) {
+    let mut random = Random::new(72);
+    let (mut refused, mut taken) = (0, 0);
+    for nth in 0..WORDS_CHANGED {
+        let count = random.index(if nth % 20 == 0 { 200 } else { 30 });
+        let (mut table, pool) = sound_table(&mut random, count);
+        for _ in 0..1 + random.index(2) {
+            let regions = regions(&table);
+            let bytes = regions[random.index(regions.len())].bytes.clone();
+            if !bytes.is_empty() {
+                let at = bytes.start + 2 * random.index(bytes.len() / 2);
+                let value = likely_value(&mut random, &table);
+                put_number(&mut table, at, value);
+            }
+            // The next word is picked as long as the table's regions can be read.
+            if !broken_rules(&table).is_empty() {
+                break;
+            }
+        }
+        let commands = questions(&mut random, &pool);
+        match offer(service, &table, &commands)[..] {
+            [] => taken += 1,
+            _ => refused += 1,
+        }
+    }
+    println!("refused {refused}, taken {taken}");
+    assert!(refused >= WORDS_CHANGED / 2 && taken >= WORDS_CHANGED / 50);
+}
+
+/// Two entries anywhere in the tree change places; in one node that is another legal order.
+fn swapped_entries(service: &impl Service) {
+    let mut random = Random::new(73);
+    let (mut refused, mut taken) = (0, 0);
+    for _ in 0..ENTRIES_SWAPPED {
+        let count = 9 + random.index(40);
+        let (mut table, pool) = sound_table(&mut random, count);
+        let nodes = nodes(&table);
+        let mut node = random.pick(&nodes);
+        let mut place = || {
+            let place = entry_at(node, random.index(number(&table, node_at(node))));
+            if random.once_in(2) {
+                node = random.pick(&nodes);
+            }
+            place
+        };
+        let (one, other) = (place(), place());
+        for offset in 0..ENTRY_LEN {
+            table.swap(one + offset, other + offset);
+        }
+        let commands = questions(&mut random, &pool);
+        match offer(service, &table, &commands)[..] {
+            [] => taken += 1,
+            _ => refused += 1,
+        }
+    }
+    println!("refused {refused}, taken {taken}");
+    assert!(refused >= ENTRIES_SWAPPED / 5 && taken >= ENTRIES_SWAPPED / 5);
+}
+
+fn rubbish(service: &impl Service) {
+    let mut random = Random::new(74);
+    let spans = [
+        0..TABLE_LEN,
+        0..SITE_ARRAY,
+        SITE_ARRAY..STANDING_LIST,
+        LEVELS..STACK_END,
+        NODE_POOL..TABLE_LEN,
+    ];
+    let mut refused = 0;
+    for nth in 0..RUBBISH {
+        let count = 1 + random.index(60);
+        let (mut table, pool) = sound_table(&mut random, count);
+        let highest = random.pick(&[1, 8, 255]);
+        for byte in &mut table[spans[nth % spans.len()].clone()] {
+            *byte = u8::try_from(random.between(0, highest)).unwrap();
+        }
+        let commands = questions(&mut random, &pool);
+        refused += usize::from(!offer(service, &table, &commands).is_empty());
+    }
+    for byte in [0x00, 0x01, 0x55, 0xFF] {
+        assert!(!offer(service, &vec![byte; TABLE_LEN], &print()).is_empty());
+    }
+    println!("refused {refused}");
+    assert!(refused >= RUBBISH * 9 / 10);
+}
+
+/// Six levels over few nodes: a search or test without care would read them without end.
+fn nodes_in_a_ring_or_shared(service: &impl Service) {
+    for step in [0, 1] {
+        let mut table = empty_table();
+        put_number(&mut table, LEVELS, 6);
+        put_number(&mut table, ROOT, 0);
+        put_number(&mut table, FREE_NODES, 258);
+        for node in 0..6_u16 {
+            put_number(&mut table, node_at(usize::from(node)), 8);
+            for i in 0..8 {
+                // Every child is the next node, or each node is its own child.
+                let child = Entry::of_site(&Site::new(node + step, 5, 5));
+                child.write(&mut table, usize::from(node), i);
+            }
+        }
+        let commands = [print(), list(Leg::new((0, 0), (9, 9)))].concat();
+        assert!(!offer(service, &table, &commands).is_empty());
+    }
+}
+
+fn free_bytes_do_not_count(service: &impl Service) {
+    let mut random = Random::new(75);
+    for nth in 0..TOUCHED_FREE_BYTES {
+        let count = if nth % 25 == 0 { 400 } else { random.index(40) };
+        let (mut table, pool) = sound_table(&mut random, count);
+        let mut free = vec![true; TABLE_LEN];
+        for region in regions(&table) {
+            free[region.bytes].fill(false);
+        }
+        for at in (0..TABLE_LEN).filter(|at| free[*at]) {
+            table[at] = u8::try_from(random.between(0, 255)).unwrap();
+        }
+        let mut desk = Desk::take_up(service, table);
+        for _ in 0..3 {
+            desk.serve(&questions(&mut random, &pool));
+        }
+    }
+}
+
+fn wrong_lengths_come_before_a_broken_table(service: &impl Service) {
+    let broken = vec![0xFF; TABLE_LEN];
+    for work_len in [0, 1, 8_191, 8_193, TABLE_LEN] {
+        assert_wrong_length_first(service, &broken, work_len);
+    }
+    // Without commands too the table is tested.
+    assert!(!offer(service, &broken, &[]).is_empty());
+    assert!(offer(service, &empty_table(), &[]).is_empty());
+}

@@ -1,0 +1,144 @@
+//! The batch program target/bin/stops, from input to output bytes, beside the second program's.
+#![cfg(feature = "proved")]
+
+use reference::batch_program;
+use reference::command::{add, print, stand};
+use reference::grid::{INPUT_LEN, Leg, MOST_SITES, Site};
+use reference::random::{self, Random};
+use service::desk::LONGEST_RECORD;
+use service::draw::{Pool, unknown_byte};
+use std::io::{Read, Write};
+use std::process::{Command, Stdio};
+use std::thread;
+use std::time::Duration;
+
+const PROGRAM: &str = concat!(env!("CARGO_MANIFEST_DIR"), "/../../target/bin/stops");
+const MEGABYTES: usize = 3;
+
+/// What the program prints when its input comes in these pieces, a moment apart.
+fn run_in_pieces(pieces: &[&[u8]]) -> Vec<u8> {
+    let mut program = Command::new(PROGRAM)
+        .stdin(Stdio::piped())
+        .stdout(Stdio::piped())
+        .spawn()
+        .expect("target/bin/stops is built");
+    let mut input = program.stdin.take().unwrap();
+    let mut output = Vec::new();
+    thread::scope(|scope| {
+        scope.spawn(move || {
+            for (i, piece) in pieces.iter().enumerate() {
+                if i > 0 {
+                    thread::sleep(Duration::from_millis(2));
+                }
+                // After 66 the program reads no further.
+                if input.write_all(piece).is_err() {
+                    break;
+                }
+            }
+        });
+        let mut printed = program.stdout.take().unwrap();
+        printed.read_to_end(&mut output).unwrap();
+    });
+    assert!(program.wait().unwrap().success());
+    output
+}
+
+fn assert_prints(input: &[u8]) -> Vec<u8> {
+    let output = run_in_pieces(&[input]);
+    assert!(output == batch_program::run(input), "{input:02X?}");
+    output
+}
+
+#[test]
+fn the_example_of_document_01() {
+    let input = [
+        0x41, 0x01, 0x00, 0x02, 0x00, 0x03, 0x00, 0x41, 0x02, 0x00, 0x07, 0x00, 0x01, 0x00, 0x4C,
+        0x00, 0x00, 0x00, 0x00, 0x0A, 0x00, 0x00, 0x00,
+    ];
+    let output = [
+        0x2B, 0x2B, 0x3D, 0x02, 0x00, 0x01, 0x00, 0x00, 0x00, 0x00, 0x00, 0x01, 0x00, 0x00, 0x00,
+        0x02, 0x00, 0x25, 0x00, 0x00, 0x00, 0x64, 0x00, 0x00, 0x00, 0x2E, 0x00,
+    ];
+    assert_eq!(assert_prints(&input), output);
+}
+
+#[test]
+fn an_input_cut_at_every_byte() {
+    let mut random = Random::new(121);
+    let input = random::commands(&mut random, 60).concat();
+    for length in 0..=input.len() {
+        assert_prints(&input[..length]);
+    }
+}
+
+#[test]
+fn an_input_in_pieces_cut_at_every_byte_of_its_commands() {
+    let mut random = Random::new(122);
+    let input = random::commands(&mut random, 40).concat();
+    let expected = batch_program::run(&input);
+    for at in 0..=input.len().min(120) {
+        let (first, second) = input.split_at(at);
+        assert_eq!(run_in_pieces(&[first, second]), expected, "{at}");
+    }
+    let crumbs: Vec<&[u8]> = input.chunks(1).collect();
+    assert_eq!(run_in_pieces(&crumbs), expected);
+}
+
+#[test]
+fn commands_across_the_end_of_the_input_buffer() {
+    // The leading prints shift where the buffer's end cuts the commands.
+    for prints in 0..10 {
+        let mut random = Random::new(123);
+        let mut input = print().repeat(prints);
+        input.extend(random::commands(&mut random, 2_500).concat());
+        assert!(input.len() > 3 * INPUT_LEN);
+        assert_prints(&input);
+    }
+}
+
+#[test]
+fn an_unknown_byte_ends_the_program() {
+    let mut random = Random::new(124);
+    for nth in 0..40 {
+        let mut input = random::commands(&mut random, 25 * nth).concat();
+        input.push(unknown_byte(&mut random));
+        input.extend(random::commands(&mut random, 2_000).concat());
+        let output = assert_prints(&input);
+        assert_eq!(output[output.len() - 2..], [0x2E, 66]);
+    }
+    // More than a pipe holds follows.
+    let input = [vec![0x51], print().repeat(1 << 20)].concat();
+    assert_eq!(run_in_pieces(&[&input]), [0x2E, 66]);
+}
+
+#[test]
+fn full_buffers_of_refusals() {
+    for length in [INPUT_LEN - 1, INPUT_LEN, INPUT_LEN + 1, 2 * INPUT_LEN] {
+        let output = assert_prints(&print().repeat(length));
+        assert_eq!(output.len(), 2 * length + 2);
+    }
+}
+
+/// 512 sites that are all listed, and lists between changes.
+#[test]
+fn the_longest_lists() {
+    let mut input = stand(Leg::new((-8000, 0), (8000, 0)));
+    let nth = |number: u16| add(Site::new(number, i64::from(number) * 31 - 7950, 0));
+    input.extend((1..=512).flat_map(nth));
+    for prints in [1, 2, 3, 700] {
+        let output = assert_prints(&[&input[..], &print().repeat(prints)].concat());
+        assert_eq!(output.len(), 1 + MOST_SITES + prints * LONGEST_RECORD + 2);
+    }
+}
+
+#[test]
+fn megabytes() {
+    let mut random = Random::new(125);
+    let pool = Pool::new(&mut random, 60);
+    let mut input = Vec::new();
+    while input.len() < MEGABYTES << 20 {
+        input.extend(pool.commands(&mut random, 1_000).concat());
+    }
+    let output = assert_prints(&input);
+    assert_eq!(output[output.len() - 2..], [0x2E, 0]);
+}

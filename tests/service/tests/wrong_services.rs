@@ -1,0 +1,262 @@
+//! Wrong services, document 01's six and more: the comparisons of the other tests reject each,
+//! and for the reason that it is wrong. Each is the model with one fault.
+
+use reference::command::{Command, LIST, list};
+use reference::grid::{Leg, WORK_LEN};
+use reference::random::Random;
+use reference::record::{ACCEPTED, LISTED, REFUSED};
+use service::bytes::{ENTRIES_LISTED, HEADER_KEPT, LEVELS, ROOT, STACK_END, entry_at, number};
+use service::damage::{assert_wrong_length_first, flipped, offer, regions};
+use service::history::{Size, compare_with_fresh, run};
+use service::shape::{self, Dealing};
+use service::table::meaning;
+use service::{Answer, BROKEN_TABLE, Model, Service};
+
+type Batch = fn(&mut [u8], &mut [u8], &[u8], &mut [u8]) -> Answer;
+
+struct Wrong(Batch);
+
+impl Service for Wrong {
+    fn lay_out(&self, table: &mut [u8]) -> u32 {
+        Model.lay_out(table)
+    }
+
+    fn batch(
+        &self,
+        table: &mut [u8],
+        work: &mut [u8],
+        commands: &[u8],
+        report: &mut [u8],
+    ) -> Answer {
+        (self.0)(table, work, commands, report)
+    }
+}
+
+/// A little of what the other tests do.
+fn trial(service: &impl Service) {
+    let mut random = Random::new(111);
+    for size in [Size::Few, Size::Some].repeat(20) {
+        let mut run = run(&mut random, service, size);
+        compare_with_fresh(&mut random, &mut run);
+        let table = run.desk.table;
+        for region in regions(&table) {
+            if !region.bytes.is_empty() {
+                let at = region.bytes.start + random.index(region.bytes.len());
+                offer(service, &flipped(&table, at, random.index(8)), &[0x50]);
+            }
+        }
+        offer(service, &flipped(&table, STACK_END, 0), &[0x50]);
+        assert_wrong_length_first(service, &table, 0);
+    }
+}
+
+/// The commands one by one, as far as they can be read, and their lengths.
+fn read_all(mut commands: &[u8]) -> Vec<(Command, usize)> {
+    let mut read = Vec::new();
+    while let Ok((command, length)) = Command::read(commands) {
+        read.push((command, length));
+        commands = &commands[length..];
+    }
+    read
+}
+
+#[test]
+fn the_model_passes_the_trial() {
+    trial(&Wrong(|t, w, c, r| Model.batch(t, w, c, r)));
+}
+
+#[test]
+#[should_panic(expected = "the table holds")]
+fn accepts_additions_and_holds_none() {
+    trial(&Wrong(|t, w, c, r| Model.batch(&mut t.to_vec(), w, c, r)));
+}
+
+#[test]
+#[should_panic(expected = "is written, not")]
+fn carries_out_the_first_command_and_writes_2b_for_the_rest() {
+    trial(&Wrong(|t, w, c, r| {
+        let answer = Model.batch(&mut t.to_vec(), w, c, r);
+        let first = read_all(c).first().map_or(0, |(_, length)| *length);
+        let (_, _, written) = Model.batch(t, w, &c[..first], r);
+        r[written..answer.2.max(written)].fill(ACCEPTED);
+        answer
+    }));
+}
+
+#[test]
+#[should_panic(expected = "is written, not")]
+fn prints_one_list_for_all_legs() {
+    trial(&Wrong(|t, w, c, r| {
+        let mut commands = c.to_vec();
+        let mut at = 0;
+        for (command, length) in read_all(c) {
+            if let Command::List(leg) = command
+                && leg.s.on_grid()
+                && leg.e.on_grid()
+            {
+                commands[at..at + length].copy_from_slice(&list(Leg::new((0, 0), (1, 1))));
+            }
+            at += length;
+        }
+        Model.batch(t, w, &commands, r)
+    }));
+}
+
+#[test]
+#[should_panic(expected = "reason, used and written")]
+fn says_5_on_its_first_command() {
+    trial(&Wrong(|t, w, c, r| match read_all(c).first() {
+        Some((_, length)) if r.len() >= 2 && w.len() == WORK_LEN => {
+            w.fill(0);
+            r[..2].copy_from_slice(&[REFUSED, 5]);
+            (0, *length, 2)
+        }
+        _ => Model.batch(t, w, c, r),
+    }));
+}
+
+#[test]
+#[should_panic(expected = "reason, used and written")]
+fn says_68_on_its_first_command() {
+    trial(&Wrong(|t, w, c, r| match Model.batch(t, w, c, r) {
+        (0, used, _) if used > 0 => (68, 0, 0),
+        answer => answer,
+    }));
+}
+
+#[test]
+#[should_panic(expected = "reason, used and written")]
+fn invents_the_used_count() {
+    trial(&Wrong(|t, w, c, r| {
+        let (reason, used, written) = Model.batch(t, w, c, r);
+        (reason, used + 1, written)
+    }));
+}
+
+#[test]
+#[should_panic(expected = "reason, used and written")]
+fn invents_the_written_count() {
+    trial(&Wrong(|t, w, c, r| {
+        let (reason, used, written) = Model.batch(t, w, c, r);
+        (reason, used, written.saturating_sub(1))
+    }));
+}
+
+#[test]
+#[should_panic(expected = "is written, not")]
+fn invents_the_entry_count() {
+    trial(&Wrong(|t, w, c, r| {
+        let answer = Model.batch(t, w, c, r);
+        if answer.2 > 0 && r[0] == LISTED && c[0] == LIST {
+            r[1] += 1;
+        }
+        answer
+    }));
+}
+
+#[test]
+#[should_panic(expected = "reason, used and written")]
+fn refuses_all() {
+    trial(&Wrong(|_, w, c, r| {
+        w.fill(0);
+        let refusals = read_all(c).len().min(r.len() / 2);
+        r[..2 * refusals].copy_from_slice(&[REFUSED, 1].repeat(refusals));
+        (0, c.len(), 2 * refusals)
+    }));
+}
+
+#[test]
+#[should_panic(expected = "the work buffer is")]
+fn leaves_a_byte_in_the_work_buffer() {
+    trial(&Wrong(|t, w, c, r| {
+        let answer = Model.batch(t, w, c, r);
+        if let (0, Some(byte)) = (answer.0, w.last_mut()) {
+            *byte = 1;
+        }
+        answer
+    }));
+}
+
+#[test]
+#[should_panic(expected = "the work buffer is")]
+fn clears_a_work_buffer_of_wrong_length() {
+    trial(&Wrong(|t, w, c, r| {
+        let answer = Model.batch(t, w, c, r);
+        w.fill(0);
+        answer
+    }));
+}
+
+#[test]
+#[should_panic(expected = "the rest of the report is left")]
+fn writes_past_what_it_counts() {
+    trial(&Wrong(|t, w, c, r| {
+        let answer = Model.batch(t, w, c, r);
+        if let (68, Some(byte)) = (answer.0, r[answer.2..].last_mut()) {
+            *byte = 0;
+        }
+        answer
+    }));
+}
+
+#[test]
+#[should_panic(expected = "the table is left by")]
+fn reshapes_the_tree_where_nothing_is_accepted() {
+    trial(&Wrong(|t, w, c, r| {
+        let answer = Model.batch(t, w, c, r);
+        if let (0, Ok(meaning)) = (answer.0, meaning(t)) {
+            let book = meaning.book;
+            shape::write(t, &book.sites(), book.leg, &mut Dealing::Tallest);
+        }
+        answer
+    }));
+}
+
+#[test]
+#[should_panic(expected = "the table breaks [SmallestBox]")]
+fn leaves_a_box_wide() {
+    trial(&Wrong(|t, w, c, r| {
+        let answer = Model.batch(t, w, c, r);
+        let first_box = entry_at(number(t, ROOT), 0);
+        if answer.1 > 0 && number(t, LEVELS) > 1 {
+            t[first_box + 6] ^= 1;
+        }
+        answer
+    }));
+}
+
+#[test]
+#[should_panic(expected = "the table breaks [StandingList]")]
+fn forgets_the_standing_list() {
+    trial(&Wrong(|t, w, c, r| {
+        let answer = Model.batch(t, w, c, r);
+        if answer.2 > 0 && r[0] == ACCEPTED {
+            t[ENTRIES_LISTED] = 0;
+        }
+        answer
+    }));
+}
+
+#[test]
+#[should_panic(expected = "[HeaderKeptZero]")]
+fn takes_a_broken_table() {
+    trial(&Wrong(|t, w, c, r| {
+        let kept = t[HEADER_KEPT].to_vec();
+        t[HEADER_KEPT].fill(0);
+        let answer = Model.batch(t, w, c, r);
+        t[HEADER_KEPT].copy_from_slice(&kept);
+        answer
+    }));
+}
+
+#[test]
+#[should_panic(expected = "reason, used and written")]
+fn refuses_a_table_for_its_free_bytes() {
+    trial(&Wrong(|t, w, c, r| {
+        if t[STACK_END] != 0 {
+            w.fill(0);
+            return (BROKEN_TABLE, 0, 0);
+        }
+        Model.batch(t, w, c, r)
+    }));
+}
