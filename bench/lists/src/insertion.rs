@@ -1,0 +1,134 @@
+//! The proved algorithm in plain Rust: a row of places, each site skipped or inserted in turn.
+
+use crate::shared::{Leg, Vertex, put_record, ready, turns, vertex};
+
+/// Two rows of places; the second is room for work.
+pub struct Rows {
+    list: [u16; 512],
+    spare: [u16; 512],
+}
+
+impl Rows {
+    pub fn new() -> Self {
+        Rows {
+            list: [0; 512],
+            spare: [0; 512],
+        }
+    }
+}
+
+/// Which sites a list is built from.
+#[derive(Clone, Copy)]
+struct Sites<'t> {
+    table: &'t [u8],
+    leg: Leg,
+}
+
+impl Sites<'_> {
+    fn vertex(self, place: u16) -> Vertex {
+        vertex(self.table, self.leg, usize::from(place))
+    }
+
+    /// How many of the row are not right of a.
+    fn cut(self, row: &[u16], a: u32) -> usize {
+        let (mut low, mut high) = (0, row.len());
+        while low < high {
+            let middle = low + (high - low) / 2;
+            if self.vertex(row[middle]).a <= a {
+                low = middle + 1;
+            } else {
+                high = middle;
+            }
+        }
+        low
+    }
+
+    /// Whether the row shows that x cannot be listed: by its last vertex, its first, or one edge.
+    fn covers(self, row: &[u16], x: Vertex) -> bool {
+        let (Some(first), Some(last)) = (row.first(), row.last()) else {
+            return false;
+        };
+        if lower(self.vertex(*last), x) || lower(self.vertex(*first), x) {
+            return true;
+        }
+        let n = self.cut(row, x.a);
+        0 < n && n < row.len() && above(self.vertex(row[n - 1]), self.vertex(row[n]), x)
+    }
+
+    /// Whether x may stand on the row, of which u is the last.
+    fn stands(self, row: &[u16], u: Vertex, x: Vertex) -> bool {
+        if x.a <= u.a || u.c <= x.c {
+            return false;
+        }
+        row.len() == 1 || turns(self.vertex(row[row.len() - 2]), u, x)
+    }
+
+    /// Pushes x on the first k, off which it drops what it takes over.
+    fn push(self, row: &mut [u16], k: usize, place: u16, x: Vertex) -> usize {
+        let mut j = k;
+        while j > 0 {
+            let u = self.vertex(row[j - 1]);
+            if hides(u, x) {
+                return j;
+            }
+            if self.stands(&row[..j], u, x) {
+                break;
+            }
+            j -= 1;
+        }
+        row[j] = place;
+        j + 1
+    }
+
+    /// Inserts x into the list in the first k: what is right of it is pushed again.
+    fn insert(self, rows: &mut Rows, k: usize, place: u16, x: Vertex) -> usize {
+        let n = self.cut(&rows.list[..k], x.a);
+        rows.spare[..k].copy_from_slice(&rows.list[..k]);
+        let mut s = self.push(&mut rows.list, n, place, x);
+        for i in n..k {
+            // On two neighbours of the old list its rest stands as it did.
+            if i >= 2 && s >= 2 && rows.spare[i - 2..i] == rows.list[s - 2..s] {
+                rows.list[s..s + k - i].copy_from_slice(&rows.spare[i..k]);
+                return s + k - i;
+            }
+            let next = rows.spare[i];
+            s = self.push(&mut rows.list, s, next, self.vertex(next));
+        }
+        s
+    }
+}
+
+/// Whether u hides x, which is not left of it.
+fn hides(u: Vertex, x: Vertex) -> bool {
+    u.c < x.c || (u.c == x.c && (u.a < x.a || u.number <= x.number))
+}
+
+/// Whether v is as near as x at both ends, and nearer at one.
+fn lower(v: Vertex, x: Vertex) -> bool {
+    v.a <= x.a && v.c <= x.c && v.a + v.c < x.a + x.c
+}
+
+/// Whether x is strictly above the edge of u and v.
+fn above(u: Vertex, v: Vertex, x: Vertex) -> bool {
+    if v.a <= u.a || u.c <= v.c || x.a < u.a || x.c < v.c {
+        return false;
+    }
+    let (fall, rise) = (u64::from(u.c - v.c), u64::from(v.a - u.a));
+    let weigh = |p: Vertex| fall * u64::from(p.a) + rise * u64::from(p.c);
+    weigh(v) < weigh(x)
+}
+
+pub fn list(table: &[u8], n: usize, leg: Leg, rows: &mut Rows, report: &mut [u8]) -> usize {
+    if !ready(table, n, leg) {
+        return 0;
+    }
+    let sites = Sites { table, leg };
+    let mut k = 0;
+    for place in (0..n as u16).rev() {
+        let x = sites.vertex(place);
+        if !sites.covers(&rows.list[..k], x) {
+            k = sites.insert(rows, k, place, x);
+        }
+    }
+    put_record(k, |i| sites.vertex(rows.list[i]), report)
+}

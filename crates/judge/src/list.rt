@@ -1,0 +1,77 @@
+// The commands with a leg: its list, the standing leg, the standing list.
+use crate::Answer;
+use book::Cause;
+use grid::Leg;
+use standing::Standing;
+ghost use mathlib.Core.Path.{_≡_};
+ghost use mathlib.Core.Option.{some};
+ghost use Prim.Native.Nat.{_*_, _≤_};
+ghost use lib.ListN.{length};
+ghost use Rattle.grid.specs.Position.{LegOnGrid};
+ghost use Rattle.grid.specs.Says.{Says};
+ghost use Rattle.book.specs.declared.Command.{Command};
+ghost use Rattle.row.specs.Vertices.{rowBytes};
+ghost use Rattle.standing.specs.Standing.{legIn};
+ghost use Rattle.table.specs.Table.{Sound};
+ghost use Rattle.judge.specs.Judged.{Judged, Settled};
+
+// Whether both ends of a leg are on the grid.
+fn leg_on_grid(leg: Leg) -> bool
+    ensures { λ r. ⌜ Says r (LegOnGrid leg) ⌝ }
+{
+    if grid::coordinate::on_grid(leg.s) {
+        return grid::coordinate::on_grid(leg.e);
+    }
+    false
+}
+
+// A list: leg, site.
+pub fn list(t: &[u8], work: &mut [u8], leg: Leg) -> Answer
+    requires { ⌜ Sound (now t) × (2 * rowBytes ≤ length (now work)) ⌝ }
+    ensures { λ r. ⌜ Judged r (Command.List leg) (now (t .entry)) (now (work .exit)) ⌝ }
+{
+    if leg_on_grid(leg) {
+        let n = sites::count(t);
+        if n == 0 {
+            return Answer::Refused(Cause::NoSite);
+        }
+        let k = tree_search::search(t, leg, work);
+        return Answer::Listed(leg, k);
+    }
+    Answer::Refused(Cause::OffGrid)
+}
+
+// A standing leg: leg.
+pub fn stand(t: &[u8], leg: Leg) -> Answer
+    ensures { λ r. ⌜ Settled r (Command.Stand leg) (now (t .entry)) ⌝ }
+{
+    if leg_on_grid(leg) {
+        return Answer::Done;
+    }
+    Answer::Refused(Cause::OffGrid)
+}
+
+// The standing list of a leg: site.
+fn stored(t: &[u8], work: &mut [u8], leg: Leg) -> Answer
+    requires { ⌜ Sound (now t) × (legIn (now t) ≡ some leg) × (2 * rowBytes ≤ length (now work)) ⌝ }
+    ensures { λ r. ⌜ Judged r Command.Print (now (t .entry)) (now (work .exit)) ⌝ }
+{
+    let n = sites::count(t);
+    if n == 0 {
+        return Answer::Refused(Cause::NoSite);
+    }
+    let k = stored_list::load(t, work, leg);
+    Answer::Listed(leg, k)
+}
+
+// The standing list: leg, site.
+pub fn print(t: &[u8], work: &mut [u8]) -> Answer
+    requires { ⌜ Sound (now t) × (2 * rowBytes ≤ length (now work)) ⌝ }
+    ensures { λ r. ⌜ Judged r Command.Print (now (t .entry)) (now (work .exit)) ⌝ }
+{
+    let s = standing::leg(t);
+    match s {
+        Standing::Unset => Answer::Refused(Cause::NoLeg),
+        Standing::Along(leg) => stored(t, work, leg),
+    }
+}

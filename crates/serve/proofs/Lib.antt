@@ -1,0 +1,3 @@
+pub mod Recording
+pub mod Carrying
+pub mod Turns

@@ -1,0 +1,78 @@
+// The commands of a batch, in turn, on a sound table. Document 01, "The site book".
+pub mod carry;
+pub mod record;
+
+use book::BatchResult;
+use book::Command;
+use book::Parsed;
+use book::Reason;
+use judge::Answer;
+ghost use Prim.Native.Nat.{_+_, _*_, _≤_};
+ghost use lib.ListN.{length};
+ghost use Rattle.row.specs.Vertices.{rowBytes};
+ghost use Rattle.table.specs.Table.{Sound};
+ghost use Rattle.judge.specs.Judged.{Judged};
+ghost use Rattle.serve.specs.Serving.{sizeOf, Obeyed, Answered};
+
+// Writes the record of a judged command, and carries it out if it is accepted.
+fn obey(t: &mut [u8], work: &mut [u8], c: Command, a: Answer, report: &mut [u8], at: usize)
+    requires { ⌜ Sound (now t) × (2 * rowBytes ≤ length (now work)) × Judged a c (now t) (now work) × (at + sizeOf a ≤ length (now report)) ⌝ }
+    ensures { λ _. ⌜ Obeyed c (now (t .entry)) (now (t .exit)) (now (report .entry)) at (now (report .exit)) ⌝ }
+{
+    record::put(t, work, a, report, at);
+    match a {
+        Answer::Done => carry::carry(t, work, c),
+        Answer::Refused(_) => {}
+        Answer::Listed(_, _) => {}
+    }
+}
+
+// Takes the commands in turn until one ends the batch.
+pub fn serve(t: &mut [u8], work: &mut [u8], commands: &[u8], report: &mut [u8]) -> BatchResult
+    requires { ⌜ Sound (now t) × (2 * rowBytes ≤ length (now work)) ⌝ }
+    ensures { λ r. ⌜ Answered (now (commands .entry)) (now (t .entry)) (now (report .entry)) r (now (t .exit)) (now (report .exit)) ⌝ }
+{
+    let mut used = 0;
+    let mut written = 0;
+    loop {
+        let p = parse::parse(commands, used);
+        match p {
+            Parsed::End => {
+                return BatchResult {
+                    reason: Reason::AllUsed,
+                    used: used,
+                    written: written,
+                };
+            }
+            Parsed::Unknown => {
+                return BatchResult {
+                    reason: Reason::UnknownCommand,
+                    used: used,
+                    written: written,
+                };
+            }
+            Parsed::Cut => {
+                return BatchResult {
+                    reason: Reason::CutShort,
+                    used: used,
+                    written: written,
+                };
+            }
+            Parsed::Whole(c, next) => {
+                let a = judge::judge(t, work, c);
+                let size = record::size(a);
+                if report.len() - written < size {
+                    return BatchResult {
+                        reason: Reason::NoRoom,
+                        used: used,
+                        written: written,
+                    };
+                }
+                let upto = written + size;
+                obey(t, work, c, a, report, written);
+                used = next;
+                written = upto;
+            }
+        }
+    }
+}

@@ -1,0 +1,137 @@
+-- The test's answers, one law for each return.
+-- Assumes nothing.
+use mathlib.Core.Path.{_≡_, refl, sym, ap, subst, _∙_}
+use mathlib.Core.Bool.{Bool, true, false}
+use mathlib.Core.List.{List, []}
+use mathlib.Core.Option.{Option, none, some}
+use Prim.Native.Nat.{ℕ, _+_, _≤_, _<_}
+use native.Mathlib.Omega.{arith}
+use lib.ListN.{length}
+use lib.Dec.{eqb}
+use borrow.Author.Tests.{eqb-true, eqb-false}
+use Rattle.limits.specs.Limits.{maxSites, tableBytes}
+use Rattle.words.specs.Words.{wordAt}
+use Rattle.grid.specs.declared.Leg.{Leg}
+use Rattle.grid.specs.Position.{OnGrid, LegOnGrid}
+use Rattle.grid.specs.Says.{Says}
+use Rattle.row.specs.Vertices.{entriesIn}
+use Rattle.book.specs.Book.{listOf, standingList}
+use Rattle.book.specs.Proper.{LegOk}
+use Rattle.sites.specs.Lines.{countIn, linesIn}
+use Rattle.sites.specs.Rules.{SitesOk}
+use Rattle.sites.proofs.Reading.{lines-length, number-at}
+use Rattle.sites.proofs.Order.{rising-at}
+use Rattle.standing.specs.declared.Standing.{Standing}
+use Rattle.standing.specs.Layout.{lengthStart, listStart}
+use Rattle.standing.specs.Standing.{legIn, wordsFrom, standingIn, numbersOf, HeaderOk, asOption}
+use Rattle.node.specs.Told.{Told}
+use Rattle.tree_search.specs.Searching.{Found}
+use Rattle.tree_search.proofs.Finding.{found-is}
+use Rattle.tree_check.specs.Sites.{numberAt, Rising}
+use Rattle.tree_check.specs.Tied.{Tied}
+use Rattle.table.specs.Table.{bookOf, Whole, StandingOk, Sound}
+use Rattle.table_check.proofs.Matching.{words-length}
+use Rattle.table_change.proofs.Points.{tree-sites}
+use Rattle.table_change.proofs.Restanding.{whole-numbered}
+
+clash : true ≡ false → ⊥
+clash x = let z : _≡_ {A = ℕ} 0 1 = cc in omega arith
+
+says-yes : {A : Type 0} (q : Bool) → Says q A → q ≡ true → A
+says-yes true s e = s
+says-yes false s e = absurd (clash (sym e))
+
+says-no : {A : Type 0} (q : Bool) → Says q A → q ≡ false → ¬ A
+says-no true s e = absurd (clash e)
+says-no false s e = s
+
+says-map : {A B : Type 0} (q : Bool) → (A → B) → (B → A) → Says q A → Says q B
+says-map true f g s = f s
+says-map false f g s = λ b. s (g b)
+
+-- ---- legs
+
+pub leg-both : (l : Leg) (q r : Bool) → Says q (OnGrid (l .s)) → q ≡ true → Says r (OnGrid (l .e)) → Says r (LegOnGrid l)
+leg-both l q r s e t = says-map r (λ x. record { s = says-yes q s e; e = x }) (λ x. x .e) t
+
+pub leg-not : (l : Leg) (q : Bool) → Says q (OnGrid (l .s)) → q ≡ false → ¬ LegOnGrid l
+leg-not l q s e x = says-no q s e (x .s)
+
+-- ---- the standing leg and list
+
+module _ (b : List ℕ) (s : Standing) (w : Whole b) (q : asOption s ≡ legIn b) where
+  pub unset-says : (n : ℕ) → s ≡ Standing.Unset → n ≡ wordAt b lengthStart → Says (eqb n 0) (StandingOk b)
+  unfolding standingIn wordsFrom numbersOf
+  unset-says n u e = go (eqb n 0) refl
+    where
+      leg : legIn b ≡ none
+      leg = sym q ∙ ap asOption u
+
+      list : numbersOf (standingList (bookOf b)) ≡ []
+      list = ap (λ (o : Option Leg). numbersOf (listOf o (linesIn b))) leg
+
+      go : (t : Bool) → eqb n 0 ≡ t → Says t (StandingOk b)
+      go true z =
+          record {
+            leg = subst LegOk (sym leg) tt;
+            list = ap (wordsFrom b listStart) (sym e ∙ eqb-true n 0 z) ∙ sym list;
+          }
+      go false z = λ x. eqb-false n 0 z (e ∙ (omega (arith, words-length b listStart (wordAt b lengthStart), ap length (x .list ∙ list))))
+
+  module _ (l : Leg) (a : s ≡ Standing.Along l) where
+    leg-is : legIn b ≡ some l
+    leg-is = sym q ∙ ap asOption a
+
+    pub along-off : (t : Bool) → Says t (LegOnGrid l) → t ≡ false → ¬ StandingOk b
+    along-off t h e x = says-no t h e (subst LegOk leg-is (x .leg))
+
+    pub along-grid : (t : Bool) → Says t (LegOnGrid l) → t ≡ true → LegOnGrid l
+    along-grid t h e = says-yes t h e
+
+    pub along-says : (t u : Bool) (r r′ : List ℕ) (k : ℕ) → Says t (LegOnGrid l) → t ≡ true → Found l b r r′ k
+        → Says u (standingIn b ≡ numbersOf (entriesIn l b r′ k)) → Says u (StandingOk b)
+    along-says t u r r′ k h e f m =
+        says-map u
+        (λ x. record { leg = subst LegOk (sym leg-is) (says-yes t h e); list = x ∙ right })
+        (λ x. x .list ∙ sym right)
+        m
+      where
+        right : numbersOf (entriesIn l b r′ k) ≡ numbersOf (standingList (bookOf b))
+        right =
+            ap numbersOf (found-is f (linesIn b) (whole-numbered b w) (tree-sites b w))
+            ∙ sym (ap (λ (o : Option Leg). numbersOf (listOf o (linesIn b))) leg-is)
+
+-- ---- sites, header and tree
+
+pub sites-rise : (b : List ℕ) (q : Bool) (n : ℕ) → Says q (SitesOk b) → q ≡ true → n ≡ countIn b → Rising n b
+unfolding Rising numberAt
+sites-rise b q n s e c k h =
+    let ok = says-yes q s e in
+    let i : k + 1 < length (linesIn b) = omega (arith, lines-length b) in
+    omega (arith, rising-at (linesIn b) (ok .rising) k (k + 1) (omega arith) i, number-at b k (omega arith), number-at b (k + 1) (omega arith))
+
+pub sites-few : (b : List ℕ) (q : Bool) (n : ℕ) → Says q (SitesOk b) → q ≡ true → n ≡ countIn b → n ≤ maxSites
+sites-few b q n s e c = omega (arith, says-yes q s e .few)
+
+module _ (b : List ℕ) (len : length b ≡ tableBytes) where
+  pub sites-not : (q : Bool) → Says q (SitesOk b) → q ≡ false → ¬ Whole b
+  sites-not q s e w = says-no q s e (w .sites)
+
+  pub header-not : (q : Bool) → Says q (HeaderOk b) → q ≡ false → ¬ Whole b
+  header-not q s e w = says-no q s e (w .header)
+
+  pub whole-says : (q p r : Bool) (n : ℕ) → Says q (SitesOk b) → q ≡ true → Says p (HeaderOk b) → p ≡ true → n ≡ countIn b → Told r (Tied n b) (Unit {0}) → Says r (Whole b)
+  whole-says q p true n s e h f c t =
+      record { len = len; sites = says-yes q s e; header = says-yes p h f; tree = subst (λ (m : ℕ). Tied m b) c (t .yes refl .0) }
+  whole-says q p false n s e h f c t = λ w. t .no refl (subst (λ (m : ℕ). Tied m b) (sym c) (w .tree))
+
+-- ---- both halves
+
+pub whole-not : (b : List ℕ) (q : Bool) → Says q (Whole b) → q ≡ false → ¬ Sound b
+whole-not b q s e x = says-no q s e (x .whole)
+
+pub whole-yes : (b : List ℕ) (q : Bool) → Says q (Whole b) → q ≡ true → Whole b
+whole-yes b q s e = says-yes q s e
+
+pub sound-says : (b : List ℕ) (q r : Bool) → Says q (Whole b) → q ≡ true → Says r (StandingOk b) → Says r (Sound b)
+sound-says b q r s e t = says-map r (λ x. record { whole = says-yes q s e; standing = x }) (λ x. x .standing) t
