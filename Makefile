@@ -1,13 +1,9 @@
-# make test: proves every crate and runs all tests. make demo: what can be tried today. make bench: ratios to plain Rust.
-.PHONY: test demo bench
-
-test:
-	bash .ci/run
-
-demo:
-	@echo "The proved batch program is not built yet. This is the second program, plain Rust, on the example of document 01:"
-	@cd tests && cargo run --offline --quiet --example batch
+# make test: proves every crate and runs all tests. make demo:
+	rt check stops
+	target/bin/stops < crates/stops/stdin | od -An -tx1
 
 bench:
 	rt staticlib list_probe
+	rt staticlib host
 	cargo run --offline --release --manifest-path bench/lists/Cargo.toml
+	cargo run --offline --release --manifest-path bench/nodes/Cargo.toml

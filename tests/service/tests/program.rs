@@ -1,5 +1,5 @@
 //! The batch program target/bin/stops, from input to output bytes, beside the second program's.
-#![cfg(feature = "program")]
+#![cfg(feature = "proved")]
 
 use reference::batch_program;
 use reference::command::{add, print, stand};

@@ -1,0 +1,76 @@
+//! Random legs of given lengths.
+
+use reference::grid::{HALF_WIDTH, Leg, Position};
+use reference::random::Random;
+
+/// Which legs a row is about.
+#[derive(Clone, Copy)]
+pub enum Length {
+    /// Of just so many steps, in any direction.
+    Of(i64),
+    /// Every length up to it alike.
+    UpTo(i64),
+    /// Both ends anywhere on the grid.
+    Any,
+}
+
+impl Length {
+    pub fn name(self) -> String {
+        match self {
+            Length::Of(steps) => format!("of {steps}"),
+            Length::UpTo(steps) => format!("up to {steps}"),
+            Length::Any => "any".to_string(),
+        }
+    }
+
+    /// Whether every leg is of at most so many steps.
+    pub fn within(self, most: i64) -> bool {
+        matches!(self, Length::Of(steps) | Length::UpTo(steps) if steps <= most)
+    }
+
+    pub fn leg(self, random: &mut Random) -> Leg {
+        match self {
+            Length::Of(steps) => leg_of(random, steps),
+            Length::UpTo(steps) => {
+                let steps = random.between(0, steps);
+                leg_of(random, steps)
+            }
+            Length::Any => Leg {
+                s: anywhere(random),
+                e: anywhere(random),
+            },
+        }
+    }
+}
+
+/// So many steps in a random direction, rounded to the grid; drawn again where it ends off it.
+fn leg_of(random: &mut Random, steps: i64) -> Leg {
+    let along = |part: f64| (part * steps as f64).round() as i64;
+    loop {
+        let s = anywhere(random);
+        let (east, north) = direction(random);
+        let e = Position::new(s.east + along(east), s.north + along(north));
+        if e.on_grid() {
+            return Leg { s, e };
+        }
+    }
+}
+
+fn anywhere(random: &mut Random) -> Position {
+    let corner = |by| Position::new(by, by);
+    random.position(corner(-HALF_WIDTH), corner(HALF_WIDTH))
+}
+
+/// A vector of length 1: that of a random point in a disc.
+fn direction(random: &mut Random) -> (f64, f64) {
+    const RADIUS: i64 = 1_000_000;
+    loop {
+        let east = random.between(-RADIUS, RADIUS);
+        let north = random.between(-RADIUS, RADIUS);
+        let squared = east * east + north * north;
+        if 0 < squared && squared <= RADIUS * RADIUS {
+            let length = (squared as f64).sqrt();
+            return (east as f64 / length, north as f64 / length);
+        }
+    }
+}

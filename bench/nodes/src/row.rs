@@ -1,0 +1,157 @@
+//! The proved list in plain Rust (crates row, row_skip and row_insert): a row of vertices, each
+//! site skipped or inserted in turn.
+
+use reference::fraction::Fraction;
+use service::bytes::Entry;
+
+/// The leg's words: easting and northing of S, then of E, counted from the south-west corner.
+pub type Leg = [u16; 4];
+
+/// Least squared distances from S and from E of what lies in a box.
+#[derive(Clone, Copy)]
+pub struct Corner {
+    pub a: u32,
+    pub c: u32,
+}
+
+/// A site in hand: its squared distances from S and from E, and its leaf entry.
+#[derive(Clone, Copy)]
+pub struct Vertex {
+    pub corner: Corner,
+    pub site: Entry,
+}
+
+fn squared(distance: u16) -> u32 {
+    u32::from(distance) * u32::from(distance)
+}
+
+/// How far x is outside `low..=high`.
+fn outside(low: u16, high: u16, x: u16) -> u16 {
+    low.saturating_sub(x).max(x.saturating_sub(high))
+}
+
+fn from_area(area: Entry, east: u16, north: u16) -> u32 {
+    let across = outside(area.west, area.east, east);
+    let up = outside(area.south, area.north, north);
+    squared(across) + squared(up)
+}
+
+impl Corner {
+    pub fn of([s_east, s_north, e_east, e_north]: Leg, area: Entry) -> Self {
+        Corner {
+            a: from_area(area, s_east, s_north),
+            c: from_area(area, e_east, e_north),
+        }
+    }
+}
+
+impl Vertex {
+    /// Of a leaf entry, whose box is a point.
+    pub fn of(leg: Leg, site: Entry) -> Self {
+        Vertex {
+            corner: Corner::of(leg, site),
+            site,
+        }
+    }
+}
+
+/// The vertices of a list, the one nearest to S first.
+#[derive(Default)]
+pub struct Row(Vec<Vertex>);
+
+impl Row {
+    pub fn vertices(&self) -> &[Vertex] {
+        &self.0
+    }
+
+    /// Where the vertex at i takes over from the one before; 0 at the first.
+    pub fn start(&self, i: usize) -> Fraction {
+        if i == 0 {
+            return Fraction::ZERO;
+        }
+        let (p, q) = (self.0[i - 1].corner, self.0[i].corner);
+        let (rise, fall) = (u64::from(q.a - p.a), u64::from(p.c - q.c));
+        Fraction::new(rise, rise + fall).reduced()
+    }
+
+    /// How many are not right of a.
+    fn cut(&self, a: u32) -> usize {
+        self.0.partition_point(|vertex| vertex.corner.a <= a)
+    }
+
+    /// Whether the list shuts out the corner: by its last vertex, its first, or one edge.
+    pub fn covers(&self, x: Corner) -> bool {
+        let (Some(first), Some(last)) = (self.0.first(), self.0.last()) else {
+            return false;
+        };
+        if lower(last.corner, x) || lower(first.corner, x) {
+            return true;
+        }
+        let n = self.cut(x.a);
+        0 < n && n < self.0.len() && above(self.0[n - 1].corner, self.0[n].corner, x)
+    }
+
+    /// Skips the site or inserts it.
+    pub fn deal(&mut self, x: Vertex) {
+        if self.covers(x.corner) {
+            return;
+        }
+        let n = self.cut(x.corner.a);
+        let right = self.0.split_off(n);
+        self.push(x);
+        right.into_iter().for_each(|vertex| self.push(vertex));
+    }
+
+    /// Pushes x, which is not left of any, and drops what it takes over.
+    fn push(&mut self, x: Vertex) {
+        while let Some(&u) = self.0.last() {
+            if hides(u, x) {
+                return;
+            }
+            if self.stands(u.corner, x.corner) {
+                break;
+            }
+            self.0.pop();
+        }
+        self.0.push(x);
+    }
+
+    /// Whether x may stand on the row, of which u is the last.
+    fn stands(&self, u: Corner, x: Corner) -> bool {
+        if x.a <= u.a || u.c <= x.c {
+            return false;
+        }
+        self.0.len() == 1 || turns(self.0[self.0.len() - 2].corner, u, x)
+    }
+}
+
+fn product(x: u32, y: u32) -> u64 {
+    u64::from(x) * u64::from(y)
+}
+
+/// Whether the changeover from s to u comes before that from u to x.
+fn turns(s: Corner, u: Corner, x: Corner) -> bool {
+    product(u.a - s.a, u.c - x.c) < product(x.a - u.a, s.c - u.c)
+}
+
+/// Whether u hides x, which is not left of it.
+fn hides(u: Vertex, x: Vertex) -> bool {
+    let by_number = u.site.reference <= x.site.reference;
+    let (u, x) = (u.corner, x.corner);
+    u.c < x.c || (u.c == x.c && (u.a < x.a || by_number))
+}
+
+/// Whether v is as low as x in both, and lower in one.
+fn lower(v: Corner, x: Corner) -> bool {
+    v.a <= x.a && v.c <= x.c && v.a + v.c < x.a + x.c
+}
+
+/// Whether x is strictly above the edge of u and v.
+fn above(u: Corner, v: Corner, x: Corner) -> bool {
+    if v.a <= u.a || u.c <= v.c || x.a < u.a || x.c < v.c {
+        return false;
+    }
+    let (fall, rise) = (u.c - v.c, v.a - u.a);
+    let weigh = |p: Corner| product(fall, p.a) + product(rise, p.c);
+    weigh(v) < weigh(x)
+}

@@ -1,0 +1,85 @@
+//! Full tables, made by the proved batch call alone.
+
+use reference::command;
+use reference::grid::{HALF_WIDTH, MOST_SITES, Position, Site, TABLE_LEN, WORK_LEN};
+use reference::random::Random;
+use reference::record::ACCEPTED;
+use service::{Proved, Service};
+
+/// How the sites lie.
+#[derive(Clone, Copy)]
+pub enum Lie {
+    Anywhere,
+    Clustered,
+}
+
+const CLUSTERS: usize = 16;
+/// From a cluster's middle to its edge.
+const CLUSTER_REACH: i64 = 300;
+
+/// Where the sites of one table may lie.
+struct Ground(Vec<(Position, Position)>);
+
+impl Ground {
+    fn new(random: &mut Random, lie: Lie) -> Self {
+        let low = Position::new(-HALF_WIDTH, -HALF_WIDTH);
+        let high = Position::new(HALF_WIDTH, HALF_WIDTH);
+        let inner = HALF_WIDTH - CLUSTER_REACH;
+        let mut cluster = || {
+            let east = random.between(-inner, inner);
+            let north = random.between(-inner, inner);
+            let corner = |by| Position::new(east + by, north + by);
+            (corner(-CLUSTER_REACH), corner(CLUSTER_REACH))
+        };
+        match lie {
+            Lie::Anywhere => Ground(vec![(low, high)]),
+            Lie::Clustered => Ground((0..CLUSTERS).map(|_| cluster()).collect()),
+        }
+    }
+
+    fn additions(&self, random: &mut Random, numbers: &[u16]) -> Vec<u8> {
+        let mut site = |number| {
+            let (low, high) = random.pick(&self.0);
+            let position = random.position(low, high);
+            Site { number, position }
+        };
+        let additions = numbers.iter().map(|number| command::add(site(*number)));
+        additions.collect::<Vec<_>>().concat()
+    }
+}
+
+/// A table of 512 sites. In each round of its history a random half is removed, and as many are
+/// added elsewhere.
+pub fn full_table(random: &mut Random, lie: Lie, rounds: usize) -> Vec<u8> {
+    let mut table = vec![0; TABLE_LEN];
+    assert_eq!(Proved.lay_out(&mut table), 0);
+    let ground = Ground::new(random, lie);
+    let mut numbers: Vec<u16> = (1..).take(MOST_SITES).collect();
+    random.shuffle(&mut numbers);
+    change(&mut table, &ground.additions(random, &numbers));
+    for _ in 0..rounds {
+        random.shuffle(&mut numbers);
+        let half = &mut numbers[..MOST_SITES / 2];
+        let removals: Vec<_> = half.iter().map(|number| command::remove(*number)).collect();
+        change(&mut table, &removals.concat());
+        random.shuffle(half);
+        change(&mut table, &ground.additions(random, half));
+    }
+    table
+}
+
+/// Commands that are all accepted.
+fn change(table: &mut [u8], commands: &[u8]) {
+    let report = serve(table, commands, MOST_SITES);
+    assert!(report.iter().all(|byte| *byte == ACCEPTED));
+}
+
+/// One batch call that uses all commands; its report.
+pub fn serve(table: &mut [u8], commands: &[u8], room: usize) -> Vec<u8> {
+    let mut report = vec![0; room];
+    let mut work = vec![0; WORK_LEN];
+    let (reason, used, written) = Proved.batch(table, &mut work, commands, &mut report);
+    assert_eq!((reason, used), (0, commands.len()));
+    report.truncate(written);
+    report
+}

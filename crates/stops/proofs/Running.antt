@@ -1,0 +1,98 @@
+-- The program's turns, one after the other.
+-- Assumes nothing.
+use mathlib.Core.Path.{_≡_, refl, sym, subst, _∙_}
+use mathlib.Core.List.{List, [], _∷_, _++_}
+use Prim.Native.Nat.{ℕ, _≤_}
+use native.Mathlib.Omega.{arith}
+use lib.ListN.{length, take}
+use borrow.Author.Tests.{eq-eqb}
+use Rattle.limits.specs.Limits.{tableBytes, workBytes}
+use Rattle.book.specs.declared.Reason.{Reason}
+use Rattle.book.specs.declared.Reason.the-variants.{AllUsed}
+use Rattle.table.specs.Table.{Sound}
+use Rattle.demands.specs.Batch.{LaidOut}
+use Rattle.demands.specs.Whole.{Call, MadeOn, Made}
+use Rattle.demands.specs.Whole.Made.{none, next}
+use Rattle.demands.proofs.WholeRun.{laid-holds}
+use Rattle.stops.specs.declared.Next.{Next}
+use Rattle.stops.specs.declared.Next.the-variants.{More, End, Closed}
+use Rattle.stops.specs.Session.{longestCommand, longestRecord, Follows, restOf, Turned, Takes, Fed, Session, Program}
+use Rattle.stops.specs.Session.Fed.{start, more}
+use Rattle.stops.specs.Session.Calls.{ended, closed, spent}
+use Rattle.stops.proofs.Serving.{sound-after}
+
+-- the table that the program lays out
+laid-as : (t t₁ : List ℕ) (r : Reason) → length t ≡ tableBytes → LaidOut t r t₁ → LaidOut t AllUsed t₁
+laid-as t t₁ r l h = rw (← h .laid (eq-eqb (length t) tableBytes l) .0) h
+
+pub laid-sound : (t t₁ : List ℕ) (r : Reason) → length t ≡ tableBytes → LaidOut t r t₁ → Sound t₁
+laid-sound t t₁ r l h = laid-holds t t₁ (laid-as t t₁ r l h) .sound
+
+pub program : (size room : ℕ) (t t₁ : List ℕ) (r : Reason) (x : Next) (t′ : List ℕ) → length t ≡ tableBytes → LaidOut t r t₁ → Session size room t₁ x t′
+    → Program size room x t′
+program size room t t₁ r x t′ l h s =
+    record { calls = s .calls; are = s .are; ran = record { before = t; laid-table = t₁; laid = laid-as t t₁ r l h; made = s .made } }
+
+-- one call more
+made-more : (t : List ℕ) (cs : List Call) (t₁ : List ℕ) (c : Call) (t′ : List ℕ) → Made t cs t₁ → MadeOn t₁ c t′ → Made t (cs ++ (c ∷ [])) t′
+made-more t cs t₁ c t′ none h = next h none
+made-more t (d ∷ cs) t₁ c t′ (next {t₁ = t₂} m k) h = next m (made-more t₂ cs t₁ c t′ k h)
+
+-- where a run stands: from the input s₀, the report rep₀ and the table t₀ it came to s, rep and t, and holds so many bytes
+pub record Running (s₀ rep₀ t₀ t w s rep : List ℕ) (held : ℕ) : Type 0 where
+  pub calls : List Call
+  pub fed : Fed (length s₀) (length rep₀) calls (take held s)
+  pub made : Made t₀ calls t
+  pub sound : Sound t
+  pub work : length w ≡ workBytes
+  pub input : length s ≡ length s₀
+  pub report : length rep ≡ length rep₀
+  pub inside : held ≤ length s
+  pub large : longestCommand ≤ length s
+  pub wide : longestRecord ≤ length rep
+
+pub running-first : (t w s rep : List ℕ) → Sound t → length w ≡ workBytes → longestCommand ≤ length s → longestRecord ≤ length rep → Running s rep t t w s rep 0
+running-first t w s rep h l k n = record { calls = []; fed = start; made = none; sound = h; work = l; input = refl; report = refl; inside = omega arith; large = k; wide = n }
+
+module _ (s₀ rep₀ t₀ t w s rep : List ℕ) (held : ℕ) (v : Running s₀ rep₀ t₀ t w s rep held) where
+  pub running-spent : Session (length s₀) (length rep₀) t₀ Closed t
+  running-spent = record { calls = v .calls; are = spent (v .fed); made = v .made }
+
+  module _ (r : Next) (t′ w′ s′ rep′ : List ℕ) (u : Turned held t w s rep r t′ w′ s′ rep′) where
+    abbrev call : Call
+    call = record { work = w; commands = take held s; report = rep; result = u .result; workAfter = w′; reportAfter = rep′ }
+
+    takes : Takes (length rep₀) (take held s) call
+    takes = record { commands = refl; work = v .work; report = v .report }
+
+    calls-made : Made t₀ (v .calls ++ (call ∷ [])) t′
+    calls-made = made-more t₀ (v .calls) t call t′ (v .made) (u .made)
+
+    follows-as : (x : Next) → r ≡ x → Follows (length s₀) (u .result .reason) (restOf (u .result) (take held s)) x s′
+    follows-as x e =
+        subst (λ (y : Next). Follows (length s₀) (u .result .reason) (restOf (u .result) (take held s)) y s′) e
+        (subst (λ (n : ℕ). Follows n (u .result .reason) (restOf (u .result) (take held s)) r s′) (v .input) (u .follows))
+
+    pub running-next : (n : ℕ) → r ≡ More n → length w′ ≡ length w → length rep′ ≡ length rep → Running s₀ rep₀ t₀ t′ w′ s′ rep′ n
+    running-next n e lw lr =
+        let f = follows-as (More n) e in
+        record {
+          calls = v .calls ++ (call ∷ []);
+          fed = more (v .fed) takes (u .moves) (f .1);
+          made = calls-made;
+          sound = sound-after t w (take held s) rep (u .result) t′ w′ rep′ (v .sound) (v .work) (u .made);
+          work = lw ∙ v .work;
+          input = u .len ∙ v .input;
+          report = lr ∙ v .report;
+          inside = f .0;
+          large = omega (arith, v .large, u .len);
+          wide = omega (arith, v .wide, lr);
+        }
+
+    pub running-end : (x : Reason) → r ≡ End x → Session (length s₀) (length rep₀) t₀ (End x) t′
+    running-end x e =
+        let f = follows-as (End x) e in
+        record { calls = v .calls ++ (call ∷ []); are = ended (v .fed) takes (sym (f .0)) (rw (f .0) (f .1)); made = calls-made }
+
+    pub running-closed : r ≡ Closed → Session (length s₀) (length rep₀) t₀ Closed t′
+    running-closed e = record { calls = v .calls ++ (call ∷ []); are = closed (v .fed) takes; made = calls-made }

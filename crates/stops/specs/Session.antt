@@ -1,0 +1,131 @@
+-- A run of the batch program as the batch calls that it makes. Document 01, "Legs to try", last paragraph. No contract can say which bytes
+-- are read and written: those read are any, and what is written is each call's report.
+-- Assumes nothing.
+use mathlib.Core.Path.{_≡_}
+use mathlib.Core.List.{List, [], _∷_, _++_}
+use Prim.Native.Nat.{ℕ, _+_, _*_, _≤_, _<_}
+use lib.ListN.{length, take, drop}
+use Rattle.limits.specs.Limits.{maxSites, workBytes}
+use Rattle.book.specs.declared.Reason.{Reason}
+use Rattle.book.specs.declared.Reason.the-variants.{AllUsed, WrongLength, Broken, UnknownCommand, CutShort, NoRoom}
+use Rattle.book.specs.declared.BatchResult.{BatchResult}
+use Rattle.demands.specs.Batch.{Batch}
+use Rattle.demands.specs.Whole.{Call, Made, Ran}
+use Rattle.stops.specs.declared.Batched.{Batched}
+use Rattle.stops.specs.declared.Next.{Next}
+use Rattle.stops.specs.declared.Next.the-variants.{More, End, Closed}
+
+-- the bytes of the longest commands, 4C and 53 with S and E
+abbrev pub longestCommand : ℕ
+longestCommand = 9
+
+-- the bytes of a list of all sites
+abbrev pub longestRecord : ℕ
+longestRecord = 3 + 10 * maxSites
+
+-- "A cut command is joined with what follows": the bytes left by the call before, and at least one that was read
+pub record Joined (size : ℕ) (rest held : List ℕ) : Type 0 where
+  pub fresh : List ℕ
+  pub some : 0 < length fresh
+  pub joined : held ≡ rest ++ fresh
+  pub fits : length held ≤ size
+
+-- the commands of the call that follows one which ended with this reason and left these bytes: "68 empties the report buffer", so that the
+-- same command finds room
+abbrev pub Onward : ℕ → Reason → List ℕ → List ℕ → Type 0
+Onward size AllUsed rest held = Joined size rest held
+Onward size WrongLength rest held = ⊥
+Onward size Broken rest held = ⊥
+Onward size UnknownCommand rest held = ⊥
+Onward size CutShort rest held = Joined size rest held
+Onward size NoRoom rest held = held ≡ rest
+
+-- the reason of a call that left so many bytes in an input buffer of `size`: after 0 and 67 there is room behind them, so that a read of
+-- nothing is the end of the input, and 64 and 65 do not come
+abbrev pub Ready : ℕ → Reason → ℕ → Type 0
+Ready size AllUsed left = left < size
+Ready size WrongLength left = ⊥
+Ready size Broken left = ⊥
+Ready size UnknownCommand left = Unit {0}
+Ready size CutShort left = left < size
+Ready size NoRoom left = Unit {0}
+
+-- "It stops at the end of the input or after 66"
+abbrev pub Final : Reason → Type 0
+Final AllUsed = Unit {0}
+Final WrongLength = ⊥
+Final Broken = ⊥
+Final UnknownCommand = Unit {0}
+Final CutShort = Unit {0}
+Final NoRoom = ⊥
+
+-- the answer to a call that wants more bytes, where the input buffer is s′ then: they came, or the input is at its end
+abbrev pub Joins : ℕ → Reason → List ℕ → Next → List ℕ → Type 0
+Joins size reason rest (More n) s′ = (n ≤ length s′) × Joined size rest (take n s′)
+Joins size reason rest (End x) s′ = x ≡ reason
+Joins size reason rest Closed s′ = ⊥
+
+-- what follows a call with this reason that left these bytes, where the input buffer is s′ then
+abbrev pub Follows : ℕ → Reason → List ℕ → Next → List ℕ → Type 0
+Follows size reason rest (More n) s′ = (n ≤ length s′) × Onward size reason rest (take n s′)
+Follows size reason rest (End x) s′ = (x ≡ reason) × Final reason
+Follows size reason rest Closed s′ = Unit {0}
+
+-- a call that found no room wrote something, so that the same command is not refused again
+abbrev pub Moves : BatchResult → Type 0
+Moves r = r .reason ≡ NoRoom → 0 < r .written
+
+-- the bytes that a call left
+abbrev pub restOf : BatchResult → List ℕ → List ℕ
+restOf r commands = drop (r .used) commands
+
+-- a batch over the first `held` bytes of the input buffer s, which keeps those that the batch left
+pub record Answered (held : ℕ) (t w s rep : List ℕ) (r : Batched) (t′ w′ s′ rep′ : List ℕ) : Type 0 where
+  pub result : BatchResult
+  pub made : Batch t w (take held s) rep result t′ w′ rep′
+  pub reason : r .reason ≡ result .reason
+  pub inside : r .left ≤ length s′
+  pub ready : Ready (length s′) (r .reason) (r .left)
+  pub rest : take (r .left) s′ ≡ restOf result (take held s)
+  pub moves : Moves result
+  pub len : length s′ ≡ length s
+
+-- the same, and what follows
+pub record Turned (held : ℕ) (t w s rep : List ℕ) (r : Next) (t′ w′ s′ rep′ : List ℕ) : Type 0 where
+  pub result : BatchResult
+  pub made : Batch t w (take held s) rep result t′ w′ rep′
+  pub follows : Follows (length s) (result .reason) (restOf result (take held s)) r s′
+  pub moves : Moves result
+  pub len : length s′ ≡ length s
+
+-- the call takes the held bytes, with buffers of these lengths
+pub record Takes (room : ℕ) (held : List ℕ) (c : Call) : Type 0 where
+  pub commands : c .commands ≡ held
+  pub work : length (c .work) ≡ workBytes
+  pub report : length (c .report) ≡ room
+
+-- each call takes what the one before left and what was read behind that; so many bytes are held then
+pub data Fed (size room : ℕ) : List Call → List ℕ → Type 0 where
+  start : Fed size room [] []
+  more : {cs : List Call} {held held′ : List ℕ} {c : Call} → Fed size room cs held → Takes room held c → Moves (c .result)
+      → Onward size (c .result .reason) (restOf (c .result) (c .commands)) held′ → Fed size room (cs ++ (c ∷ [])) held′
+
+-- THE PROGRAM'S CALLS, with an input buffer of `size` bytes and a report buffer of `room`: it ends with the reason of the last call; or
+-- because nobody takes the output, or the count of turns is spent
+pub data Calls (size room : ℕ) : List Call → Next → Type 0 where
+  ended : {cs : List Call} {held : List ℕ} {c : Call} {reason : Reason} → Fed size room cs held → Takes room held c → c .result .reason ≡ reason → Final reason
+      → Calls size room (cs ++ (c ∷ [])) (End reason)
+  closed : {cs : List Call} {held : List ℕ} {c : Call} → Fed size room cs held → Takes room held c → Calls size room (cs ++ (c ∷ [])) Closed
+  spent : {cs : List Call} {held : List ℕ} → Fed size room cs held → Calls size room cs Closed
+
+-- a run of them on the table t, which leaves t′
+pub record Session (size room : ℕ) (t : List ℕ) (r : Next) (t′ : List ℕ) : Type 0 where
+  pub calls : List Call
+  pub are : Calls size room calls r
+  pub made : Made t calls t′
+
+-- THE PROGRAM, on a table that it lays out itself and leaves as t′. What the book says of such calls, they say (`ran-answers`).
+pub record Program (size room : ℕ) (r : Next) (t′ : List ℕ) : Type 0 where
+  pub calls : List Call
+  pub are : Calls size room calls r
+  pub ran : Ran calls t′
