@@ -1,4 +1,10 @@
-# make test: proves every crate and runs all tests. make demo:
+# make test: proves every crate and runs all tests. make demo: the batch program on document 01's example. make bench: ratios to plain Rust.
+.PHONY: test demo bench
+
+test:
+	bash .ci/run
+
+demo:
 	rt check stops
 	target/bin/stops < crates/stops/stdin | od -An -tx1
 
