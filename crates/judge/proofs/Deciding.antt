@@ -1,12 +1,11 @@
 -- The book's answers, from what the tests find: one law for each return.
 -- Assumes nothing.
-use mathlib.Core.Path.{_≡_, refl, sym, ap, subst, _∙_}
+use mathlib.Core.Path.{_≡_, sym, ap, subst, _∙_}
 use mathlib.Core.Logic.{_≢_}
 use mathlib.Core.Bool.{Bool, true, false}
 use mathlib.Core.List.{List}
 use mathlib.Core.Option.{Option, none, some}
-use Prim.Native.Nat.{ℕ, _+_, _*_, _≤_, _<_}
-use native.Mathlib.Omega.{arith}
+use Prim.Native.Nat.{ℕ}
 use lib.ListN.{length}
 use Rattle.limits.specs.Limits.{maxSites}
 use Rattle.grid.specs.declared.Position.{Position}
@@ -31,25 +30,11 @@ use Rattle.tree_search.specs.Searching.{Found as Searched}
 use Rattle.tree_search.proofs.Finding.{found-is}
 use Rattle.table.specs.Table.{bookOf, Sound}
 use Rattle.stored_list.specs.Loading.{Loaded}
+use Rattle.table_check.proofs.Deciding.{says-yes, says-no}
 use Rattle.table_change.proofs.Points.{tree-sites}
 use Rattle.table_change.proofs.Restanding.{whole-numbered}
 use Rattle.judge.specs.declared.Answer.{Answer}
 use Rattle.judge.specs.Judged.{Judged, Settled}
-
-clash : true ≡ false → ⊥
-clash x = let z : _≡_ {A = ℕ} 0 1 = cc in omega arith
-
-says-yes : {A : Type 0} (q : Bool) → Says q A → q ≡ true → A
-says-yes true s e = s
-says-yes false s e = absurd (clash (sym e))
-
-says-no : {A : Type 0} (q : Bool) → Says q A → q ≡ false → ¬ A
-says-no true s e = absurd (clash e)
-says-no false s e = s
-
-says-map : {A B : Type 0} (q : Bool) → (A → B) → (B → A) → Says q A → Says q B
-says-map true f g s = f s
-says-map false f g s = λ b. s (g b)
 
 -- ---- an answer without a list
 
@@ -109,12 +94,6 @@ module _ (b : List ℕ) (n : ℕ) (p : Position) where
     move-done e = done-so b (Move n p) (answer-move-done (bookOf b) n p z (says-yes q s y) (at-held (found-at e a)))
 
 -- ---- legs
-
-pub leg-both : (l : Leg) (q r : Bool) → Says q (OnGrid (l .s)) → q ≡ true → Says r (OnGrid (l .e)) → Says r (LegOnGrid l)
-leg-both l q r s e t = says-map r (λ x. record { s = says-yes q s e; e = x }) (λ x. x .e) t
-
-pub leg-not : (l : Leg) (q : Bool) → Says q (OnGrid (l .s)) → q ≡ false → ¬ LegOnGrid l
-leg-not l q s e x = says-no q s e (x .s)
 
 module _ (b : List ℕ) (l : Leg) (q : Bool) (s : Says q (LegOnGrid l)) where
   pub leg-yes : q ≡ true → LegOnGrid l

@@ -7,30 +7,18 @@ ghost use mathlib.Core.Path.{_≡_};
 ghost use mathlib.Core.Option.{some};
 ghost use Prim.Native.Nat.{_*_, _≤_};
 ghost use lib.ListN.{length};
-ghost use Rattle.grid.specs.Position.{LegOnGrid};
-ghost use Rattle.grid.specs.Says.{Says};
 ghost use Rattle.book.specs.declared.Command.{Command};
 ghost use Rattle.row.specs.Vertices.{rowBytes};
 ghost use Rattle.standing.specs.Standing.{legIn};
 ghost use Rattle.table.specs.Table.{Sound};
 ghost use Rattle.judge.specs.Judged.{Judged, Settled};
 
-// Whether both ends of a leg are on the grid.
-fn leg_on_grid(leg: Leg) -> bool
-    ensures { λ r. ⌜ Says r (LegOnGrid leg) ⌝ }
-{
-    if grid::coordinate::on_grid(leg.s) {
-        return grid::coordinate::on_grid(leg.e);
-    }
-    false
-}
-
 // A list: leg, site.
 pub fn list(t: &[u8], work: &mut [u8], leg: Leg) -> Answer
     requires { ⌜ Sound (now t) × (2 * rowBytes ≤ length (now work)) ⌝ }
     ensures { λ r. ⌜ Judged r (Command.List leg) (now (t .entry)) (now (work .exit)) ⌝ }
 {
-    if leg_on_grid(leg) {
+    if table_check::leg_on_grid(leg) {
         let n = sites::count(t);
         if n == 0 {
             return Answer::Refused(Cause::NoSite);
@@ -45,7 +33,7 @@ pub fn list(t: &[u8], work: &mut [u8], leg: Leg) -> Answer
 pub fn stand(t: &[u8], leg: Leg) -> Answer
     ensures { λ r. ⌜ Settled r (Command.Stand leg) (now (t .entry)) ⌝ }
 {
-    if leg_on_grid(leg) {
+    if table_check::leg_on_grid(leg) {
         return Answer::Done;
     }
     Answer::Refused(Cause::OffGrid)

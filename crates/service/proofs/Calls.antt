@@ -5,10 +5,9 @@ use mathlib.Core.Logic.{_≢_}
 use mathlib.Core.Bool.{Bool, true, false, _&&_}
 use mathlib.Core.List.{List}
 use Prim.Native.Nat.{ℕ}
-use native.Mathlib.Omega.{arith}
 use lib.ListN.{length}
 use lib.Dec.{eqb}
-use borrow.Author.Tests.{eqb-false, eq-eqb, ne-eqb}
+use borrow.Author.Tests.{eq-eqb, ne-eqb}
 use Rattle.limits.specs.Limits.{tableBytes, workBytes}
 use Rattle.grid.specs.Says.{Says}
 use Rattle.book.specs.declared.Reason.{Reason}
@@ -18,18 +17,8 @@ use Rattle.book.specs.Run.{run}
 use Rattle.empty_table.specs.EmptyTable.{emptyTable}
 use Rattle.table.specs.Table.{bookOf, Sound}
 use Rattle.demands.specs.Batch.{result, lengthsOk, zeros, Served, Batch, LaidOut}
+use Rattle.table_check.proofs.Deciding.{clash, says-yes, says-no}
 use Rattle.serve.specs.Serving.{Answered}
-
-clash : true ≡ false → ⊥
-clash x = let z : _≡_ {A = ℕ} 0 1 = cc in omega arith
-
-says-yes : {A : Type 0} (q : Bool) → Says q A → q ≡ true → A
-says-yes true s e = s
-says-yes false s e = absurd (clash (sym e))
-
-says-no : {A : Type 0} (q : Bool) → Says q A → q ≡ false → ¬ A
-says-no true s e = absurd (clash e)
-says-no false s e = s
 
 -- the test said yes
 pub checked : (t : List ℕ) (q : Bool) → Says q (Sound t) → q ≡ true → Sound t

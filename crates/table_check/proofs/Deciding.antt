@@ -34,14 +34,14 @@ use Rattle.table_check.proofs.Matching.{words-length}
 use Rattle.table_change.proofs.Points.{tree-sites}
 use Rattle.table_change.proofs.Restanding.{whole-numbered}
 
-clash : true ≡ false → ⊥
+pub clash : true ≡ false → ⊥
 clash x = let z : _≡_ {A = ℕ} 0 1 = cc in omega arith
 
-says-yes : {A : Type 0} (q : Bool) → Says q A → q ≡ true → A
+pub says-yes : {A : Type 0} (q : Bool) → Says q A → q ≡ true → A
 says-yes true s e = s
 says-yes false s e = absurd (clash (sym e))
 
-says-no : {A : Type 0} (q : Bool) → Says q A → q ≡ false → ¬ A
+pub says-no : {A : Type 0} (q : Bool) → Says q A → q ≡ false → ¬ A
 says-no true s e = absurd (clash e)
 says-no false s e = s
 

@@ -2,71 +2,52 @@ use borrow.Author.Needs.{needs}
 use Rattle.stops.proofs.Following.{follows-all, follows-cut, follows-full, last-unknown, last-wrong, last-broken, room-all, room-cut}
 use Rattle.stops.proofs.follow.Statement.{statement}
 use Rattle.stops.proofs.follow.Tie as tie
-use Rattle.stops.proofs.follow.Reads as reads
-use Rattle.stops.proofs.follow.Lts as lts
-use Rattle.stops.proofs.join.Reads as join-reads
 
--- src/main.rt:89:33
 enum-told : tie.Need-enum-told
 enum-told c = search needs
 
--- src/main.rt:89:28
 join-requires : tie.Need-join-requires
 join-requires c κs = search (needs, room-all)
 
--- src/main.rt:90:34
 enum-told-2 : tie.Need-enum-told-2
 enum-told-2 c = search needs
 
--- src/main.rt:90:29
 join-requires-2 : tie.Need-join-requires-2
 join-requires-2 c κs = search (needs, room-cut)
 
--- src/main.rt:91:27
 enum-told-3 : tie.Need-enum-told-3
 enum-told-3 c = search needs
 
--- src/main.rt:92:45
 enum-told-4 : tie.Need-enum-told-4
 enum-told-4 c = search needs
 
--- src/main.rt:93:42
 enum-told-5 : tie.Need-enum-told-5
 enum-told-5 c = search needs
 
--- src/main.rt:94:37
 enum-told-6 : tie.Need-enum-told-6
 enum-told-6 c = search needs
 
--- src/main.rt:84:1
 same-length : tie.Need-same-length
 same-length c = search needs
 
--- src/main.rt:84:1
 returns : tie.Need-returns
 returns c = search (needs, follows-all)
 
--- src/main.rt:84:1
 same-length-2 : tie.Need-same-length-2
 same-length-2 c = search needs
 
--- src/main.rt:84:1
 returns-2 : tie.Need-returns-2
 returns-2 c = search (needs, follows-cut)
 
--- src/main.rt:84:1
 returns-3 : tie.Need-returns-3
 returns-3 c = follows-full (c .before .before .before .args .reason) (c .before .before .before .args .left) (c .before .before .before .args .input .now) (search needs) (c .before .before .before .pre .0)
 
--- src/main.rt:84:1
 returns-4 : tie.Need-returns-4
 returns-4 c = search (needs, last-unknown)
 
--- src/main.rt:84:1
 returns-5 : tie.Need-returns-5
 returns-5 c = last-wrong _ _ (c .before .before .before .args .reason) (search needs) (c .before .before .before .pre .1)
 
--- src/main.rt:84:1
 returns-6 : tie.Need-returns-6
 returns-6 c = last-broken _ _ (c .before .before .before .args .reason) (search needs) (c .before .before .before .pre .1)
 

@@ -6,8 +6,6 @@ use lib.ListN.{length}
 use Rattle.stops.proofs.Reading.{Moving, moving-none, moving-next, moving-all}
 use Rattle.stops.proofs.keep.Statement.{statement}
 use Rattle.stops.proofs.keep.Tie as tie
-use Rattle.stops.proofs.keep.Reads as reads
-use Rattle.stops.proofs.keep.Lts as lts
 
 abbrev Inv-loop : tie.InvT-loop
 Inv-loop input₀ used held left i₀ input i = Moving used input₀ i input × (i ≤ left) × (length input ≡ length input₀)
@@ -15,43 +13,33 @@ Inv-loop input₀ used held left i₀ input i = Moving used input₀ i input × 
 abbrev μ-loop : tie.MeasureT-loop
 μ-loop input₀ used held left i₀ input i = left - i
 
--- src/main.rt:33:16
 sub-left : tie.Need-sub-left Inv-loop μ-loop
 sub-left c = search needs
 
--- src/main.rt:35:5
 loop-holds : tie.Need-loop-holds Inv-loop μ-loop
 loop-holds c = (moving-none _ _, omega arith, refl)
 
--- src/main.rt:36:26
 add-input : tie.Need-add-input Inv-loop μ-loop
 add-input c = search needs
 
--- src/main.rt:36:20
 slice-read-input : tie.Need-slice-read-input Inv-loop μ-loop
 slice-read-input c = search needs
 
--- src/main.rt:36:9
 slice-write-input : tie.Need-slice-write-input Inv-loop μ-loop
 slice-write-input c = search needs
 
--- src/main.rt:37:9
 add-i : tie.Need-add-i Inv-loop μ-loop
 add-i c = search needs
 
--- src/main.rt:35:5
 loop-less : tie.Need-loop-less Inv-loop μ-loop
 loop-less c = search needs
 
--- src/main.rt:35:5
 loop-again : tie.Need-loop-again Inv-loop μ-loop
 loop-again c = (moving-next _ _ _ _ (c .before .before .loop .inv .0) (omega arith), omega arith, search needs)
 
--- src/main.rt:29:1
 same-length : tie.Need-same-length Inv-loop μ-loop
 same-length c = search needs
 
--- src/main.rt:29:1
 returns : tie.Need-returns Inv-loop μ-loop
 returns c = search (needs, moving-all)
 

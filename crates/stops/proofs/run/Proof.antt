@@ -2,9 +2,6 @@ use borrow.Author.Needs.{needs}
 use Rattle.stops.proofs.Running.{Running, running-first, running-spent, running-next, running-end, running-closed}
 use Rattle.stops.proofs.run.Statement.{statement}
 use Rattle.stops.proofs.run.Tie as tie
-use Rattle.stops.proofs.run.Reads as reads
-use Rattle.stops.proofs.run.Lts as lts
-use Rattle.stops.proofs.turn.Reads as turn-reads
 
 abbrev Inv-loop : tie.InvT-loop
 Inv-loop table₀ work₀ input₀ report₀ held₀ turns₀ table work input report held turns = Running input₀ report₀ table₀ table work input report held
@@ -12,95 +9,72 @@ Inv-loop table₀ work₀ input₀ report₀ held₀ turns₀ table work input r
 abbrev μ-loop : tie.MeasureT-loop
 μ-loop table₀ work₀ input₀ report₀ held₀ turns₀ table work input report held turns = turns
 
--- src/main.rt:119:5
 loop-holds : tie.Need-loop-holds Inv-loop μ-loop
 loop-holds c = search (needs, running-first)
 
--- src/main.rt:120:13
 turn-requires : tie.Need-turn-requires Inv-loop μ-loop
 turn-requires c κs = search needs
 
--- src/main.rt:122:24
 enum-known-next : tie.Need-enum-known-next Inv-loop μ-loop
 enum-known-next c = search needs
 
--- src/main.rt:123:23
 enum-known-next-2 : tie.Need-enum-known-next-2 Inv-loop μ-loop
 enum-known-next-2 c = search needs
 
--- src/main.rt:123:34
 same-length : tie.Need-same-length Inv-loop μ-loop
 same-length c = search needs
 
--- src/main.rt:123:34
 same-length-2 : tie.Need-same-length-2 Inv-loop μ-loop
 same-length-2 c = search needs
 
--- src/main.rt:123:34
 same-length-3 : tie.Need-same-length-3 Inv-loop μ-loop
 same-length-3 c = search needs
 
--- src/main.rt:123:34
 same-length-4 : tie.Need-same-length-4 Inv-loop μ-loop
 same-length-4 c = search needs
 
--- src/main.rt:123:34
 returns : tie.Need-returns Inv-loop μ-loop
 returns c = search (needs, running-end)
 
--- src/main.rt:124:29
 enum-told : tie.Need-enum-told Inv-loop μ-loop
 enum-told c = search needs
 
--- src/main.rt:124:29
 same-length-5 : tie.Need-same-length-5 Inv-loop μ-loop
 same-length-5 c = search needs
 
--- src/main.rt:124:29
 same-length-6 : tie.Need-same-length-6 Inv-loop μ-loop
 same-length-6 c = search needs
 
--- src/main.rt:124:29
 same-length-7 : tie.Need-same-length-7 Inv-loop μ-loop
 same-length-7 c = search needs
 
--- src/main.rt:124:29
 same-length-8 : tie.Need-same-length-8 Inv-loop μ-loop
 same-length-8 c = search needs
 
--- src/main.rt:124:29
 returns-2 : tie.Need-returns-2 Inv-loop μ-loop
 returns-2 c = search (needs, running-closed)
 
--- src/main.rt:126:9
 sub-turns : tie.Need-sub-turns Inv-loop μ-loop
 sub-turns c = search needs
 
--- src/main.rt:119:5
 loop-less : tie.Need-loop-less Inv-loop μ-loop
 loop-less c = search needs
 
--- src/main.rt:119:5
 loop-again : tie.Need-loop-again Inv-loop μ-loop
 loop-again c = search (needs, running-next)
 
--- src/main.rt:113:1
 same-length-9 : tie.Need-same-length-9 Inv-loop μ-loop
 same-length-9 c = search needs
 
--- src/main.rt:113:1
 same-length-10 : tie.Need-same-length-10 Inv-loop μ-loop
 same-length-10 c = search needs
 
--- src/main.rt:113:1
 same-length-11 : tie.Need-same-length-11 Inv-loop μ-loop
 same-length-11 c = search needs
 
--- src/main.rt:113:1
 same-length-12 : tie.Need-same-length-12 Inv-loop μ-loop
 same-length-12 c = search needs
 
--- src/main.rt:113:1
 returns-3 : tie.Need-returns-3 Inv-loop μ-loop
 returns-3 c = search (needs, running-spent)
 

@@ -3,66 +3,49 @@ use borrow.Author.Needs.{needs}
 use Rattle.stops.proofs.Serving.{counts-front, used-inside, written-inside, answered}
 use Rattle.stops.proofs.serve.Statement.{statement}
 use Rattle.stops.proofs.serve.Tie as tie
-use Rattle.stops.proofs.serve.Reads as reads
-use Rattle.stops.proofs.serve.Lts as lts
-use Rattle.io.proofs.write_all.Reads as write-all-reads
-use Rattle.service.proofs.batch.Reads as batch-reads
-use Rattle.stops.proofs.keep.Reads as keep-reads
 
--- src/main.rt:58:41
 slice-reshare-prefix-batch : tie.Need-slice-reshare-prefix-batch
 slice-reshare-prefix-batch c = search needs
 
--- src/main.rt:58:41
 slice-aggregate-batch : tie.Need-slice-aggregate-batch
 slice-aggregate-batch c = search (needs, counts-front)
 
--- src/main.rt:58:9
 batch-requires : tie.Need-batch-requires
 batch-requires c κs = search needs
 
--- src/main.rt:62:52
 slice-reshare-prefix-write-all : tie.Need-slice-reshare-prefix-write-all
 slice-reshare-prefix-write-all c =
     let p = c .before .before .before .before .before .before .before .before .before .before .before .before .before .before .before .pre in
     let k = c .before .before .before .before .before .before .batch in
     omega (arith, written-inside _ _ _ _ _ _ _ _ (p .0) (p .1) (k .ensures), k .kept .1 .1 .1 .0)
 
--- src/main.rt:62:52
 slice-aggregate-write-all : tie.Need-slice-aggregate-write-all
 slice-aggregate-write-all c =
     let p = c .before .before .before .before .before .before .before .before .before .before .before .before .before .before .before .before .pre in
     let k = c .before .before .before .before .before .before .before .batch in
     counts-front _ _ (omega (arith, written-inside _ _ _ _ _ _ _ _ (p .0) (p .1) (k .ensures), k .kept .1 .1 .1 .0))
 
--- src/main.rt:62:9
 write-all-requires : tie.Need-write-all-requires
 write-all-requires c κs = search needs
 
--- src/main.rt:63:9
 keep-requires : tie.Need-keep-requires
 keep-requires c κs =
     let p = c .before .before .before .before .before .before .before .before .before .before .before .before .before .before .before .before .before .before .pre in
     let k = c .before .before .before .before .before .before .before .before .before .batch in
     (omega (arith, used-inside _ _ _ _ _ _ _ _ (p .0) (p .1) (k .ensures), counts-front (c .before .before .before .before .before .before .before .before .before .before .before .before .before .before .before .before .before .before .args .held) (c .before .before .before .before .before .before .before .before .before .before .before .before .before .before .before .before .before .before .args .input .now) (p .2)), search needs)
 
--- src/main.rt:54:1
 same-length : tie.Need-same-length
 same-length c = search needs
 
--- src/main.rt:54:1
 same-length-2 : tie.Need-same-length-2
 same-length-2 c = search needs
 
--- src/main.rt:54:1
 same-length-3 : tie.Need-same-length-3
 same-length-3 c = search needs
 
--- src/main.rt:54:1
 same-length-4 : tie.Need-same-length-4
 same-length-4 c = search needs
 
--- src/main.rt:54:1
 returns : tie.Need-returns
 returns c = search (needs, answered)
 

@@ -2,36 +2,25 @@ use borrow.Author.Needs.{needs}
 use Rattle.stops.proofs.Running.{laid-sound, program}
 use Rattle.stops.proofs.serve_all.Statement.{statement}
 use Rattle.stops.proofs.serve_all.Tie as tie
-use Rattle.stops.proofs.serve_all.Reads as reads
-use Rattle.stops.proofs.serve_all.Lts as lts
-use Rattle.service.proofs.lay_out.Reads as lay-out-reads
-use Rattle.stops.proofs.run.Reads as run-reads
 
--- src/main.rt:136:5
 lay-out-requires : tie.Need-lay-out-requires
 lay-out-requires c κs = search needs
 
--- src/main.rt:137:5
 run-requires : tie.Need-run-requires
 run-requires c κs = (search (needs, laid-sound), search needs, search needs, search needs)
 
--- src/main.rt:132:1
 same-length : tie.Need-same-length
 same-length c = search needs
 
--- src/main.rt:132:1
 same-length-2 : tie.Need-same-length-2
 same-length-2 c = search needs
 
--- src/main.rt:132:1
 same-length-3 : tie.Need-same-length-3
 same-length-3 c = search needs
 
--- src/main.rt:132:1
 same-length-4 : tie.Need-same-length-4
 same-length-4 c = search needs
 
--- src/main.rt:132:1
 returns : tie.Need-returns
 returns c = search (needs, program)
 

@@ -2,56 +2,40 @@ use borrow.Author.Needs.{needs}
 use Rattle.stops.proofs.Following.{turned, turned-closed}
 use Rattle.stops.proofs.turn.Statement.{statement}
 use Rattle.stops.proofs.turn.Tie as tie
-use Rattle.stops.proofs.turn.Reads as reads
-use Rattle.stops.proofs.turn.Lts as lts
-use Rattle.stops.proofs.follow.Reads as follow-reads
-use Rattle.stops.proofs.serve.Reads as serve-reads
 
--- src/main.rt:103:9
 serve-requires : tie.Need-serve-requires
 serve-requires c κs = search needs
 
--- src/main.rt:107:9
 follow-requires : tie.Need-follow-requires
 follow-requires c κs = search needs
 
--- src/main.rt:107:9
 same-length : tie.Need-same-length
 same-length c = search needs
 
--- src/main.rt:107:9
 same-length-2 : tie.Need-same-length-2
 same-length-2 c = search needs
 
--- src/main.rt:107:9
 same-length-3 : tie.Need-same-length-3
 same-length-3 c = search needs
 
--- src/main.rt:107:9
 same-length-4 : tie.Need-same-length-4
 same-length-4 c = search needs
 
--- src/main.rt:107:9
 returns : tie.Need-returns
 returns c = search (needs, turned)
 
--- src/main.rt:99:1
 same-length-5 : tie.Need-same-length-5
 same-length-5 c = search needs
 
--- src/main.rt:99:1
 same-length-6 : tie.Need-same-length-6
 same-length-6 c = search needs
 
--- src/main.rt:99:1
 same-length-7 : tie.Need-same-length-7
 same-length-7 c = search needs
 
--- src/main.rt:99:1
 same-length-8 : tie.Need-same-length-8
 same-length-8 c = search needs
 
--- src/main.rt:99:1
 returns-2 : tie.Need-returns-2
 returns-2 c = search (needs, turned-closed)
 
