@@ -1,6 +1,6 @@
 -- The squared distance of a position from a box: no position in the box is nearer, and one is exactly that far.
 -- Assumes nothing.
-use mathlib.Core.Path.{_≡_, ap}
+use mathlib.Core.Path.{_≡_, refl, ap}
 use Prim.Native.Nat.{ℕ, _+_, _*_, _-_, _≤_, _<_}
 use native.Mathlib.Omega.{arith}
 use native.Mathlib.Nat.{mul-le-mul}
@@ -55,20 +55,8 @@ one-as-near b q h k = (
   omega (arith, clamp-far (b .west) (b .east) (q .east) h, clamp-far (b .south) (b .north) (q .north) k),
 )
 
--- the three cases of an axis
-outside-by : (lo hi x d : ℕ) → d ≡ outside lo hi x → d ≤ gridWidth → (d * d ≡ outside lo hi x * outside lo hi x) × (d * d ≤ maxSquare)
-outside-by lo hi x d e h = (ap (λ (z : ℕ). z * z) e, square-most d h)
-
-pub outside-below : (lo hi x : ℕ) → x < lo → lo ≤ hi → hi ≤ gridWidth
-    → ((lo - x) * (lo - x) ≡ outside lo hi x * outside lo hi x) × ((lo - x) * (lo - x) ≤ maxSquare)
+-- an axis: below the stretch the first part counts, above it the second, within it neither
+pub outside-of : (lo hi x u v : ℕ) → u ≡ lo - x → v ≡ x - hi → lo ≤ hi → hi ≤ gridWidth → x ≤ gridWidth
+    → ((u + v) * (u + v) ≡ outside lo hi x * outside lo hi x) × ((u + v) * (u + v) ≤ maxSquare)
 unfolding outside
-outside-below lo hi x h k g = outside-by lo hi x (lo - x) (omega arith) (omega arith)
-
-pub outside-above : (lo hi x : ℕ) → hi < x → lo ≤ hi → x ≤ gridWidth
-    → ((x - hi) * (x - hi) ≡ outside lo hi x * outside lo hi x) × ((x - hi) * (x - hi) ≤ maxSquare)
-unfolding outside
-outside-above lo hi x h k g = outside-by lo hi x (x - hi) (omega arith) (omega arith)
-
-pub outside-within : (lo hi x : ℕ) → lo ≤ x → x ≤ hi → (0 ≡ outside lo hi x * outside lo hi x) × (0 ≤ maxSquare)
-unfolding outside
-outside-within lo hi x h k = outside-by lo hi x 0 (omega arith) (omega arith)
+outside-of lo hi x u v e f h k l = (rw (e, f) refl, square-most (u + v) (omega arith))

@@ -1,6 +1,6 @@
 -- Squared differences: their bounds, and the square of a difference with no difference in it.
 -- Assumes nothing.
-use mathlib.Core.Path.{_≡_, ap}
+use mathlib.Core.Path.{_≡_, refl, ap}
 use Prim.Native.Nat.{ℕ, _+_, _*_, _-_, _≤_, _<_}
 use native.Mathlib.Omega.{arith}
 use native.Mathlib.Decide.{decLe}
@@ -22,18 +22,11 @@ distance-most p q hp hq =
     omega
     (arith, difference-most (p .east) (q .east) (hp .east) (hq .east), difference-most (p .north) (q .north) (hp .north) (hq .north))
 
--- the square of a difference, by which of the two is larger
-pub difference-up : (x y : ℕ) → x < y → y ≤ gridWidth → ((y - x) * (y - x) ≡ squaredDifference x y) × ((y - x) * (y - x) ≤ maxSquare)
+-- the square of a difference, of which one half is 0
+pub difference-of : (x y u v : ℕ) → u ≡ x - y → v ≡ y - x → x ≤ gridWidth → y ≤ gridWidth
+    → ((u + v) * (u + v) ≡ squaredDifference x y) × ((u + v) * (u + v) ≤ maxSquare)
 unfolding squaredDifference
-difference-up x y h k =
-    let e : y - x ≡ (x - y) + (y - x) = omega arith in
-    (ap (λ (z : ℕ). z * z) e, square-most (y - x) (omega arith))
-
-pub difference-down : (x y : ℕ) → y ≤ x → x ≤ gridWidth → ((x - y) * (x - y) ≡ squaredDifference x y) × ((x - y) * (x - y) ≤ maxSquare)
-unfolding squaredDifference
-difference-down x y h k =
-    let e : x - y ≡ (x - y) + (y - x) = omega arith in
-    (ap (λ (z : ℕ). z * z) e, square-most (x - y) (omega arith))
+difference-of x y u v e f h k = (rw (e, f) refl, square-most (u + v) (omega arith))
 
 gap-up : (a k : ℕ) → squaredDifference a (a + k) ≡ k * k
 unfolding squaredDifference

@@ -72,6 +72,20 @@ pub fn vertex_in(t: &[u8], row: &[u8], leg: Leg, k: usize, i: usize) -> Vertex
     vertex_at(t, leg, p)
 }
 
+// Where a bisection of lo to hi looks next: at the ends of the k first, where a site that comes in the order of the row goes. Which one needs no proof.
+fn probe(lo: usize, hi: usize, k: usize) -> usize
+    requires { ⌜ (lo < hi) × (hi ≤ k) ⌝ }
+    ensures { λ r. ⌜ (lo ≤ r) × (r < hi) ⌝ }
+{
+    if hi == k {
+        return k - 1;
+    }
+    if lo == 0 {
+        return 0;
+    }
+    lo + (hi - lo) / 2
+}
+
 // How many of the first k are not right of a, by bisection.
 pub fn cut(t: &[u8], row: &[u8], leg: Leg, k: usize, a: u32) -> usize
     requires { ⌜ Held leg (now t) (now row) k × LegOnGrid leg ⌝ }
@@ -80,7 +94,7 @@ pub fn cut(t: &[u8], row: &[u8], leg: Leg, k: usize, a: u32) -> usize
     let mut lo = 0;
     let mut hi = k;
     while lo < hi {
-        let mid = lo + (hi - lo) / 2;
+        let mid = probe(lo, hi, k);
         let u = vertex_in(t, row, leg, k, mid);
         if u.a <= a {
             lo = mid + 1;

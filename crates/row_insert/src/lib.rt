@@ -184,14 +184,13 @@ fn push_rest(t: &[u8], work: &mut [u8], leg: Leg, k: usize, n: usize, x: Vertex,
     s
 }
 
-// Inserts x into the list in the first k of the row that begins the work buffer. The spare row after it is room for work.
-pub fn insert(t: &[u8], work: &mut [u8], leg: Leg, k: usize, x: Vertex) -> usize
-    requires { ⌜ Held leg (now t) (now work) k × LegOnGrid leg × Room k (now work) ⌝ }
+// Inserts x into the list in the first k of the row that begins the work buffer; n of them are not right of it. The spare row after it is room for work.
+pub fn insert(t: &[u8], work: &mut [u8], leg: Leg, k: usize, n: usize, x: Vertex) -> usize
+    requires { ⌜ Held leg (now t) (now work) k × LegOnGrid leg × Room k (now work) × Cut leg (now t) (now work) k (x .a) n ⌝ }
     requires { ⌜ IsVertex leg (now t) (x .place) x × HasSite (now t) (x .place) ⌝ }
     ensures inserted { λ r. ⌜ Inserted leg (now (t .entry)) (now (work .entry)) k (pointAt leg (now (t .entry)) (x .place)) (now (work .exit)) r ⌝ }
     ensures only { λ _. ⌜ Only 0 (2 * rowBytes) (now (work .entry)) (now (work .exit)) ⌝ }
 {
-    let n = row::cut(t, work, leg, k, x.a);
     copy_within(work, 0, row::ROW_BYTES, 2 * k);
     let r = push(t, work, leg, n, x);
     push_rest(t, work, leg, k, n, x, r)

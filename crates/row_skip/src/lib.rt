@@ -86,9 +86,12 @@ fn above(u: Vertex, v: Vertex, corner: Corner) -> bool
 
 // Whether the last vertex or the first one shuts the corner out.
 fn covered_by_end(t: &[u8], row: &[u8], leg: Leg, k: usize, corner: Corner) -> bool
-    requires { ⌜ Held leg (now t) (now row) k × LegOnGrid leg × (0 < k) × SmallCorner corner ⌝ }
+    requires { ⌜ Held leg (now t) (now row) k × LegOnGrid leg × SmallCorner corner ⌝ }
     ensures { λ r. ⌜ If r (Witness (stack leg (now (t .entry)) (now (row .entry)) k) (corner .a) (corner .c)) ⌝ }
 {
+    if k == 0 {
+        return false;
+    }
     let last = row::vertex_in(t, row, leg, k, k - 1);
     if lower(last, corner) {
         return true;
@@ -121,9 +124,6 @@ pub fn covers(t: &[u8], row: &[u8], leg: Leg, k: usize, corner: Corner) -> bool
     requires { ⌜ Held leg (now t) (now row) k × LegOnGrid leg × SmallCorner corner ⌝ }
     ensures { λ r. ⌜ If r (Witness (stack leg (now (t .entry)) (now (row .entry)) k) (corner .a) (corner .c)) ⌝ }
 {
-    if k == 0 {
-        return false;
-    }
     if covered_by_end(t, row, leg, k, corner) {
         return true;
     }
@@ -142,8 +142,12 @@ pub fn deal(t: &[u8], leg: Leg, p: usize, work: &mut [u8], k: usize) -> usize
     }
     let x = row::vertex_at(t, leg, p);
     let corner = Corner { a: x.a, c: x.c };
-    if covers(t, work, leg, k, corner) {
+    if covered_by_end(t, work, leg, k, corner) {
         return k;
     }
-    row_insert::insert(t, work, leg, k, x)
+    let n = row::cut(t, work, leg, k, x.a);
+    if covered_by_edge(t, work, leg, k, n, corner) {
+        return k;
+    }
+    row_insert::insert(t, work, leg, k, n, x)
 }

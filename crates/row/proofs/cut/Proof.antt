@@ -14,11 +14,8 @@ abbrev μ-loop : tie.MeasureT-loop
 loop-holds : tie.Need-loop-holds Inv-loop μ-loop
 loop-holds c = search (needs, cut-begun)
 
-sub-mid : tie.Need-sub-mid Inv-loop μ-loop
-sub-mid c = omega arith
-
-add-mid : tie.Need-add-mid Inv-loop μ-loop
-add-mid c = omega arith
+probe-requires : tie.Need-probe-requires Inv-loop μ-loop
+probe-requires c κs = search needs
 
 vertex-in-requires : tie.Need-vertex-in-requires Inv-loop μ-loop
 vertex-in-requires c κs = search needs
@@ -31,16 +28,14 @@ loop-less c = omega arith
 
 loop-again : tie.Need-loop-again Inv-loop μ-loop
 loop-again c =
-    let v = c .before .before .vertex-in in
-    cut-up (c .before .before .before .before .loop .inv) (v .ensures) (omega arith) (omega arith)
+    search (needs, cut-up)
 
 loop-less-2 : tie.Need-loop-less-2 Inv-loop μ-loop
 loop-less-2 c = omega arith
 
 loop-again-2 : tie.Need-loop-again-2 Inv-loop μ-loop
 loop-again-2 c =
-    let v = c .before .before .vertex-in in
-    cut-down (c .before .before .before .before .loop .inv) (v .ensures) (omega arith) (omega arith) (omega arith)
+    search (needs, cut-down)
 
 returns : tie.Need-returns Inv-loop μ-loop
 returns c = search (needs, cut-found)
@@ -52,8 +47,7 @@ cut-spec =
     Inv-loop
     μ-loop
     loop-holds
-    sub-mid
-    add-mid
+    probe-requires
     vertex-in-requires
     add-lo
     loop-less

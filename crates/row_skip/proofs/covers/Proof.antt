@@ -3,14 +3,11 @@ use Rattle.row_skip.proofs.Witnesses.{if-true}
 use Rattle.row_skip.proofs.covers.Statement.{statement}
 use Rattle.row_skip.proofs.covers.Tie as tie
 
-returns : tie.Need-returns
-returns c = search needs
-
 covered-by-end-requires : tie.Need-covered-by-end-requires
 covered-by-end-requires c κs = search needs
 
-returns-2 : tie.Need-returns-2
-returns-2 c = if-true (c .before .covered-by-end .result) (c .if2 .taken) (c .before .covered-by-end .ensures)
+returns : tie.Need-returns
+returns c = if-true (c .before .covered-by-end .result) (c .if1 .taken) (c .before .covered-by-end .ensures)
 
 cut-requires : tie.Need-cut-requires
 cut-requires c κs = search needs
@@ -18,16 +15,15 @@ cut-requires c κs = search needs
 covered-by-edge-requires : tie.Need-covered-by-edge-requires
 covered-by-edge-requires c κs = search needs
 
-returns-3 : tie.Need-returns-3
-returns-3 c = search needs
+returns-2 : tie.Need-returns-2
+returns-2 c = search needs
 
 pub covers-spec : {M : Type 1} → statement M
 covers-spec =
     tie.close
     (tie.spec
-    returns
     covered-by-end-requires
-    returns-2
+    returns
     cut-requires
     covered-by-edge-requires
-    returns-3)
+    returns-2)

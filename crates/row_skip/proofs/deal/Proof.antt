@@ -11,8 +11,8 @@ returns c = search (needs, deal-full)
 vertex-at-requires : tie.Need-vertex-at-requires
 vertex-at-requires c κs = search needs
 
-covers-requires : tie.Need-covers-requires
-covers-requires c κs = search needs
+covered-by-end-requires : tie.Need-covered-by-end-requires
+covered-by-end-requires c κs = search needs
 
 same-length : tie.Need-same-length
 same-length c = search needs
@@ -20,17 +20,29 @@ same-length c = search needs
 returns-2 : tie.Need-returns-2
 returns-2 c = search (needs, deal-skipped)
 
-insert-requires : tie.Need-insert-requires
-insert-requires c κs =
-    let s = c .before .before .before .before .before .before .before .before in
-    let v = c .before .before .before .before .vertex-at .ensures in
-    ((s .pre .0 .0, s .pre .0 .1, record { few = omega arith; rows = s .pre .1 .1 }), (itself v, itself-has v (s .pre .0 .2)))
+cut-requires : tie.Need-cut-requires
+cut-requires c κs = search needs
+
+covered-by-edge-requires : tie.Need-covered-by-edge-requires
+covered-by-edge-requires c κs = search needs
 
 same-length-2 : tie.Need-same-length-2
 same-length-2 c = search needs
 
 returns-3 : tie.Need-returns-3
-returns-3 c = search (needs, deal-inserted)
+returns-3 c = search (needs, deal-skipped)
+
+insert-requires : tie.Need-insert-requires
+insert-requires c κs =
+    let s = c .before .before .before .before .before .before .before .before .before .before .before .before .before in
+    let v = c .before .before .before .before .before .before .before .before .before .vertex-at .ensures in
+    ((s .pre .0 .0, s .pre .0 .1, record { few = omega arith; rows = s .pre .1 .1 }, search needs), (itself v, itself-has v (s .pre .0 .2)))
+
+same-length-3 : tie.Need-same-length-3
+same-length-3 c = search needs
+
+returns-4 : tie.Need-returns-4
+returns-4 c = search (needs, deal-inserted)
 
 pub deal-spec : {M : Type 1} → statement M
 deal-spec =
@@ -38,9 +50,13 @@ deal-spec =
     (tie.spec
     returns
     vertex-at-requires
-    covers-requires
+    covered-by-end-requires
     same-length
     returns-2
-    insert-requires
+    cut-requires
+    covered-by-edge-requires
     same-length-2
-    returns-3)
+    returns-3
+    insert-requires
+    same-length-3
+    returns-4)
