@@ -4,3 +4,4 @@ pub mod Nearest
 pub mod Order
 pub mod Factors
 pub mod LowestTerms
+pub mod Says

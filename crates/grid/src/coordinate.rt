@@ -1,8 +1,9 @@
 // Coordinates of commands, which are signed 16-bit numbers, and back.
+use crate::Leg;
 use crate::Position;
 ghost use mathlib.Core.Path.{_≡_};
 ghost use Rattle.grid.specs.Coordinate.{fromWord, toWord};
-ghost use Rattle.grid.specs.Position.{OnGrid};
+ghost use Rattle.grid.specs.Position.{OnGrid, LegOnGrid};
 ghost use Rattle.grid.specs.Says.{Says};
 
 // The coordinate that a signed 16-bit word stands for.
@@ -32,4 +33,14 @@ pub fn on_grid(p: Position) -> bool
         return false;
     }
     true
+}
+
+// Whether both ends of a leg are on the grid.
+pub fn leg_on_grid(leg: Leg) -> bool
+    ensures { λ r. ⌜ Says r (LegOnGrid leg) ⌝ }
+{
+    if on_grid(leg.s) {
+        return on_grid(leg.e);
+    }
+    false
 }

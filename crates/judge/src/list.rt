@@ -18,7 +18,7 @@ pub fn list(t: &[u8], work: &mut [u8], leg: Leg) -> Answer
     requires { ⌜ Sound (now t) × (2 * rowBytes ≤ length (now work)) ⌝ }
     ensures { λ r. ⌜ Judged r (Command.List leg) (now (t .entry)) (now (work .exit)) ⌝ }
 {
-    if table_check::leg_on_grid(leg) {
+    if grid::coordinate::leg_on_grid(leg) {
         let n = sites::count(t);
         if n == 0 {
             return Answer::Refused(Cause::NoSite);
@@ -33,7 +33,7 @@ pub fn list(t: &[u8], work: &mut [u8], leg: Leg) -> Answer
 pub fn stand(t: &[u8], leg: Leg) -> Answer
     ensures { λ r. ⌜ Settled r (Command.Stand leg) (now (t .entry)) ⌝ }
 {
-    if table_check::leg_on_grid(leg) {
+    if grid::coordinate::leg_on_grid(leg) {
         return Answer::Done;
     }
     Answer::Refused(Cause::OffGrid)

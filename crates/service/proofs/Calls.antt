@@ -2,7 +2,7 @@
 -- Assumes nothing.
 use mathlib.Core.Path.{_≡_, refl, sym, ap, subst, _∙_}
 use mathlib.Core.Logic.{_≢_}
-use mathlib.Core.Bool.{Bool, true, false, _&&_}
+use mathlib.Core.Bool.{Bool, true, false, _&&_, true≢false}
 use mathlib.Core.List.{List}
 use Prim.Native.Nat.{ℕ}
 use lib.ListN.{length}
@@ -10,6 +10,7 @@ use lib.Dec.{eqb}
 use borrow.Author.Tests.{eq-eqb, ne-eqb}
 use Rattle.limits.specs.Limits.{tableBytes, workBytes}
 use Rattle.grid.specs.Says.{Says}
+use Rattle.grid.proofs.Says.{says-yes, says-no}
 use Rattle.book.specs.declared.Reason.{Reason}
 use Rattle.book.specs.declared.Reason.the-variants.{AllUsed, WrongLength, Broken}
 use Rattle.book.specs.declared.BatchResult.{BatchResult}
@@ -17,7 +18,6 @@ use Rattle.book.specs.Run.{run}
 use Rattle.empty_table.specs.EmptyTable.{emptyTable}
 use Rattle.table.specs.Table.{bookOf, Sound}
 use Rattle.demands.specs.Batch.{result, lengthsOk, zeros, Served, Batch, LaidOut}
-use Rattle.table_check.proofs.Deciding.{clash, says-yes, says-no}
 use Rattle.serve.specs.Serving.{Answered}
 
 -- the test said yes
@@ -27,10 +27,10 @@ checked t q s e = says-yes q s e
 -- ---- laying out
 
 pub laid-wrong : (t : List ℕ) → length t ≢ tableBytes → LaidOut t WrongLength t
-laid-wrong t n = record { wrong = λ e. (refl, refl); laid = λ e. absurd (clash (sym e ∙ ne-eqb (length t) tableBytes n)) }
+laid-wrong t n = record { wrong = λ e. (refl, refl); laid = λ e. absurd (true≢false (sym e ∙ ne-eqb (length t) tableBytes n)) }
 
 pub laid-right : (t t′ : List ℕ) → length t ≡ tableBytes → t′ ≡ emptyTable → LaidOut t AllUsed t′
-laid-right t t′ n h = record { wrong = λ e. absurd (clash (sym (eq-eqb (length t) tableBytes n) ∙ e)); laid = λ e. (refl, h) }
+laid-right t t′ n h = record { wrong = λ e. absurd (true≢false (sym (eq-eqb (length t) tableBytes n) ∙ e)); laid = λ e. (refl, h) }
 
 -- ---- a batch
 
@@ -39,8 +39,8 @@ module _ (t w cs rep : List ℕ) (r : BatchResult) where
   wrong-lengths n h =
       record {
         wrong = λ e. (h, refl, refl, refl);
-        broken = λ e. absurd (clash (sym e ∙ n));
-        served = λ e. absurd (clash (sym e ∙ n));
+        broken = λ e. absurd (true≢false (sym e ∙ n));
+        served = λ e. absurd (true≢false (sym e ∙ n));
       }
 
   and-false : (q : Bool) → (q && false) ≡ false
@@ -63,7 +63,7 @@ module _ (t w cs rep : List ℕ) (r : BatchResult) where
     pub broken-table : q ≡ false → r ≡ result Broken 0 0 → Batch t w cs rep r t w′ rep
     broken-table e h =
         record {
-          wrong = λ n. absurd (clash (sym ok ∙ n));
+          wrong = λ n. absurd (true≢false (sym ok ∙ n));
           broken = λ n x. (h, refl, cleared, refl);
           served = λ n x. absurd (says-no q s e x);
         }
@@ -73,7 +73,7 @@ module _ (t w cs rep : List ℕ) (r : BatchResult) where
   served-batch w′ t′ rep′ q lt lw s e a =
       let ok : lengthsOk t w ≡ true = (λ i. eq-eqb (length t) tableBytes lt i && eq-eqb (length w) workBytes lw i) in
       record {
-        wrong = λ n. absurd (clash (sym ok ∙ n));
+        wrong = λ n. absurd (true≢false (sym ok ∙ n));
         broken = λ n x. absurd (x (says-yes q s e));
         served = λ n x. a;
       }

@@ -2,7 +2,7 @@
 -- Assumes nothing.
 use mathlib.Core.Path.{_≡_, refl, sym, subst}
 use mathlib.Core.Logic.{⊎-elim}
-use mathlib.Core.Bool.{Bool, true, false, true≢false}
+use mathlib.Core.Bool.{Bool, true, false}
 use mathlib.Core.List.{List, [], _∷_, List·Memᴰ, List·Memᴰ·not-nil, List·Memᴰ·cases-cons}
 use Prim.Native.Nat.{ℕ, zero, suc, _+_, _≤_, _<_}
 use native.Mathlib.Numerals.{add-one}
@@ -13,6 +13,7 @@ use Rattle.limits.specs.Limits.{maxSites}
 use Rattle.words.specs.Words.{wordAt}
 use Rattle.grid.specs.declared.Site.{Site}
 use Rattle.grid.specs.Says.{Says}
+use Rattle.grid.proofs.Says.{says-yes, says-no}
 use Rattle.grid.specs.Position.{OnGrid}
 use Rattle.row.specs.Places.{siteAtByte}
 use Rattle.book.specs.Proper.{NumberOk}
@@ -87,15 +88,6 @@ module _ (b : List ℕ) (ok : SitesOk b) where
         spare = ok .spare i h;
       }
 
--- what a yes and a no say
-says-yes : (P : Type 0) (r : Bool) → Says r P → r ≡ true → P
-says-yes P true s e = s
-says-yes P false s e = absurd (true≢false (sym e))
-
-says-no : (P : Type 0) (r : Bool) → Says r P → r ≡ false → ¬ P
-says-no P true s e = absurd (true≢false e)
-says-no P false s e = s
-
 -- the first k of n records keep the rules, and low is the number of the last of them
 pub record Checked (b : List ℕ) (n k low : ℕ) : Type 0 where
   pub within : k ≤ n
@@ -113,7 +105,7 @@ module _ {b : List ℕ} {n k low : ℕ} (c : Checked b n k low) (h : k < n) wher
   pub check-one : {m : ℕ} (r : Bool) → Says r (RecordOk b (recordStart k) low) → r ≡ true → m ≡ wordAt b (recordStart k) → Checked b n (k + 1) m
   unfolding numberBefore
   check-one r s yes-is e =
-      let ok : RecordOk b (recordStart k) low = says-yes (RecordOk b (recordStart k) low) r s yes-is in
+      let ok : RecordOk b (recordStart k) low = says-yes r s yes-is in
       record {
         within = omega arith;
         few = c .few;
@@ -126,7 +118,7 @@ module _ {b : List ℕ} {n k low : ℕ} (c : Checked b n k low) (h : k < n) wher
 
   pub check-stopped : (r : Bool) → Says r (RecordOk b (recordStart k) low) → r ≡ false → ¬ SitesOk b
   check-stopped r s no-is ok =
-      says-no (RecordOk b (recordStart k) low) r s no-is
+      says-no r s no-is
       (subst (λ (l : ℕ). RecordOk b (recordStart k) l) (sym (c .before)) (sites-records b ok k (omega (arith, c .count))))
 
 pub check-all : {b : List ℕ} {n k low : ℕ} → Checked b n k low → n ≤ k → SitesOk b

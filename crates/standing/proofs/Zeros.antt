@@ -1,7 +1,7 @@
 -- The test of zero bytes, and of the header.
 -- Assumes nothing.
 use mathlib.Core.Path.{_≡_, sym, _∙_}
-use mathlib.Core.Bool.{Bool, true, false}
+use mathlib.Core.Bool.{Bool, true, false, true≢false}
 use mathlib.Core.List.{List}
 use Prim.Native.Nat.{ℕ, _+_, _≤_, _<_}
 use native.Mathlib.Omega.{arith}
@@ -37,19 +37,16 @@ pub not-zero : (b : List ℕ) (lo hi i : ℕ) → Zeroing b lo hi i → i < hi �
 unfolding ZeroFrom
 not-zero b lo hi i z l h k = h (k i (z .from) l)
 
-clash : true ≡ false → ⊥
-clash x = let z : _≡_ {A = ℕ} 0 1 = cc in omega arith
-
 module _ (b : List ℕ) (f : ℕ) (e : f ≡ wordAt b flagStart) where
   pub flag-high : 1 < f → ¬ HeaderOk b
   flag-high h k = omega (arith, k .flag)
 
   pub leg-left : (q : Bool) → f ≡ 0 → Says q (ZeroFrom b legStart lengthStart) → q ≡ false → ¬ HeaderOk b
-  leg-left true z h x k = absurd (clash x)
+  leg-left true z h x k = absurd (true≢false x)
   leg-left false z h x k = h (k .unset (sym e ∙ z))
 
   pub unset-ok : (q r : Bool) → f ≡ 0 → Says q (ZeroFrom b legStart lengthStart) → q ≡ true → Says r (ZeroFrom b keptStart keptEnd) → Says r (HeaderOk b)
-  unset-ok false r z h x k = absurd (clash (sym x))
+  unset-ok false r z h x k = absurd (true≢false (sym x))
   unset-ok true true z h x k = record { flag = omega arith; unset = λ y. h; kept = k }
   unset-ok true false z h x k = λ g. k (g .kept)
 

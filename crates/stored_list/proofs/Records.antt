@@ -1,7 +1,7 @@
 -- A line's record as a place.
 -- Assumes nothing.
 use mathlib.Core.Path.{_≡_, refl, sym, ap, subst, _∙_}
-use mathlib.Core.Bool.{Bool, true, false}
+use mathlib.Core.Bool.{Bool, true, false, true≢false}
 use mathlib.Core.List.{List, List·Memᴰ}
 use Prim.Native.Nat.{ℕ, _+_, _*_, _/_, _≤_, _<_}
 use native.Mathlib.Omega.{arith}
@@ -22,9 +22,6 @@ use Rattle.stored_list.specs.Loading.{PlaceOf}
 
 pub array-of : (b : List ℕ) → length b ≡ tableBytes → SitesOk b → Array b
 array-of b len s = record { len = len; few = s .few; rising = s .rising; spare = s .spare }
-
-clash : true ≡ false → ⊥
-clash x = let z : _≡_ {A = ℕ} 0 1 = cc in omega arith
 
 module _ (b : List ℕ) (n : ℕ) (len : length b ≡ tableBytes) (s : SitesOk b) where
   pub start-few : (r : Found) (k : ℕ) → r ≡ Found.At k → FoundAs r n (linesIn b) → k ≤ maxSites
@@ -47,4 +44,4 @@ module _ (b : List ℕ) (n : ℕ) (len : length b ≡ tableBytes) (s : SitesOk b
   pub never-absent : (r : Found) (k : ℕ) → r ≡ Found.Absent k → FoundAs r n (linesIn b) → holds n (linesIn b) ≡ true → PlaceOf b n 0
   never-absent r k e f h =
       let g : StandsNowhere k n (linesIn b) = subst (λ (x : Found). FoundAs x n (linesIn b)) e f in
-      absurd (clash (sym h ∙ absent-held g))
+      absurd (true≢false (sym h ∙ absent-held g))

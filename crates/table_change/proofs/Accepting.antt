@@ -1,7 +1,7 @@
 -- An accepted change, carried out: the table holds the changed book.
 -- Assumes nothing.
 use mathlib.Core.Path.{_≡_, refl, sym, ap, subst, _∙_}
-use mathlib.Core.Bool.{true, false}
+use mathlib.Core.Bool.{true, false, true≢false}
 use mathlib.Core.Option.{Option, some}
 use mathlib.Core.List.{List}
 use Prim.Native.Nat.{ℕ, _+_, _*_, _≤_, _<_}
@@ -35,9 +35,6 @@ use Rattle.demands.specs.Step.{Holds}
 use Rattle.table_change.specs.Changes.{Relined}
 use Rattle.table_change.proofs.Restanding.{tied-below}
 
-clash : true ≡ false → ⊥
-clash x = let z : _≡_ {A = ℕ} 0 1 = cc in omega arith
-
 pub sound-array : (b : List ℕ) → Sound b → Array b
 sound-array b s = sites-array (s .whole .len) (s .whole .sites)
 
@@ -66,7 +63,7 @@ module _ (b : List ℕ) (n : ℕ) (p : Position) (s : Sound b) (acc : answer (bo
   add-grid = add-accepted (bookOf b) n p acc .onGrid
 
   pub add-never : (f : Found) (k : ℕ) → f ≡ Found.At k → FoundAs f n (linesIn b) → Holds b (change (Add n p) (bookOf b))
-  add-never f k e a = absurd (clash (sym (at-held (found-at e a)) ∙ add-accepted (bookOf b) n p acc .new))
+  add-never f k e a = absurd (true≢false (sym (at-held (found-at e a)) ∙ add-accepted (bookOf b) n p acc .new))
 
   -- ADDED
   pub add-done : (b₁ b₂ : List ℕ) → Relined (writeLine (siteAs n p) (linesIn b)) b b₁ → Holds b₂ (bookOf b₁) → Holds b₂ (change (Add n p) (bookOf b))
@@ -78,7 +75,7 @@ module _ (b : List ℕ) (n : ℕ) (s : Sound b) (acc : answer (bookOf b) (Remove
   remove-at f k e a = found-at e a
 
   pub remove-never : (f : Found) (k : ℕ) → f ≡ Found.Absent k → FoundAs f n (linesIn b) → Holds b (change (Remove n) (bookOf b))
-  remove-never f k e a = absurd (clash (sym (remove-accepted (bookOf b) n acc .held) ∙ absent-held (found-absent e a)))
+  remove-never f k e a = absurd (true≢false (sym (remove-accepted (bookOf b) n acc .held) ∙ absent-held (found-absent e a)))
 
   -- REMOVED
   pub remove-done : (b₁ b₂ : List ℕ) → Relined (strikeLine n (linesIn b)) b b₁ → Holds b₂ (bookOf b₁) → Holds b₂ (change (Remove n) (bookOf b))
@@ -93,7 +90,7 @@ module _ (b : List ℕ) (n : ℕ) (p : Position) (s : Sound b) (acc : answer (bo
   move-at f k e a = found-at e a
 
   pub move-never : (f : Found) (k : ℕ) → f ≡ Found.Absent k → FoundAs f n (linesIn b) → Holds b (change (Move n p) (bookOf b))
-  move-never f k e a = absurd (clash (sym (move-accepted (bookOf b) n p acc .held) ∙ absent-held (found-absent e a)))
+  move-never f k e a = absurd (true≢false (sym (move-accepted (bookOf b) n p acc .held) ∙ absent-held (found-absent e a)))
 
   -- MOVED
   pub move-done : (b₁ b₂ : List ℕ) → Relined (moveLine n p (linesIn b)) b b₁ → Holds b₂ (bookOf b₁) → Holds b₂ (change (Move n p) (bookOf b))

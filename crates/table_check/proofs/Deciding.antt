@@ -12,8 +12,9 @@ use borrow.Author.Tests.{eqb-true, eqb-false}
 use Rattle.limits.specs.Limits.{maxSites, tableBytes}
 use Rattle.words.specs.Words.{wordAt}
 use Rattle.grid.specs.declared.Leg.{Leg}
-use Rattle.grid.specs.Position.{OnGrid, LegOnGrid}
+use Rattle.grid.specs.Position.{LegOnGrid}
 use Rattle.grid.specs.Says.{Says}
+use Rattle.grid.proofs.Says.{says-yes, says-no, says-map}
 use Rattle.row.specs.Vertices.{entriesIn}
 use Rattle.book.specs.Book.{listOf, standingList}
 use Rattle.book.specs.Proper.{LegOk}
@@ -33,29 +34,6 @@ use Rattle.table.specs.Table.{bookOf, Whole, StandingOk, Sound}
 use Rattle.table_check.proofs.Matching.{words-length}
 use Rattle.table_change.proofs.Points.{tree-sites}
 use Rattle.table_change.proofs.Restanding.{whole-numbered}
-
-pub clash : true ≡ false → ⊥
-clash x = let z : _≡_ {A = ℕ} 0 1 = cc in omega arith
-
-pub says-yes : {A : Type 0} (q : Bool) → Says q A → q ≡ true → A
-says-yes true s e = s
-says-yes false s e = absurd (clash (sym e))
-
-pub says-no : {A : Type 0} (q : Bool) → Says q A → q ≡ false → ¬ A
-says-no true s e = absurd (clash e)
-says-no false s e = s
-
-says-map : {A B : Type 0} (q : Bool) → (A → B) → (B → A) → Says q A → Says q B
-says-map true f g s = f s
-says-map false f g s = λ b. s (g b)
-
--- ---- legs
-
-pub leg-both : (l : Leg) (q r : Bool) → Says q (OnGrid (l .s)) → q ≡ true → Says r (OnGrid (l .e)) → Says r (LegOnGrid l)
-leg-both l q r s e t = says-map r (λ x. record { s = says-yes q s e; e = x }) (λ x. x .e) t
-
-pub leg-not : (l : Leg) (q : Bool) → Says q (OnGrid (l .s)) → q ≡ false → ¬ LegOnGrid l
-leg-not l q s e x = says-no q s e (x .s)
 
 -- ---- the standing leg and list
 

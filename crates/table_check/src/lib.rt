@@ -5,22 +5,11 @@ ghost use mathlib.Core.Path.{_≡_};
 ghost use Prim.Native.Nat.{_+_, _*_, _<_, _≤_};
 ghost use lib.ListN.{length};
 ghost use Rattle.limits.specs.Limits.{tableBytes};
-ghost use Rattle.grid.specs.Position.{LegOnGrid};
 ghost use Rattle.grid.specs.Says.{Says};
 ghost use Rattle.row.specs.Vertices.{rowBytes, Held, entriesIn};
 ghost use Rattle.standing.specs.Standing.{standingIn, numbersOf};
 ghost use Rattle.tree_check.specs.Marks.{seenBytes};
 ghost use Rattle.table.specs.Table.{Whole, StandingOk, Sound};
-
-// Whether both ends of a leg are on the grid.
-pub fn leg_on_grid(leg: Leg) -> bool
-    ensures { λ r. ⌜ Says r (LegOnGrid leg) ⌝ }
-{
-    if grid::coordinate::on_grid(leg.s) {
-        return grid::coordinate::on_grid(leg.e);
-    }
-    false
-}
 
 // Whether the stored standing list has the numbers of the list in the first k of the row.
 fn list_matches(t: &[u8], work: &[u8], leg: Leg, k: usize) -> bool
@@ -56,7 +45,7 @@ fn standing_ok(t: &[u8], work: &mut [u8]) -> bool
             n == 0
         }
         Standing::Along(leg) => {
-            if leg_on_grid(leg) {
+            if grid::coordinate::leg_on_grid(leg) {
                 let k = tree_search::search(t, leg, work);
                 return list_matches(t, work, leg, k);
             }

@@ -1,7 +1,7 @@
-use Rattle.table_check.proofs.Deciding.{leg-both, leg-not}
+use Rattle.grid.proofs.Says.{leg-both, leg-not}
 use borrow.Author.Needs.{needs}
-use Rattle.table_check.proofs.leg_on_grid.Statement.{statement}
-use Rattle.table_check.proofs.leg_on_grid.Tie as tie
+use Rattle.grid.proofs.coordinate.leg_on_grid.Statement.{statement}
+use Rattle.grid.proofs.coordinate.leg_on_grid.Tie as tie
 
 on-grid-requires : tie.Need-on-grid-requires
 on-grid-requires c κs = search needs
