@@ -8,3 +8,4 @@ pub mod ProperRuns
 pub mod ReadBack
 pub mod Orders
 pub mod Refill
+pub mod Prefixes

@@ -18,9 +18,9 @@ use Rattle.split.proofs.Unique.{end-fraction}
 use Rattle.split.proofs.Once.{few}
 use Rattle.split.proofs.Denominators.{bounded}
 use Rattle.split.proofs.Exists.{split-is}
-use Rattle.records.specs.Decode.{readRecord}
+use Rattle.records.specs.Decode.{listedOf, readRecord}
 use Rattle.records.proofs.Length.{record-length}
-use Rattle.records.proofs.ReadBack.{EntrySmall, listedOf, read-record}
+use Rattle.records.proofs.ReadBack.{EntrySmall, read-record}
 use Rattle.book.specs.declared.Command.{Command}
 use Rattle.book.specs.declared.Command.the-variants.{Add, Remove, Move, List as ListOf, Stand, Print}
 use Rattle.book.specs.Book.{Book}

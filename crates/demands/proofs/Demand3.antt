@@ -52,6 +52,7 @@ use Rattle.demands.specs.Whole.Filled.{none as no-ask, next as more-asks
 use Rattle.demands.specs.Whole.{Call, MadeOn, Made, Ran, Said, said, Ask, asked, taken, saidBy, replies, bookAfter, bookOfRun, Filled, Asks, Room, Wrote}
 use Rattle.demands.specs.Demands.{list4C, print50, listRecord, AllNearest, FreshOf, Demand3}
 use Rattle.demands.proofs.WholeRun.{Answered, one-on, ran-holds, ran-answers, laid-holds}
+use Rattle.demands.proofs.Legs.{small, list-encodable, held-some, list-answer, list-right}
 use Rattle.demands.proofs.OneCommand.{wrote-one, holds-one, listed-keeps, accepted-one}
 
 -- ---- the book of a run is proper
@@ -86,19 +87,6 @@ never cs t′ r = made-never (r .laid-table) emptyBook (laid-holds (r .before) (
 
 -- ---- the list of a leg
 
-small : (p : Position) → OnGrid p → PositionSmall p
-small p h = record { east = omega (arith, h .east); north = omega (arith, h .north) }
-
-list-encodable : (l : Leg) → LegOnGrid l → Encodable (ListOf l)
-list-encodable l h = (small (l .s) (h .s), small (l .e) (h .e))
-
-held-some : (s : List Site) → s ≢ [] → length s ≢ 0
-held-some [] h e = h refl
-held-some (p ∷ s) h e = omega arith
-
-list-answer : (b : Book) (l : Leg) → LegOnGrid l → b .lines ≢ [] → answer b (ListOf l) ≡ listed (splitOf l (b .lines))
-list-answer b l on h = answer-list-done b l on (held-some (b .lines) h)
-
 module _ (cs : List Call) (t′ : List ℕ) (r : Ran cs t′) where
   listed-is : (l : Leg) → LegOnGrid l → bookOfRun cs .lines ≢ [] → (c : Call) (t″ : List ℕ) → Asks t′ (list4C l) c t″
       → Room c (recordBytes (splitOf l (bookOfRun cs .lines))) → Wrote c (recordBytes (splitOf l (bookOfRun cs .lines))) × (t″ ≡ t′)
@@ -110,14 +98,9 @@ module _ (cs : List Call) (t′ : List ℕ) (r : Ran cs t′) where
         listed-keeps t′ (bookOfRun cs) h (ListOf l) (list-encodable l on) c t″ a ok (splitOf l (bookOfRun cs .lines)) e,
       )
 
-  all-nearest : (l : Leg) (s : List Site) (es : List Entry) → Stretches l s es → AllNearest l s es
-  all-nearest l s [] h = tt
-  all-nearest l s (e ∷ es) h = (closed l s e es h, all-nearest l s es (h .1))
-
   right-is : (l : Leg) → IsSplitList l (bookOfRun cs .lines) (splitOf l (bookOfRun cs .lines)) × AllNearest l (bookOfRun cs .lines) (splitOf l (bookOfRun cs .lines))
   right-is l =
-      let h = split-is l (bookOfRun cs .lines) (ran-numbered cs t′ r) in
-      (h, all-nearest l (bookOfRun cs .lines) (splitOf l (bookOfRun cs .lines)) (h .rules))
+      list-right l (bookOfRun cs .lines) (ran-numbered cs t′ r)
 
   -- ---- the standing list
 

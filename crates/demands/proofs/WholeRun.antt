@@ -59,6 +59,11 @@ module _ (t : List ℕ) (s : Sound t) (c : Call) (t′ : List ℕ) (m : MadeOn t
   pub one-call : Answered (bookOf t) c t′
   one-call = let h = by-length (eqb (length (c .work)) workBytes) refl in record { said-is = h .0; holds = h .1 }
 
+-- with a work buffer of the right length it is the book's run
+pub served-call : (t : List ℕ) → Sound t → (c : Call) (t′ : List ℕ) → MadeOn t c t′ → length (c .work) ≡ workBytes
+    → Served (run (c .commands) (length (c .report)) (bookOf t)) t (c .report) (c .result) t′ (c .workAfter) (c .reportAfter)
+served-call t s c t′ m e = m .served (ok t s c t′ m true (eq-eqb (length (c .work)) workBytes e)) s
+
 pub one-on : (t : List ℕ) (b : Book) → Holds t b → (c : Call) (t′ : List ℕ) → MadeOn t c t′ → Answered b c t′
 one-on t b h c t′ m = subst (λ (x : Book). Answered x c t′) (h .book) (one-call t (h .sound) c t′ m)
 

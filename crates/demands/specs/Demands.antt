@@ -1,12 +1,12 @@
--- THE DEMANDS, as document 01 has them, over whole lists of batch calls.
--- In each, cs is a list of calls made on a table just laid out, t′ the table then, and b the book after the same calls.
+-- THE DEMANDS, as document 01 has them, over the records of the calls (Batch.antt).
 -- Assumes nothing.
 use mathlib.Core.Path.{_≡_}
 use mathlib.Core.Logic.{_≢_, _⊎_}
 use mathlib.Core.Option.{none, some}
 use mathlib.Core.List.{List, [], _∷_, _++_, map, List·Memᴰ}
-use Prim.Native.Nat.{ℕ, _≤_}
-use lib.ListN.{length}
+use Prim.Native.Nat.{ℕ, _+_, _≤_}
+use lib.ListN.{length, drop}
+use Rattle.limits.specs.Limits.{workBytes}
 use Rattle.grid.specs.declared.Site.{Site}
 use Rattle.grid.specs.declared.Leg.{Leg}
 use Rattle.grid.specs.declared.Fraction.{Fraction}
@@ -15,20 +15,25 @@ use Rattle.grid.specs.Fraction.{IsFraction}
 use Rattle.split.specs.SplitList.{Entry, IsSplitList, NearestAt, CoversAt, nameAt}
 use Rattle.split.specs.SplitOf.{splitOf}
 use Rattle.records.specs.ListRecord.{recordBytes}
-use Rattle.book.specs.declared.Reason.the-variants.{Broken}
+use Rattle.records.specs.Decode.{listedOf, readRecord}
+use Rattle.book.specs.declared.Reason.the-variants.{AllUsed, Broken, UnknownCommand, CutShort, NoRoom}
 use Rattle.book.specs.declared.Command.the-variants.{Add, Remove, List as ListOf, Print}
 use Rattle.book.specs.Book.{Book, emptyBook, standingList}
 use Rattle.book.specs.Encode.{commandBytes}
 use Rattle.book.specs.Perm.{Perm}
 use Rattle.book.specs.Proper.{NumberOk}
-use Rattle.book.specs.Reply.{recordOf}
+use Rattle.book.specs.Reply.{done, recordOf}
 use Rattle.book.specs.Answer.{answer}
-use Rattle.demands.specs.Whole.{Call, Ran, said, asked, replies, bookOfRun, Filled, Asks, Room, Wrote}
+use Rattle.book.specs.Run.{Turn, Outcome, records, run}
+use Rattle.table.specs.Table.{Sound, bookOf}
+use Rattle.demands.specs.Batch.{zeros}
+use Rattle.demands.specs.Whole.{Call, MadeOn, Ran, said, asked, replies, bookOfRun, Filled, Asks, Room, Wrote}
 
--- the bytes of a 4C and of a 50
+-- the bytes of a 4C
 abbrev pub list4C : Leg → List ℕ
 list4C l = commandBytes (ListOf l)
 
+-- and of a 50
 abbrev pub print50 : List ℕ
 print50 = commandBytes Print
 
@@ -47,7 +52,64 @@ pub record FreshOf (cs fs : List Call) : Type 0 where
   pub filled : Filled (map asked fs) order
   pub perm : Perm order (bookOfRun cs .lines)
 
--- DEMAND 3. b is short for bookOfRun cs, the book after the calls cs.
+-- a call that takes commands: work buffer and table have the right lengths, and the table is sound. What any other call does the record Batch says in a line each.
+pub record IsServed (t : List ℕ) (c : Call) (t′ : List ℕ) : Type 0 where
+  pub sound : Sound t
+  pub made : MadeOn t c t′
+  pub work : length (c .work) ≡ workBytes
+
+-- none of these commands was accepted as a change: each was refused, or answered by a list
+abbrev pub NoneDone : List Turn → Type 0
+NoneDone [] = Unit {0}
+NoneDone (u ∷ us) = (u .reply ≢ done) × NoneDone us
+
+-- DEMAND 1, "No call brings it down", of the calls that take commands: their ends, and what they leave.
+pub record Demand1 : Type 0 where
+  -- "the reason is 0, 66, 67 or 68"
+  pub reason : (t t′ : List ℕ) (c : Call) → IsServed t c t′
+      → (c .result .reason ≡ AllUsed) ⊎ (c .result .reason ≡ UnknownCommand) ⊎ (c .result .reason ≡ CutShort) ⊎ (c .result .reason ≡ NoRoom)
+  -- 0 exactly when all command bytes are used
+  pub all-used : (t t′ : List ℕ) (c : Call) → IsServed t c t′ → c .result .reason ≡ AllUsed → c .result .used ≡ length (c .commands)
+  pub used-all : (t t′ : List ℕ) (c : Call) → IsServed t c t′ → c .result .used ≡ length (c .commands) → c .result .reason ≡ AllUsed
+  -- no more bytes are used or written than there are
+  pub within : (t t′ : List ℕ) (c : Call) → IsServed t c t′ → (c .result .used ≤ length (c .commands)) × (c .result .written ≤ length (c .report))
+  -- "Report bytes past the written ones are left"
+  pub past : (t t′ : List ℕ) (c : Call) → IsServed t c t′ → drop (c .result .written) (c .reportAfter) ≡ drop (c .result .written) (c .report)
+  -- "The work buffer is all zero afterwards"
+  pub cleared : (t t′ : List ℕ) (c : Call) → IsServed t c t′ → c .workAfter ≡ zeros workBytes
+  -- "Left as it was: table": a call without an accepted change leaves every byte of it
+  pub kept : (t t′ : List ℕ) (c : Call) → IsServed t c t′ → NoneDone (run (c .commands) (length (c .report)) (bookOf t) .turns) → t′ ≡ t
+
+-- A served call comes to the 4C of a leg on the grid: the command bytes before it were all used, which gave o; then a site is held,
+-- and the report has room for the list. What stands behind the 4C is anything.
+pub record ComesTo (t : List ℕ) (c : Call) (t′ : List ℕ) (l : Leg) (o : Outcome) : Type 0 where
+  pub served : IsServed t c t′
+  pub before : List ℕ
+  pub behind : List ℕ
+  pub commands : c .commands ≡ before ++ (list4C l ++ behind)
+  pub so-far : run before (length (c .report)) (bookOf t) ≡ o
+  pub all : o .reason ≡ AllUsed
+  pub onGrid : LegOnGrid l
+  pub held : o .book .lines ≢ []
+  pub room : length (records (o .turns)) + length (recordBytes (splitOf l (o .book .lines))) ≤ length (c .report)
+
+-- what the call wrote: the bytes `past`, then this record, then anything
+pub record Printed (c : Call) (past bytes : List ℕ) : Type 0 where
+  pub rest : List ℕ
+  pub written : said c .bytes ≡ (past ++ bytes) ++ rest
+
+-- DEMAND 2, "Every list is right", wherever in a batch and on whatever sound table it is asked for.
+pub record Demand2 : Type 0 where
+  -- "a leg on the grid gets its list whenever a site is held and the report has room"
+  pub printed : (t t′ : List ℕ) (c : Call) (l : Leg) (o : Outcome) → ComesTo t c t′ l o → Printed c (records (o .turns)) (recordBytes (splitOf l (o .book .lines)))
+  -- the list is document 01's, and each entry's site is nearest at every fraction that it covers
+  pub right : (t t′ : List ℕ) (c : Call) (l : Leg) (o : Outcome) → ComesTo t c t′ l o
+      → IsSplitList l (o .book .lines) (splitOf l (o .book .lines)) × AllNearest l (o .book .lines) (splitOf l (o .book .lines))
+  -- reading the record gives the list: no number and no fraction is cut off
+  pub read : (t t′ : List ℕ) (c : Call) (l : Leg) (o : Outcome) → ComesTo t c t′ l o
+      → readRecord (recordBytes (splitOf l (o .book .lines))) ≡ map listedOf (splitOf l (o .book .lines))
+
+-- DEMAND 3, over whole lists of calls: cs are calls made on a table just laid out, t′ is the table then, and bookOfRun cs the book after the same calls.
 pub record Demand3 : Type 0 where
   -- "each call returns and reports exactly what the site book gives"
   pub answers : (cs : List Call) (t′ : List ℕ) → Ran cs t′ → map said cs ≡ replies emptyBook (map asked cs)

@@ -31,10 +31,11 @@ bytesOf (c ∷ cs) = commandBytes c ++ bytesOf cs
 abbrev pub since : ℕ → ℕ → ℕ → List ℕ
 since k n d = bytes2 k ++ bytes4 n ++ bytes4 d
 
--- a list record of one entry, and of two
+-- a list record of one entry
 abbrev pub one : List ℕ → List ℕ
 one e = 0x3D ∷ bytes2 1 ++ e
 
+-- and of two
 abbrev pub two : List ℕ → List ℕ → List ℕ
 two e f = 0x3D ∷ bytes2 2 ++ e ++ f
 

@@ -8,7 +8,7 @@ use native.Mathlib.Omega.{arith}
 use lib.ListN.{length, drop}
 use Rattle.split.specs.SplitList.{Entry}
 use Rattle.records.specs.ListRecord.{entryBytes, listBytes, recordBytes}
-use Rattle.records.specs.Decode.{Listed, read2, read4, readEntry, readList, readRecord}
+use Rattle.records.specs.Decode.{Listed, listedOf, read2, read4, readEntry, readList, readRecord}
 
 -- two bytes hold a number below 65,536
 pub bytes2-hold : (x : ℕ) → x < 65536 → x % 256 + 256 * (x / 256 % 256) ≡ x
@@ -27,10 +27,6 @@ pub record EntrySmall (e : Entry) : Type 0 where
   pub number : e .site .number < 65536
   pub num : e .start .num < 2 ^ 32
   pub den : e .start .den < 2 ^ 32
-
--- an entry as the record has it
-abbrev pub listedOf : Entry → Listed
-listedOf e = record { number = e .site .number; start = e .start }
 
 -- one entry is read back
 pub read-entry : (e : Entry) (s : List ℕ) → EntrySmall e → readEntry (entryBytes e ++ s) ≡ listedOf e

@@ -4,11 +4,16 @@ use mathlib.Core.List.{List, [], _∷_}
 use Prim.Native.Nat.{ℕ, zero, suc, _+_, _*_}
 use lib.ListN.{getD, drop}
 use Rattle.grid.specs.declared.Fraction.{Fraction}
+use Rattle.split.specs.SplitList.{Entry}
 
 -- an entry as the record has it: a site's number and a start
 pub record Listed : Type 0 where
   pub number : ℕ
   pub start : Fraction
+
+-- an entry of a list as the record has it: of the site its number alone
+abbrev pub listedOf : Entry → Listed
+listedOf e = record { number = e .site .number; start = e .start }
 
 -- the 16-bit number at byte i, lowest byte first
 unfoldable pub read2 : List ℕ → ℕ → ℕ
