@@ -12,6 +12,7 @@ use Rattle.grid.specs.declared.Position.{Position}
 use Rattle.grid.specs.declared.Leg.{Leg}
 use Rattle.grid.specs.Position.{OnGrid, LegOnGrid}
 use Rattle.grid.specs.Says.{Says}
+use Rattle.grid.proofs.Says.{says-yes, says-no}
 use Rattle.book.specs.declared.Cause.{Cause}
 use Rattle.book.specs.declared.Cause.the-variants.{NumberZero, OffGrid, Held, NotHeld, Full, NoSite, NoLeg}
 use Rattle.book.specs.declared.Command.{Command}
@@ -30,7 +31,6 @@ use Rattle.tree_search.specs.Searching.{Found as Searched}
 use Rattle.tree_search.proofs.Finding.{found-is}
 use Rattle.table.specs.Table.{bookOf, Sound}
 use Rattle.stored_list.specs.Loading.{Loaded}
-use Rattle.table_check.proofs.Deciding.{says-yes, says-no}
 use Rattle.table_change.proofs.Points.{tree-sites}
 use Rattle.table_change.proofs.Restanding.{whole-numbered}
 use Rattle.judge.specs.declared.Answer.{Answer}
@@ -147,3 +147,17 @@ module _ (b w : List ℕ) (r : Answer) (c d : Command) (e : c ≡ d) where
 
   pub judged-same : Judged r d b w → Judged r c b w
   judged-same h = subst (λ (x : Command). Judged r x b w) (sym e) h
+
+-- ---- accepted or not
+
+-- the answer is an acceptance
+abbrev IsDone : Answer → Type 0
+IsDone Answer.Done = Unit {0}
+IsDone (Answer.Refused x) = ⊥
+IsDone (Answer.Listed l k) = ⊥
+
+pub refused-not : (a : Answer) (x : Cause) → a ≡ Answer.Refused x → ¬ (a ≡ Answer.Done)
+refused-not a x e d = subst IsDone (sym d ∙ e) tt
+
+pub listed-not : (a : Answer) (l : Leg) (k : ℕ) → a ≡ Answer.Listed l k → ¬ (a ≡ Answer.Done)
+listed-not a l k e d = subst IsDone (sym d ∙ e) tt

@@ -5,10 +5,13 @@ pub mod list;
 use book::Cause;
 use book::Command;
 use grid::Leg;
+ghost use mathlib.Core.Path.{_≡_};
 ghost use Prim.Native.Nat.{_*_, _≤_};
 ghost use lib.ListN.{length};
+ghost use Rattle.grid.specs.Says.{Says};
 ghost use Rattle.row.specs.Vertices.{rowBytes};
 ghost use Rattle.table.specs.Table.{Sound};
+ghost use Rattle.judge.specs.declared.Answer.{Answer};
 ghost use Rattle.judge.specs.Judged.{Judged};
 
 // Accepted, refused for a cause, or answered by a list: that of the leg, in the first so many of the row that begins the work buffer.
@@ -16,6 +19,17 @@ pub enum Answer {
     Done,
     Refused(Cause),
     Listed(Leg, usize),
+}
+
+// Whether the command is accepted and changes the table.
+pub fn accepted(a: Answer) -> bool
+    ensures { λ r. ⌜ Says r (a ≡ Answer.Done) ⌝ }
+{
+    match a {
+        Answer::Done => true,
+        Answer::Refused(_) => false,
+        Answer::Listed(_, _) => false,
+    }
 }
 
 // The answer to a command.

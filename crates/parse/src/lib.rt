@@ -77,8 +77,8 @@ fn listing(s: &[u8], at: usize) -> Parsed
     if s.len() - at < 9 {
         return Parsed::Cut;
     }
-    let l = leg_at(s, at + 1);
-    Parsed::Whole(Command::List(l), at + 9)
+    let asked = leg_at(s, at + 1);
+    Parsed::Whole(Command::List(asked), at + 9)
 }
 
 // A standing leg at a byte.
@@ -89,8 +89,8 @@ fn standing(s: &[u8], at: usize) -> Parsed
     if s.len() - at < 9 {
         return Parsed::Cut;
     }
-    let l = leg_at(s, at + 1);
-    Parsed::Whole(Command::Stand(l), at + 9)
+    let along = leg_at(s, at + 1);
+    Parsed::Whole(Command::Stand(along), at + 9)
 }
 
 // What stands at a byte.

@@ -1,11 +1,13 @@
 -- A judged command, done: the table as the book's answer demands.
 -- Assumes nothing.
 use mathlib.Core.Path.{_≡_, refl, sym, ap, subst, _∙_}
+use mathlib.Core.Bool.{Bool, true, false}
 use mathlib.Core.List.{List}
-use Prim.Native.Nat.{ℕ, _+_, _≤_}
+use Prim.Native.Nat.{ℕ}
 use Rattle.grid.specs.declared.Leg.{Leg}
+use Rattle.grid.specs.Says.{Says}
+use Rattle.grid.proofs.Says.{says-yes, says-no}
 use Rattle.records.specs.Bytes.{write}
-use Rattle.book.specs.declared.Cause.{Cause}
 use Rattle.book.specs.declared.Command.{Command}
 use Rattle.book.specs.declared.Command.the-variants.{List as ListOf, Print}
 use Rattle.book.specs.Book.{Book, change}
@@ -37,8 +39,8 @@ module _ (t : List ℕ) (c : Command) (h : answer (bookOf t) c ≡ done) where
 -- ---- judged commands
 
 module _ (a : Answer) (c : Command) (t w : List ℕ) (j : Judged a c t w) where
-  pub judged-done : a ≡ Answer.Done → answer (bookOf t) c ≡ done
-  judged-done e = sym (j .said) ∙ ap (λ (y : Answer). replyOf y t w) e
+  pub judged-done : (q : Bool) → Says q (a ≡ Answer.Done) → q ≡ true → answer (bookOf t) c ≡ done
+  judged-done q s e = sym (j .said) ∙ ap (λ (y : Answer). replyOf y t w) (says-yes q s e)
 
   module _ (rep rep′ : List ℕ) (at : ℕ) (p : rep′ ≡ write rep at (recordOf (replyOf a t w))) where
     written : rep′ ≡ write rep at (recordOf (answer (bookOf t) c))
@@ -47,11 +49,13 @@ module _ (a : Answer) (c : Command) (t w : List ℕ) (j : Judged a c t w) where
     stepped : (t′ : List ℕ) → Step t c (replyOf a t w) t′ → Obeyed c t t′ rep at rep′
     stepped t′ s = record { step = subst (λ (y : Reply). Step t c y t′) (j .said) s; report = written }
 
-    pub obeyed-done : (t′ : List ℕ) → a ≡ Answer.Done → Holds t′ (change c (bookOf t)) → Obeyed c t t′ rep at rep′
-    obeyed-done t′ e h = stepped t′ (subst (λ (y : Answer). Step t c (replyOf y t w) t′) (sym e) h)
+    pub obeyed-done : (t′ : List ℕ) (q : Bool) → Says q (a ≡ Answer.Done) → q ≡ true → Holds t′ (change c (bookOf t)) → Obeyed c t t′ rep at rep′
+    obeyed-done t′ q s e h = stepped t′ (subst (λ (y : Answer). Step t c (replyOf y t w) t′) (sym (says-yes q s e)) h)
 
-    pub obeyed-refused : (x : Cause) → a ≡ Answer.Refused x → Obeyed c t t rep at rep′
-    obeyed-refused x e = stepped t (subst (λ (y : Answer). Step t c (replyOf y t w) t) (sym e) refl)
-
-    pub obeyed-listed : (l : Leg) (k : ℕ) → a ≡ Answer.Listed l k → Obeyed c t t rep at rep′
-    obeyed-listed l k e = stepped t (subst (λ (y : Answer). Step t c (replyOf y t w) t) (sym e) refl)
+    pub obeyed-kept : (q : Bool) → Says q (a ≡ Answer.Done) → q ≡ false → Obeyed c t t rep at rep′
+    obeyed-kept q s e = go a refl
+      where
+        go : (y : Answer) → a ≡ y → Obeyed c t t rep at rep′
+        go Answer.Done k = absurd (says-no q s e k)
+        go (Answer.Refused x) k = stepped t (subst (λ (y : Answer). Step t c (replyOf y t w) t) (sym k) refl)
+        go (Answer.Listed l n) k = stepped t (subst (λ (y : Answer). Step t c (replyOf y t w) t) (sym k) refl)

@@ -32,6 +32,16 @@ module _ (a : Answer) (l : Leg) (k : ℕ) (e : a ≡ Answer.Listed l k) where
   pub size-listed : (r : ℕ) → r ≡ 3 + 10 * k → r ≡ sizeOf a
   size-listed r h = h ∙ sym (ap sizeOf e)
 
+-- a record has a byte at least
+size-some : (a : Answer) → 1 ≤ sizeOf a
+size-some Answer.Done = omega arith
+size-some (Answer.Refused x) = omega arith
+size-some (Answer.Listed l k) = omega arith
+
+-- where it fits, 2B does
+pub one-fits : (a : Answer) (at n : ℕ) → at + sizeOf a ≤ n → at + 1 ≤ n
+one-fits a at n h = let s = size-some a in omega arith
+
 -- a row that can be printed has few entries
 row-few : (a : Answer) (t w : List ℕ) → RowOk a t w → Few a
 row-few Answer.Done t w r = tt

@@ -13,6 +13,7 @@ use Rattle.book.specs.declared.Parsed.{Parsed}
 use Rattle.book.specs.declared.Parsed.the-variants.{End, Unknown, Cut, Whole}
 use Rattle.book.specs.declared.Reason.{Reason}
 use Rattle.book.specs.declared.Reason.the-variants.{AllUsed, UnknownCommand, CutShort, NoRoom}
+use Rattle.book.specs.declared.BatchResult.{BatchResult}
 use Rattle.book.specs.Command.{parseAt}
 use Rattle.book.specs.Book.{Book}
 use Rattle.book.specs.Reply.{Reply, recordOf}
@@ -85,19 +86,20 @@ module _ (cs t₀ rep₀ : List ℕ) (used written : ℕ) (t rep : List ℕ) (s 
   pub serving-fits : written ≤ length rep
   serving-fits = omega (arith, room, s .count, s .steps .fits)
 
-  ended : (reason : Reason) → run cs (length rep₀) (bookOf t₀) ≡ ends reason used (s .past) (bookOf t) → Answered cs t₀ rep₀ (result reason used written) t rep
-  ended reason e =
-      subst (λ (o : Outcome). EndsAs o t₀ rep₀ (result reason used written) t rep) (sym e)
-      (record { said = ap (λ (n : ℕ). result reason used n) (s .count); report = s .report; table = s .chain })
+  ended : (reason : Reason) → run cs (length rep₀) (bookOf t₀) ≡ ends reason used (s .past) (bookOf t)
+      → (r : BatchResult) → r ≡ result reason used written → Answered cs t₀ rep₀ r t rep
+  ended reason e r h =
+      subst (λ (o : Outcome). EndsAs o t₀ rep₀ r t rep) (sym e)
+      (record { said = h ∙ ap (λ (n : ℕ). result reason used n) (s .count); report = s .report; table = s .chain })
 
   module _ (p : Parsed) (hp : p ≡ parseAt cs used) where
-    pub ended-all : p ≡ End → Answered cs t₀ rep₀ (record { reason = AllUsed; used = used; written = written }) t rep
+    pub ended-all : p ≡ End → (r : BatchResult) → r ≡ result AllUsed used written → Answered cs t₀ rep₀ r t rep
     ended-all e = ended AllUsed (ends-all cs (length rep₀) (bookOf t₀) used (s .past) (bookOf t) (s .steps) p hp e)
 
-    pub ended-unknown : p ≡ Unknown → Answered cs t₀ rep₀ (record { reason = UnknownCommand; used = used; written = written }) t rep
+    pub ended-unknown : p ≡ Unknown → (r : BatchResult) → r ≡ result UnknownCommand used written → Answered cs t₀ rep₀ r t rep
     ended-unknown e = ended UnknownCommand (ends-unknown cs (length rep₀) (bookOf t₀) used (s .past) (bookOf t) (s .steps) p hp e)
 
-    pub ended-cut : p ≡ Cut → Answered cs t₀ rep₀ (record { reason = CutShort; used = used; written = written }) t rep
+    pub ended-cut : p ≡ Cut → (r : BatchResult) → r ≡ result CutShort used written → Answered cs t₀ rep₀ r t rep
     ended-cut e = ended CutShort (ends-cut cs (length rep₀) (bookOf t₀) used (s .past) (bookOf t) (s .steps) p hp e)
 
     module _ (c : Command) (after-it : ℕ) (hc : p ≡ Whole c after-it) where
@@ -105,7 +107,7 @@ module _ (cs t₀ rep₀ : List ℕ) (used written : ℕ) (t rep : List ℕ) (s 
       fewer-left = steps-less cs (length rep₀) (bookOf t₀) used (s .past) (bookOf t) (s .steps) p hp c after-it hc
 
       module _ (a : Answer) (w : List ℕ) (j : Judged a c t w) (size : ℕ) (hs : size ≡ sizeOf a) where
-        pub ended-full : length rep - written < size → Answered cs t₀ rep₀ (record { reason = NoRoom; used = used; written = written }) t rep
+        pub ended-full : length rep - written < size → (r : BatchResult) → r ≡ result NoRoom used written → Answered cs t₀ rep₀ r t rep
         ended-full h =
             ended NoRoom
             (ends-full cs (length rep₀) (bookOf t₀) used (s .past) (bookOf t) (s .steps) p hp c after-it hc

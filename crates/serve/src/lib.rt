@@ -7,10 +7,12 @@ use book::Command;
 use book::Parsed;
 use book::Reason;
 use judge::Answer;
+ghost use mathlib.Core.Path.{_≡_};
 ghost use Prim.Native.Nat.{_+_, _*_, _≤_};
 ghost use lib.ListN.{length};
 ghost use Rattle.row.specs.Vertices.{rowBytes};
 ghost use Rattle.table.specs.Table.{Sound};
+ghost use Rattle.demands.specs.Batch.{result};
 ghost use Rattle.judge.specs.Judged.{Judged};
 ghost use Rattle.serve.specs.Serving.{sizeOf, Obeyed, Answered};
 
@@ -20,10 +22,20 @@ fn obey(t: &mut [u8], work: &mut [u8], c: Command, a: Answer, report: &mut [u8],
     ensures { λ _. ⌜ Obeyed c (now (t .entry)) (now (t .exit)) (now (report .entry)) at (now (report .exit)) ⌝ }
 {
     record::put(t, work, a, report, at);
-    match a {
-        Answer::Done => carry::carry(t, work, c),
-        Answer::Refused(_) => {}
-        Answer::Listed(_, _) => {}
+    let accepted = judge::accepted(a);
+    if accepted {
+        carry::carry(t, work, c);
+    }
+}
+
+// The result of a batch that ends here.
+fn ended(reason: Reason, used: usize, written: usize) -> BatchResult
+    ensures { λ r. ⌜ r ≡ result reason used written ⌝ }
+{
+    BatchResult {
+        reason: reason,
+        used: used,
+        written: written,
     }
 }
 
@@ -37,36 +49,14 @@ pub fn serve(t: &mut [u8], work: &mut [u8], commands: &[u8], report: &mut [u8]) 
     loop {
         let p = parse::parse(commands, used);
         match p {
-            Parsed::End => {
-                return BatchResult {
-                    reason: Reason::AllUsed,
-                    used: used,
-                    written: written,
-                };
-            }
-            Parsed::Unknown => {
-                return BatchResult {
-                    reason: Reason::UnknownCommand,
-                    used: used,
-                    written: written,
-                };
-            }
-            Parsed::Cut => {
-                return BatchResult {
-                    reason: Reason::CutShort,
-                    used: used,
-                    written: written,
-                };
-            }
+            Parsed::End => return ended(Reason::AllUsed, used, written),
+            Parsed::Unknown => return ended(Reason::UnknownCommand, used, written),
+            Parsed::Cut => return ended(Reason::CutShort, used, written),
             Parsed::Whole(c, next) => {
                 let a = judge::judge(t, work, c);
                 let size = record::size(a);
                 if report.len() - written < size {
-                    return BatchResult {
-                        reason: Reason::NoRoom,
-                        used: used,
-                        written: written,
-                    };
+                    return ended(Reason::NoRoom, used, written);
                 }
                 let upto = written + size;
                 obey(t, work, c, a, report, written);

@@ -23,6 +23,9 @@ parse-requires c κs = search needs
 enum-told : tie.Need-enum-told Inv-loop μ-loop
 enum-told c = search needs
 
+ended-requires : tie.Need-ended-requires Inv-loop μ-loop
+ended-requires c κs = search needs
+
 same-length : tie.Need-same-length Inv-loop μ-loop
 same-length c = search needs
 
@@ -38,6 +41,9 @@ returns c = search (needs, ended-all)
 enum-told-2 : tie.Need-enum-told-2 Inv-loop μ-loop
 enum-told-2 c = search needs
 
+ended-requires-2 : tie.Need-ended-requires-2 Inv-loop μ-loop
+ended-requires-2 c κs = search needs
+
 same-length-4 : tie.Need-same-length-4 Inv-loop μ-loop
 same-length-4 c = search needs
 
@@ -52,6 +58,9 @@ returns-2 c = search (needs, ended-unknown)
 
 enum-told-3 : tie.Need-enum-told-3 Inv-loop μ-loop
 enum-told-3 c = search needs
+
+ended-requires-3 : tie.Need-ended-requires-3 Inv-loop μ-loop
+ended-requires-3 c κs = search needs
 
 same-length-7 : tie.Need-same-length-7 Inv-loop μ-loop
 same-length-7 c = search needs
@@ -77,6 +86,9 @@ size-requires c κs = search (needs, judged-few)
 sub-if1 : tie.Need-sub-if1 Inv-loop μ-loop
 sub-if1 c = search (needs, serving-fits)
 
+ended-requires-4 : tie.Need-ended-requires-4 Inv-loop μ-loop
+ended-requires-4 c κs = search needs
+
 same-length-10 : tie.Need-same-length-10 Inv-loop μ-loop
 same-length-10 c = search needs
 
@@ -89,11 +101,11 @@ same-length-12 c = search needs
 returns-4 : tie.Need-returns-4 Inv-loop μ-loop
 returns-4 c = search (needs, ended-full)
 
-obey-requires : tie.Need-obey-requires Inv-loop μ-loop
-obey-requires c κs = (search (needs, serving-sound), search needs, search needs, search (needs, turn-fits, serving-fits))
-
 add-upto : tie.Need-add-upto Inv-loop μ-loop
 add-upto c = search (needs, turn-room, serving-fits)
+
+obey-requires : tie.Need-obey-requires Inv-loop μ-loop
+obey-requires c κs = (search (needs, serving-sound), search needs, search needs, search (needs, turn-fits, serving-fits))
 
 loop-less : tie.Need-loop-less Inv-loop μ-loop
 loop-less c = search (needs, fewer-left)
@@ -110,16 +122,19 @@ serve-spec =
     loop-holds
     parse-requires
     enum-told
+    ended-requires
     same-length
     same-length-2
     same-length-3
     returns
     enum-told-2
+    ended-requires-2
     same-length-4
     same-length-5
     same-length-6
     returns-2
     enum-told-3
+    ended-requires-3
     same-length-7
     same-length-8
     same-length-9
@@ -128,6 +143,7 @@ serve-spec =
     judge-requires
     size-requires
     sub-if1
+    ended-requires-4
     same-length-10
     same-length-11
     same-length-12
