@@ -1,0 +1,123 @@
+//! The six commands of document 01 and their bytes.
+
+use crate::grid::{Leg, Position, Site};
+
+const ADD: u8 = 0x41;
+const REMOVE: u8 = 0x44;
+const MOVE: u8 = 0x4D;
+const LIST: u8 = 0x4C;
+const STAND: u8 = 0x53;
+const PRINT: u8 = 0x50;
+
+#[derive(Clone, Copy, Debug, PartialEq, Eq)]
+pub enum Command {
+    Add(Site),
+    Remove(u16),
+    Move(Site),
+    List(Leg),
+    Stand(Leg),
+    Print,
+}
+
+impl Command {
+    /// Appends the command's bytes.
+    pub fn write(&self, bytes: &mut Vec<u8>) {
+        match *self {
+            Command::Add(site) => put_site(bytes, ADD, site),
+            Command::Remove(number) => {
+                bytes.push(REMOVE);
+                bytes.extend(number.to_le_bytes());
+            }
+            Command::Move(site) => put_site(bytes, MOVE, site),
+            Command::List(leg) => put_leg(bytes, LIST, leg),
+            Command::Stand(leg) => put_leg(bytes, STAND, leg),
+            Command::Print => bytes.push(PRINT),
+        }
+    }
+
+    /// The first command and its length; none where the bytes begin with no whole command.
+    pub fn read(bytes: &[u8]) -> Option<(Command, usize)> {
+        let (&mark, operands) = bytes.split_first()?;
+        let command = match mark {
+            ADD => (Command::Add(site(operands)?), 7),
+            REMOVE => (Command::Remove(word(operands, 0)?), 3),
+            MOVE => (Command::Move(site(operands)?), 7),
+            LIST => (Command::List(leg(operands)?), 9),
+            STAND => (Command::Stand(leg(operands)?), 9),
+            PRINT => (Command::Print, 1),
+            _ => return None,
+        };
+        Some(command)
+    }
+}
+
+fn put_site(bytes: &mut Vec<u8>, mark: u8, site: Site) {
+    bytes.push(mark);
+    bytes.extend(site.number.to_le_bytes());
+    put_position(bytes, site.at);
+}
+
+fn put_leg(bytes: &mut Vec<u8>, mark: u8, leg: Leg) {
+    bytes.push(mark);
+    put_position(bytes, leg.s);
+    put_position(bytes, leg.e);
+}
+
+fn put_position(bytes: &mut Vec<u8>, position: Position) {
+    bytes.extend(position.east.to_le_bytes());
+    bytes.extend(position.north.to_le_bytes());
+}
+
+fn word(operands: &[u8], at: usize) -> Option<u16> {
+    let bytes = operands.get(at..at + 2)?;
+    Some(u16::from_le_bytes([bytes[0], bytes[1]]))
+}
+
+fn position(operands: &[u8], at: usize) -> Option<Position> {
+    Some(Position {
+        east: word(operands, at)?.cast_signed(),
+        north: word(operands, at + 2)?.cast_signed(),
+    })
+}
+
+fn site(operands: &[u8]) -> Option<Site> {
+    Some(Site {
+        number: word(operands, 0)?,
+        at: position(operands, 2)?,
+    })
+}
+
+fn leg(operands: &[u8]) -> Option<Leg> {
+    Some(Leg {
+        s: position(operands, 0)?,
+        e: position(operands, 4)?,
+    })
+}
+
+#[cfg(test)]
+mod tests {
+    use super::*;
+    use reference::random::{self, Random};
+
+    #[test]
+    fn the_second_programs_commands_come_back_byte_for_byte() {
+        let mut random = Random::new(31);
+        for bytes in random::commands(&mut random, 3_000) {
+            let (command, length) = Command::read(&bytes).unwrap();
+            let mut again = Vec::new();
+            command.write(&mut again);
+            assert_eq!((again, length), (bytes.clone(), bytes.len()));
+        }
+    }
+
+    #[test]
+    fn a_cut_or_unknown_command_is_none() {
+        let mut random = Random::new(32);
+        for bytes in random::commands(&mut random, 300) {
+            for length in 0..bytes.len() {
+                assert_eq!(Command::read(&bytes[..length]), None);
+            }
+        }
+        assert_eq!(Command::read(&[0x42; 9]), None);
+    }
+}

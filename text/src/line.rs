@@ -1,0 +1,251 @@
+//! One line of text: a command, nothing, or a complaint.
+
+use crate::command::Command;
+use crate::grid::{Leg, Position, Site};
+use std::fmt;
+
+/// Why a line is bad.
+#[derive(Clone, Debug, PartialEq, Eq)]
+pub enum Complaint {
+    UnknownWord(String),
+    /// The word, its operands in words, their number, and the number found.
+    Count(&'static str, &'static str, usize, usize),
+    NotANumber(String),
+    SiteNumber(String),
+    Coordinate(String),
+    TooLong(usize),
+}
+
+const SITE: &str = "site number, easting, northing";
+const LEG: &str = "easting and northing of the start, then of the end";
+/// What is shown of a word that is not understood.
+const SHOWN: usize = 24;
+
+/// The command of a line; none if it is empty or a comment.
+pub fn parse(line: &[u8]) -> Result<Option<Command>, Complaint> {
+    // What a comment says is nobody's matter, whatever its bytes.
+    let text = line.split(|byte| *byte == b'#').next().unwrap_or_default();
+    let words: Vec<&[u8]> = text
+        .split(|byte| byte.is_ascii_whitespace())
+        .filter(|word| !word.is_empty())
+        .collect();
+    let Some((first, operands)) = words.split_first() else {
+        return Ok(None);
+    };
+    command(first, operands).map(Some)
+}
+
+fn command(first: &[u8], operands: &[&[u8]]) -> Result<Command, Complaint> {
+    match first {
+        b"add" => site("add", operands).map(Command::Add),
+        b"move" => site("move", operands).map(Command::Move),
+        b"leg" => leg("leg", operands).map(Command::List),
+        b"stand" => leg("stand", operands).map(Command::Stand),
+        b"remove" => {
+            let [number] = counted("remove", "site number", operands)?;
+            site_number(number).map(Command::Remove)
+        }
+        b"print" => {
+            let [] = counted("print", "nothing", operands)?;
+            Ok(Command::Print)
+        }
+        _ => Err(Complaint::UnknownWord(shown(first))),
+    }
+}
+
+fn counted<'a, const N: usize>(
+    name: &'static str,
+    wanted: &'static str,
+    operands: &[&'a [u8]],
+) -> Result<[&'a [u8]; N], Complaint> {
+    let found = operands.len();
+    <[&[u8]; N]>::try_from(operands).map_err(|_| Complaint::Count(name, wanted, N, found))
+}
+
+fn site(name: &'static str, operands: &[&[u8]]) -> Result<Site, Complaint> {
+    let [number, east, north] = counted(name, SITE, operands)?;
+    Ok(Site {
+        number: site_number(number)?,
+        at: position(east, north)?,
+    })
+}
+
+fn leg(name: &'static str, operands: &[&[u8]]) -> Result<Leg, Complaint> {
+    let [s_east, s_north, e_east, e_north] = counted(name, LEG, operands)?;
+    Ok(Leg {
+        s: position(s_east, s_north)?,
+        e: position(e_east, e_north)?,
+    })
+}
+
+fn position(east: &[u8], north: &[u8]) -> Result<Position, Complaint> {
+    Ok(Position {
+        east: number(east, Complaint::Coordinate)?,
+        north: number(north, Complaint::Coordinate)?,
+    })
+}
+
+fn site_number(word: &[u8]) -> Result<u16, Complaint> {
+    number(word, Complaint::SiteNumber)
+}
+
+/// A whole number that fits its word; `misfit` names one that does not.
+fn number<T: TryFrom<i64>>(word: &[u8], misfit: fn(String) -> Complaint) -> Result<T, Complaint> {
+    let digits = match word {
+        [b'-' | b'+', digits @ ..] => digits,
+        digits => digits,
+    };
+    if digits.is_empty() || !digits.iter().all(u8::is_ascii_digit) {
+        return Err(Complaint::NotANumber(shown(word)));
+    }
+    let text = std::str::from_utf8(word).ok();
+    let value = text.and_then(|text| text.parse::<i64>().ok());
+    let fitting = value.and_then(|value| T::try_from(value).ok());
+    fitting.ok_or_else(|| misfit(shown(word)))
+}
+
+/// Printable and short, whatever the bytes: they may go to a terminal.
+fn shown(word: &[u8]) -> String {
+    let start = word[..word.len().min(SHOWN)].escape_ascii();
+    let rest = if word.len() > SHOWN { "..." } else { "" };
+    format!("{start}{rest}")
+}
+
+impl fmt::Display for Complaint {
+    fn fmt(&self, f: &mut fmt::Formatter) -> fmt::Result {
+        match self {
+            Complaint::UnknownWord(word) => write!(
+                f,
+                "unknown word \"{word}\" (known: add, remove, move, leg, stand, print)"
+            ),
+            Complaint::Count(name, wanted, count, found) => {
+                let s = if *count == 1 { "" } else { "s" };
+                write!(f, "{name} takes {count} number{s} ({wanted}), not {found}")
+            }
+            Complaint::NotANumber(word) => write!(f, "\"{word}\" is not a whole number"),
+            Complaint::SiteNumber(word) => {
+                write!(f, "site number \"{word}\" is not within 0 to 65535")
+            }
+            Complaint::Coordinate(word) => {
+                write!(f, "coordinate \"{word}\" is not within -32768 to 32767")
+            }
+            Complaint::TooLong(most) => write!(f, "longer than {most} bytes"),
+        }
+    }
+}
+
+#[cfg(test)]
+mod tests {
+    use super::*;
+
+    const fn at(east: i16, north: i16) -> Position {
+        Position { east, north }
+    }
+
+    fn good(line: &str) -> Option<Command> {
+        parse(line.as_bytes()).unwrap()
+    }
+
+    fn bad(line: &[u8]) -> String {
+        parse(line).unwrap_err().to_string()
+    }
+
+    #[test]
+    fn every_command() {
+        let site = Site {
+            number: 7,
+            at: at(120, -35),
+        };
+        let leg = Leg {
+            s: at(0, -1),
+            e: at(10, 2),
+        };
+        assert_eq!(good("add 7 120 -35"), Some(Command::Add(site)));
+        assert_eq!(good("move 7 120 -35"), Some(Command::Move(site)));
+        assert_eq!(good("remove 7"), Some(Command::Remove(7)));
+        assert_eq!(good("leg 0 -1 10 2"), Some(Command::List(leg)));
+        assert_eq!(good("stand 0 -1 10 2"), Some(Command::Stand(leg)));
+        assert_eq!(good("print"), Some(Command::Print));
+    }
+
+    #[test]
+    fn blanks_signs_and_comments() {
+        assert_eq!(good("\t remove   +07 \r"), Some(Command::Remove(7)));
+        assert_eq!(good("remove 7# the old one"), Some(Command::Remove(7)));
+        assert_eq!(good(" # add 1 2 3"), None);
+        assert_eq!(good(" \t\r"), None);
+        assert_eq!(good(""), None);
+        assert_eq!(parse(b"print # caf\xe9 \0\xff"), Ok(Some(Command::Print)));
+    }
+
+    #[test]
+    fn the_widest_words() {
+        let site = Site {
+            number: 65_535,
+            at: at(-32_768, 32_767),
+        };
+        assert_eq!(good("add 65535 -32768 32767"), Some(Command::Add(site)));
+        assert_eq!(good("remove 0"), Some(Command::Remove(0)));
+    }
+
+    #[test]
+    fn unknown_words() {
+        let known = "(known: add, remove, move, leg, stand, print)";
+        for (line, word) in [
+            (&b"ad 1 2 3"[..], "ad"),
+            (b"Add 1 2 3", "Add"),
+            (b"\xff\x1b[2J", "\\xff\\x1b[2J"),
+        ] {
+            assert_eq!(bad(line), format!("unknown word \"{word}\" {known}"));
+        }
+    }
+
+    #[test]
+    fn wrong_counts() {
+        let ends = "easting and northing of the start, then of the end";
+        for (line, complaint) in [
+            ("add 1 2", format!("add takes 3 numbers ({SITE}), not 2")),
+            (
+                "move 1 2 3 4",
+                format!("move takes 3 numbers ({SITE}), not 4"),
+            ),
+            (
+                "remove",
+                "remove takes 1 number (site number), not 0".into(),
+            ),
+            ("print 1", "print takes 0 numbers (nothing), not 1".into()),
+            ("leg 0 0 10", format!("leg takes 4 numbers ({ends}), not 3")),
+        ] {
+            assert_eq!(bad(line.as_bytes()), complaint);
+        }
+    }
+
+    #[test]
+    fn wrong_numbers() {
+        for (line, complaint) in [
+            ("add 1 2 3.5", "\"3.5\" is not a whole number"),
+            ("add 1 - 3", "\"-\" is not a whole number"),
+            (
+                "remove 65536",
+                "site number \"65536\" is not within 0 to 65535",
+            ),
+            ("remove -1", "site number \"-1\" is not within 0 to 65535"),
+            (
+                "stand 0 0 -32769 0",
+                "coordinate \"-32769\" is not within -32768 to 32767",
+            ),
+            (
+                "move 1 32768 0",
+                "coordinate \"32768\" is not within -32768 to 32767",
+            ),
+        ] {
+            assert_eq!(bad(line.as_bytes()), complaint);
+        }
+        let nines = "9".repeat(24);
+        let long = bad(format!("remove {nines}{nines}").as_bytes());
+        assert_eq!(
+            long,
+            format!("site number \"{nines}...\" is not within 0 to 65535")
+        );
+    }
+}

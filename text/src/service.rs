@@ -1,0 +1,163 @@
+//! The proved service with its three buffers: commands in, records out.
+
+use crate::call;
+use crate::record::Record;
+use crate::status::Failure;
+
+const TABLE_LEN: usize = 32_768;
+const WORK_LEN: usize = 8_192;
+/// Room for a dozen of the longest records (5,123 bytes): each call tests the whole table.
+const REPORT_LEN: usize = 65_536;
+
+const ALL_USED: u32 = 0;
+const NO_ROOM: u32 = 68;
+
+pub struct Service {
+    table: Vec<u8>,
+    work: Vec<u8>,
+    report: Vec<u8>,
+}
+
+impl Service {
+    pub fn new() -> Result<Self, Failure> {
+        let mut table = vec![0; TABLE_LEN];
+        match call::lay_out(&mut table) {
+            ALL_USED => Ok(Service {
+                table,
+                work: vec![0; WORK_LEN],
+                report: vec![0; REPORT_LEN],
+            }),
+            reason => Err(Failure::Ended(reason)),
+        }
+    }
+
+    /// A table that says it holds a site, and holds none.
+    #[cfg(test)]
+    pub fn broken() -> Self {
+        let mut service = Service::new().unwrap();
+        service.table[0] = 1;
+        service
+    }
+
+    pub fn table(&self) -> &[u8] {
+        &self.table
+    }
+
+    /// Hands over the record of each command in turn; the commands are whole and known.
+    pub fn serve(
+        &mut self,
+        mut commands: &[u8],
+        mut tell: impl FnMut(Record) -> Result<(), Failure>,
+    ) -> Result<(), Failure> {
+        loop {
+            let answer = call::batch(&mut self.table, &mut self.work, commands, &mut self.report);
+            let report = self.report.get(..answer.written);
+            for_each_record(report.ok_or(Failure::Report)?, &mut tell)?;
+            commands = commands.get(answer.used..).ok_or(Failure::Report)?;
+            match answer.reason {
+                ALL_USED => return Ok(()),
+                // The report is empty again, so the same command finds room.
+                NO_ROOM if answer.used > 0 => {}
+                reason => return Err(Failure::Ended(reason)),
+            }
+        }
+    }
+}
+
+fn for_each_record(
+    mut report: &[u8],
+    tell: &mut impl FnMut(Record) -> Result<(), Failure>,
+) -> Result<(), Failure> {
+    while !report.is_empty() {
+        let Ok(Some((record, length))) = Record::read(report) else {
+            return Err(Failure::Report);
+        };
+        tell(record)?;
+        report = &report[length..];
+    }
+    Ok(())
+}
+
+#[cfg(test)]
+mod tests {
+    use super::*;
+    use reference::command::{add, list, print, stand};
+    use reference::grid::{Leg, Site};
+
+    fn serve(service: &mut Service, commands: &[u8]) -> (Vec<Record>, Option<u32>) {
+        let mut records = Vec::new();
+        let end = service.serve(commands, |record| {
+            records.push(record);
+            Ok(())
+        });
+        match end {
+            Ok(()) => (records, None),
+            Err(Failure::Ended(reason)) => (records, Some(reason)),
+            Err(failure) => panic!("{failure}"),
+        }
+    }
+
+    #[test]
+    fn records_in_the_order_of_the_commands() {
+        let mut service = Service::new().unwrap();
+        let site = add(Site::new(1, 2, 3));
+        let commands = [print(), site.clone(), site].concat();
+        let records = [Record::Refused(7), Record::Accepted, Record::Refused(3)];
+        assert_eq!(serve(&mut service, &commands), (records.to_vec(), None));
+        assert_eq!(serve(&mut service, &[]), (vec![], None));
+    }
+
+    #[test]
+    fn a_full_report_is_emptied_and_the_batch_goes_on() {
+        let mut service = Service::new().unwrap();
+        let sites = (1..=512).map(|number| Site::new(number, i64::from(number) * 31 - 7950, 0));
+        let leg = Leg::new((-8000, 0), (8000, 0));
+        let mut commands: Vec<u8> = sites.flat_map(add).collect();
+        commands.extend(stand(leg));
+        commands.extend(list(leg).repeat(40));
+        commands.extend(print());
+        let (records, end) = serve(&mut service, &commands);
+        assert_eq!((records.len(), end), (554, None));
+        for record in &records[513..] {
+            assert!(matches!(record, Record::List(list) if list.len() == 512));
+        }
+    }
+
+    #[test]
+    fn a_broken_table_ends_with_65_and_no_record() {
+        let mut service = Service::broken();
+        assert_eq!(serve(&mut service, &print()), (vec![], Some(65)));
+    }
+
+    #[test]
+    fn buffers_of_wrong_length_end_with_64() {
+        let mut service = Service::new().unwrap();
+        service.work.pop();
+        assert_eq!(serve(&mut service, &print()), (vec![], Some(64)));
+        let mut service = Service::new().unwrap();
+        service.table.pop();
+        assert_eq!(serve(&mut service, &print()), (vec![], Some(64)));
+    }
+
+    #[test]
+    fn other_reasons_end_after_the_records_before_them() {
+        let refused = vec![Record::Refused(7)];
+        let mut service = Service::new().unwrap();
+        assert_eq!(serve(&mut service, b"P?"), (refused.clone(), Some(66)));
+        assert_eq!(serve(&mut service, b"PD\x01"), (refused.clone(), Some(67)));
+        service.report.truncate(3);
+        assert_eq!(
+            serve(&mut service, b"PPPP"),
+            (vec![Record::Refused(7); 4], None)
+        );
+        service.report.truncate(1);
+        assert_eq!(serve(&mut service, b"P"), (vec![], Some(68)));
+    }
+
+    #[test]
+    fn a_failure_to_tell_ends_the_serving() {
+        let mut service = Service::new().unwrap();
+        let end = service.serve(b"PPP", |_| Err(Failure::Report));
+        assert!(matches!(end, Err(Failure::Report)));
+    }
+}

@@ -1,0 +1,122 @@
+//! How a run ends: what it met on the way, or what broke it off.
+
+use crate::words;
+use std::fmt;
+use std::io;
+
+/// What was met; the exit code is that of the worst.
+#[derive(Clone, Copy, Debug, Default, PartialEq, Eq)]
+pub struct Met {
+    pub refusal: bool,
+    pub bad_line: bool,
+}
+
+impl Met {
+    pub fn code(self) -> u8 {
+        match self {
+            Met { bad_line: true, .. } => 2,
+            Met { refusal: true, .. } => 1,
+            _ => 0,
+        }
+    }
+}
+
+/// What breaks a run off.
+#[derive(Debug)]
+pub enum Failure {
+    Usage(String),
+    /// What could not be done, and why.
+    Io(String, io::Error),
+    /// The service ended with a reason of its own.
+    Ended(u32),
+    /// The bytes that the service wrote are no records.
+    Report,
+    /// With --decode: the byte, and why it cannot be read.
+    Undecodable(u64, String),
+}
+
+impl Failure {
+    pub fn code(&self) -> u8 {
+        match self {
+            Failure::Undecodable(..) => 2,
+            Failure::Usage(_) => 3,
+            Failure::Io(..) => 4,
+            Failure::Ended(_) | Failure::Report => 5,
+        }
+    }
+
+    /// For `map_err` on writing answers.
+    pub fn writing(error: io::Error) -> Self {
+        Failure::Io("cannot write the output".into(), error)
+    }
+}
+
+impl fmt::Display for Failure {
+    fn fmt(&self, f: &mut fmt::Formatter) -> fmt::Result {
+        match self {
+            Failure::Usage(what) => write!(f, "{what}; try --help"),
+            Failure::Io(what, why) => write!(f, "{what}: {why}"),
+            Failure::Ended(number) => {
+                write!(
+                    f,
+                    "the service ended with reason {number}: {}",
+                    words::reason(*number)
+                )
+            }
+            Failure::Report => write!(f, "the service wrote a report that cannot be read"),
+            Failure::Undecodable(at, why) => write!(f, "byte {at}: {why}"),
+        }
+    }
+}
+
+#[cfg(test)]
+mod tests {
+    use super::*;
+
+    #[test]
+    fn a_bad_line_outweighs_a_refusal() {
+        let code = |refusal, bad_line| Met { refusal, bad_line }.code();
+        let codes = [
+            code(false, false),
+            code(true, false),
+            code(false, true),
+            code(true, true),
+        ];
+        assert_eq!(codes, [0, 1, 2, 2]);
+    }
+
+    #[test]
+    fn every_failure_has_its_code_and_words() {
+        let error = || io::Error::from(io::ErrorKind::NotFound);
+        let failures = [
+            (Failure::Usage("no".into()), 3, "no; try --help"),
+            (
+                Failure::Io("cannot".into(), error()),
+                4,
+                "cannot: entity not found",
+            ),
+            (
+                Failure::Ended(65),
+                5,
+                "the service ended with reason 65: a rule is broken in the table",
+            ),
+            (
+                Failure::Ended(64),
+                5,
+                "the service ended with reason 64: table or work buffer of wrong length",
+            ),
+            (
+                Failure::Report,
+                5,
+                "the service wrote a report that cannot be read",
+            ),
+            (Failure::Undecodable(9, "cut".into()), 2, "byte 9: cut"),
+        ];
+        for (failure, code, words) in failures {
+            assert_eq!(
+                (failure.code(), failure.to_string().as_str()),
+                (code, words)
+            );
+        }
+    }
+}

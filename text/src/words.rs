@@ -1,0 +1,134 @@
+//! Records, refusals and reasons in the words of document 01.
+
+use crate::grid::Leg;
+use crate::point;
+use crate::record::{Entry, Record};
+use std::io::{self, Write};
+
+/// The answer, one line or one for each entry more; with the leg, the starts' points too.
+pub fn tell(record: &Record, leg: Option<&Leg>, out: &mut impl Write) -> io::Result<()> {
+    match record {
+        Record::Accepted => writeln!(out, "accepted"),
+        Record::Refused(number) => writeln!(out, "refused {number}: {}", refusal(*number)),
+        Record::List(list) => {
+            let entries = if list.len() == 1 { "entry" } else { "entries" };
+            writeln!(out, "list of {} {entries}", list.len())?;
+            list.iter()
+                .try_for_each(|entry| tell_entry(entry, leg, out))
+        }
+    }
+}
+
+fn tell_entry(entry: &Entry, leg: Option<&Leg>, out: &mut impl Write) -> io::Result<()> {
+    write!(out, "from {}/{} ", entry.numerator, entry.denominator)?;
+    if let Some(leg) = leg {
+        write!(out, "{} ", point::in_words(leg, entry))?;
+    }
+    writeln!(out, "site {}", entry.site)
+}
+
+/// How a run or the batch program ended.
+pub fn tell_end(number: u32, out: &mut impl Write) -> io::Result<()> {
+    writeln!(out, "end {number}: {}", reason(number))
+}
+
+fn refusal(number: u8) -> &'static str {
+    match number {
+        1 => "site number 0",
+        2 => "a coordinate outside -8,000 to 8,000",
+        3 => "number already held",
+        4 => "number not held",
+        5 => "512 sites held",
+        6 => "no site held",
+        7 => "no standing leg",
+        _ => "no such refusal",
+    }
+}
+
+pub fn is_reason(number: u32) -> bool {
+    matches!(number, 0 | 64..=68)
+}
+
+pub fn reason(number: u32) -> &'static str {
+    match number {
+        0 => "all commands used",
+        64 => "table or work buffer of wrong length",
+        65 => "a rule is broken in the table",
+        66 => "unknown command byte",
+        67 => "known command, operands cut short",
+        68 => "the command's record exceeds what is left of the report buffer",
+        _ => "no such reason",
+    }
+}
+
+#[cfg(test)]
+mod tests {
+    use super::*;
+    use crate::grid::Position;
+
+    fn told(record: &Record, leg: Option<&Leg>) -> String {
+        let mut out = Vec::new();
+        tell(record, leg, &mut out).unwrap();
+        String::from_utf8(out).unwrap()
+    }
+
+    #[test]
+    fn every_refusal() {
+        let expected = [
+            "refused 1: site number 0\n",
+            "refused 2: a coordinate outside -8,000 to 8,000\n",
+            "refused 3: number already held\n",
+            "refused 4: number not held\n",
+            "refused 5: 512 sites held\n",
+            "refused 6: no site held\n",
+            "refused 7: no standing leg\n",
+        ];
+        for (number, words) in (1..).zip(expected) {
+            assert_eq!(told(&Record::Refused(number), None), words);
+        }
+    }
+
+    #[test]
+    fn every_reason() {
+        let expected = [
+            (0, "end 0: all commands used\n"),
+            (64, "end 64: table or work buffer of wrong length\n"),
+            (65, "end 65: a rule is broken in the table\n"),
+            (66, "end 66: unknown command byte\n"),
+            (67, "end 67: known command, operands cut short\n"),
+            (
+                68,
+                "end 68: the command's record exceeds what is left of the report buffer\n",
+            ),
+        ];
+        for (number, words) in expected {
+            let mut out = Vec::new();
+            tell_end(number, &mut out).unwrap();
+            assert_eq!(String::from_utf8(out).unwrap(), words);
+        }
+        let reasons: Vec<u32> = (0..300).filter(|number| is_reason(*number)).collect();
+        assert_eq!(reasons, expected.map(|(number, _)| number));
+    }
+
+    #[test]
+    fn lists_with_and_without_points() {
+        let entry = |site, numerator, denominator| Entry {
+            site,
+            numerator,
+            denominator,
+        };
+        let at = |east, north| Position { east, north };
+        let leg = Leg {
+            s: at(0, 0),
+            e: at(10, 0),
+        };
+        let list = Record::List(vec![entry(1, 0, 1), entry(2, 37, 100)]);
+        let plain = "list of 2 entries\nfrom 0/1 site 1\nfrom 37/100 site 2\n";
+        assert_eq!(told(&list, None), plain);
+        let points = "list of 2 entries\nfrom 0/1 (0.000, 0.000) site 1\nfrom 37/100 (3.700, 0.000) site 2\n";
+        assert_eq!(told(&list, Some(&leg)), points);
+        let one = Record::List(vec![entry(9, 0, 1)]);
+        assert_eq!(told(&one, None), "list of 1 entry\nfrom 0/1 site 9\n");
+        assert_eq!(told(&Record::Accepted, Some(&leg)), "accepted\n");
+    }
+}

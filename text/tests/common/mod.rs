@@ -1,0 +1,101 @@
+//! Runs the program, and writes commands as lines.
+#![allow(dead_code)] // Each test file uses its part.
+
+use reference::command::Command as Bytes;
+use reference::grid::Site;
+use std::io::Write;
+use std::path::{Path, PathBuf};
+use std::process::{Command, Stdio};
+use std::thread;
+
+pub const PROGRAM: &str = env!("CARGO_BIN_EXE_stops-text");
+
+pub struct Ran {
+    pub code: i32,
+    pub out: Vec<u8>,
+    pub err: String,
+}
+
+impl Ran {
+    pub fn text(&self) -> &str {
+        std::str::from_utf8(&self.out).expect("answers are text")
+    }
+}
+
+pub fn run(arguments: &[&str], input: impl AsRef<[u8]>) -> Ran {
+    run_program(Command::new(PROGRAM).args(arguments), input.as_ref())
+}
+
+pub fn run_program(command: &mut Command, input: &[u8]) -> Ran {
+    let mut child = command
+        .stdin(Stdio::piped())
+        .stdout(Stdio::piped())
+        .stderr(Stdio::piped())
+        .spawn()
+        .unwrap_or_else(|error| panic!("{command:?}: {error}"));
+    let mut stdin = child.stdin.take().unwrap();
+    let output = thread::scope(|scope| {
+        // A program that ends early does not read everything.
+        scope.spawn(move || stdin.write_all(input));
+        child.wait_with_output().unwrap()
+    });
+    Ran {
+        code: output.status.code().expect("no signal ends the program"),
+        out: output.stdout,
+        err: String::from_utf8(output.stderr).expect("messages are text"),
+    }
+}
+
+/// The batch program's output.
+pub fn batch_program(commands: &[u8]) -> Vec<u8> {
+    let ran = run_program(&mut Command::new(at_root("target/bin/stops")), commands);
+    assert_eq!(ran.code, 0);
+    ran.out
+}
+
+pub fn at_root(path: &str) -> PathBuf {
+    Path::new(env!("CARGO_MANIFEST_DIR")).join("..").join(path)
+}
+
+/// A file of this name that no other test uses.
+pub fn scratch(name: &str) -> PathBuf {
+    Path::new(env!("CARGO_TARGET_TMPDIR")).join(name)
+}
+
+pub fn line(command: &[u8]) -> String {
+    let (command, length) = Bytes::read(command).expect("a whole command");
+    assert!(length > 0);
+    let site = |site: Site| {
+        format!(
+            "{} {} {}",
+            site.number, site.position.east, site.position.north
+        )
+    };
+    match command {
+        Bytes::Add(added) => format!("add {}\n", site(added)),
+        Bytes::Move(moved) => format!("move {}\n", site(moved)),
+        Bytes::Remove(number) => format!("remove {number}\n"),
+        Bytes::List(leg) => {
+            let (s, e) = (leg.s, leg.e);
+            format!("leg {} {} {} {}\n", s.east, s.north, e.east, e.north)
+        }
+        Bytes::Stand(leg) => {
+            let (s, e) = (leg.s, leg.e);
+            format!("stand {} {} {} {}\n", s.east, s.north, e.east, e.north)
+        }
+        Bytes::Print => "print\n".into(),
+    }
+}
+
+pub fn lines(commands: &[Vec<u8>]) -> String {
+    commands.iter().map(|command| line(command)).collect()
+}
+
+/// The answers without the points of starts, as they are where the legs are not known.
+pub fn without_points(answers: &str) -> String {
+    let line = |line: &str| match (line.find('('), line.find(") ")) {
+        (Some(from), Some(to)) => format!("{}{}\n", &line[..from], &line[to + 2..]),
+        _ => format!("{line}\n"),
+    };
+    answers.lines().map(line).collect()
+}
