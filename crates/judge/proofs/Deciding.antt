@@ -31,8 +31,8 @@ use Rattle.tree_search.specs.Searching.{Found as Searched}
 use Rattle.tree_search.proofs.Finding.{found-is}
 use Rattle.table.specs.Table.{bookOf, Sound}
 use Rattle.stored_list.specs.Loading.{Loaded}
-use Rattle.table_change.proofs.Points.{tree-sites}
-use Rattle.table_change.proofs.Restanding.{whole-numbered}
+use Rattle.list_change.proofs.Points.{tree-sites}
+use Rattle.list_change.proofs.Restanding.{whole-numbered}
 use Rattle.judge.specs.declared.Answer.{Answer}
 use Rattle.judge.specs.Judged.{Judged, Settled}
 

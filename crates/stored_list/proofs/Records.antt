@@ -1,27 +1,23 @@
 -- A line's record as a place.
 -- Assumes nothing.
-use mathlib.Core.Path.{_≡_, refl, sym, ap, subst, _∙_}
-use mathlib.Core.Bool.{Bool, true, false, true≢false}
+use mathlib.Core.Path.{_≡_, sym, ap, subst, _∙_}
+use mathlib.Core.Bool.{true, false, true≢false}
 use mathlib.Core.List.{List, List·Memᴰ}
-use Prim.Native.Nat.{ℕ, _+_, _*_, _/_, _≤_, _<_}
+use Prim.Native.Nat.{ℕ, _*_, _≤_, _<_}
 use native.Mathlib.Omega.{arith}
 use lib.ListN.{length, getD}
 use Rattle.limits.specs.Limits.{maxSites, tableBytes}
 use Rattle.grid.specs.declared.Site.{Site}
-use Rattle.grid.specs.Position.{OnGrid}
-use Rattle.row.specs.Places.{siteAtByte, siteAt, HasSite}
+use Rattle.row.specs.Places.{siteAtByte, siteAt}
 use Rattle.book.specs.Book.{holds}
 use Rattle.sites.specs.Layout.{recordStart}
-use Rattle.sites.specs.Lines.{countIn, lineAt, linesIn, Array, noSite, numberOf, StandsAt, StandsNowhere}
+use Rattle.sites.specs.Lines.{countIn, linesIn, noSite, StandsAt, StandsNowhere}
 use Rattle.sites.specs.Rules.{SitesOk}
 use Rattle.sites.specs.declared.Found.{Found}
 use Rattle.sites.specs.Lines.{FoundAs}
 use Rattle.sites.proofs.Reading.{lines-length, line-at}
 use Rattle.sites.proofs.Finding.{at-member, absent-held}
 use Rattle.stored_list.specs.Loading.{PlaceOf}
-
-pub array-of : (b : List ℕ) → length b ≡ tableBytes → SitesOk b → Array b
-array-of b len s = record { len = len; few = s .few; rising = s .rising; spare = s .spare }
 
 module _ (b : List ℕ) (n : ℕ) (len : length b ≡ tableBytes) (s : SitesOk b) where
   pub start-few : (r : Found) (k : ℕ) → r ≡ Found.At k → FoundAs r n (linesIn b) → k ≤ maxSites

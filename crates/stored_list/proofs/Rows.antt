@@ -4,36 +4,33 @@ use mathlib.Core.Path.{_≡_, refl, sym, ap, ap₂, subst, _∙_}
 use mathlib.Core.Bool.{true}
 use mathlib.Core.Logic.{_⊎_, inl, inr}
 use mathlib.Core.Option.{Option, some}
-use mathlib.Core.List.{List, [], _∷_, _++_, append-nil, List·Memᴰ, List·Memᴰ·head, List·Memᴰ·tail, List·Memᴰ·not-nil}
+use mathlib.Core.List.{List, [], _∷_, append-nil, List·Memᴰ, List·Memᴰ·head, List·Memᴰ·tail, List·Memᴰ·not-nil}
 use Prim.Native.Nat.{ℕ, zero, suc, _+_, _*_, _≤_, _<_}
 use native.Mathlib.Omega.{arith}
 use native.Mathlib.Decide.{decLt}
-use native.Mathlib.Numerals.{add-one}
 use lib.ListN.{length, getD}
 use Rattle.limits.specs.Limits.{maxSites}
 use Rattle.words.specs.Words.{wordAt, putWord, Only}
 use Rattle.words.proofs.Frame.{only-refl, only-trans, only-wider, only-putWord, word-putWord, word-low}
 use Rattle.grid.specs.declared.Site.{Site}
 use Rattle.grid.specs.declared.Leg.{Leg}
-use Rattle.split.specs.SplitList.{Entry, Numbered, IsSplitList}
+use Rattle.split.specs.SplitList.{Entry, Numbered}
 use Rattle.split.specs.Hull.{Point, pointOf, points, In, IsHull, Convex}
 use Rattle.split.specs.SplitOf.{after, entries, onto, entriesOf, build, splitOf}
 use Rattle.split.proofs.Insertion.{build-hull}
 use Rattle.split.proofs.Exists.{of-points, onto-onto, split-is}
-use Rattle.split.proofs.Best.{onto-keeps}
 use Rattle.split.proofs.Once.{few}
-use Rattle.row.specs.Places.{siteAt, HasSite}
-use Rattle.row.specs.Vertices.{rowBytes, placeAt, vertexIn, stack, Held, entriesIn}
-use Rattle.book.specs.Book.{Book, holds, listOf, standingList}
-use Rattle.book.proofs.Lines.{member-holds}
-use Rattle.book.proofs.ProperBooks.{proper-numbered}
-use Rattle.sites.specs.Lines.{countIn, linesIn}
+use Rattle.row.specs.Places.{siteAt}
+use Rattle.row.specs.Vertices.{rowBytes, placeAt, vertexIn, stack, Held, Lists}
+use Rattle.book.specs.Book.{holds, listOf}
+use Rattle.book.proofs.Lines.{member-holds, rising-one}
+use Rattle.sites.specs.Lines.{linesIn}
+use Rattle.sites.specs.Rules.{SitesOk}
 use Rattle.sites.proofs.Reading.{lines-length}
 use Rattle.standing.specs.Layout.{lengthStart, listStart}
 use Rattle.standing.specs.Standing.{legIn, wordsFrom, standingIn, numbersOf}
-use Rattle.table.specs.Table.{bookOf, Sound}
-use Rattle.table.proofs.Books.{sound-proper}
-use Rattle.stored_list.specs.Loading.{PlaceOf, Loaded}
+use Rattle.table.specs.Table.{Sound}
+use Rattle.stored_list.specs.Loading.{PlaceOf, NumbersHeld, PlacesOf, Loaded}
 
 -- the numbers of points
 abbrev numbersIn : List Point → List ℕ
@@ -108,71 +105,19 @@ pub record Loading (b : List ℕ) (k i : ℕ) (r r′ : List ℕ) : Type 0 where
   pub only : Only 0 (2 * i) r r′
   pub places : (j : ℕ) → j < i → PlaceOf b (wordAt b (listStart + 2 * j)) (placeAt r′ j)
 
-module _ (b : List ℕ) (l : Leg) (s : Sound b) (set : legIn b ≡ some l) where
-  numbered : Numbered (linesIn b)
-  numbered = proper-numbered (bookOf b) (sound-proper b s)
-
-  standing-is : standingIn b ≡ numbersOf (splitOf l (linesIn b))
-  standing-is = s .standing .list ∙ ap (λ (o : Option Leg). numbersOf (listOf o (linesIn b))) set
-
-  hull : IsHull (points l (linesIn b)) (build (points l (linesIn b)))
-  hull = build-hull (points l (linesIn b))
-
-  words-are : wordsFrom b listStart (wordAt b lengthStart) ≡ numbersIn (onto (build (points l (linesIn b))) [])
-  unfolding standingIn splitOf
-  words-are = standing-is ∙ entries-numbers (onto (build (points l (linesIn b))) [])
-
-  words-length : (x : List ℕ) (i n : ℕ) → length (wordsFrom x i n) ≡ n
-  unfolding wordsFrom
-  words-length x i zero = refl
-  words-length x i (suc n) = ap suc (words-length x (i + 2) n)
-
-  numbers-length : (es : List Entry) → length (numbersOf es) ≡ length es
-  unfolding numbersOf
-  numbers-length [] = refl
-  numbers-length (e ∷ es) = ap suc (numbers-length es)
-
-  -- AS MANY ENTRIES as the table says, and no more than sites
-  pub list-few : wordAt b lengthStart ≤ maxSites
-  unfolding standingIn
-  list-few =
-      omega (
-        arith,
-        words-length b listStart (wordAt b lengthStart),
-        ap length standing-is,
-        numbers-length (splitOf l (linesIn b)),
-        few l (linesIn b) numbered (splitOf l (linesIn b)) (split-is l (linesIn b) numbered),
-        lines-length b,
-        s .whole .sites .few,
-      )
-
-  -- every stored number is that of a line
-  words-member : (f : List Point) → PointsOf l (linesIn b) f → (o n : ℕ) → wordsFrom b o n ≡ numbersIn f → (j : ℕ) → j < n → holds (wordAt b (o + 2 * j)) (linesIn b) ≡ true
-  unfolding wordsFrom
-  words-member f p o zero e j h = absurd (omega arith)
-  words-member [] p o (suc n) e j h = absurd (let z : _≡_ {A = ℕ} (suc (length (wordsFrom b (o + 2) n))) 0 = ap length e in omega arith)
-  words-member (v ∷ f) p o (suc n) e zero h =
-      let z : o + 2 * 0 ≡ o = omega arith in
-      member-holds (wordAt b (o + 2 * 0)) (linesIn b) (v .site) (p v (List·Memᴰ·head refl) .0) (sym (ap (wordAt b) z ∙ ap (λ (x : List ℕ). getD x 0 0) e))
-  words-member (v ∷ f) p o (suc n) e (suc j) h =
-      let z : o + 2 + 2 * j ≡ o + 2 * suc j = omega arith in
-      subst (λ (x : ℕ). holds (wordAt b x) (linesIn b) ≡ true) z
-      (words-member f (λ x y. p x (List·Memᴰ·tail y)) (o + 2) n (ap tailOf e) j (omega arith))
-
+module _ (b : List ℕ) (s : NumbersHeld b) where
   pub number-held : (k i x : ℕ) → k ≡ wordAt b lengthStart → i < k → x ≡ wordAt b (listStart + 2 * i) → holds x (linesIn b) ≡ true
-  number-held k i x ek h ex =
-      subst (λ (y : ℕ). holds y (linesIn b) ≡ true) (sym ex)
-      (words-member (onto (build (points l (linesIn b))) []) (onto-points l (linesIn b) (build (points l (linesIn b))) hull) listStart (wordAt b lengthStart) words-are i (omega arith))
+  number-held k i x ek h ex = subst (λ (y : ℕ). holds y (linesIn b) ≡ true) (sym ex) (s .held i (omega arith))
 
   pub loading-none : (k : ℕ) (r : List ℕ) → k ≡ wordAt b lengthStart → Loading b k 0 r r
-  loading-none k r ek = record { within = omega arith; few = omega (arith, list-few); only = only-refl; places = λ j h. absurd (omega arith) }
+  loading-none k r ek = record { within = omega arith; few = omega (arith, s .few); only = only-refl; places = λ j h. absurd (omega arith) }
 
   -- one place more
   pub loading-one : (k i x p : ℕ) (r r′ r″ : List ℕ) → rowBytes ≤ length r → k ≡ wordAt b lengthStart → i < k → Loading b k i r r′ → x ≡ wordAt b (listStart + 2 * i) → PlaceOf b x p
       → r″ ≡ putWord r′ (2 * i) p → Loading b k (i + 1) r r″
   unfolding placeAt
   loading-one k i x p r r′ r″ room ek h m ex q e =
-      let cap = list-few in
+      let cap = s .few in
       let o : Only (2 * i) (2 * i + 2) r′ r″ = subst (λ (y : List ℕ). Only (2 * i) (2 * i + 2) r′ y) (sym e) (only-putWord r′ (2 * i) p) in
       let w : wordAt r″ (2 * i) ≡ p = ap (λ (y : List ℕ). wordAt y (2 * i)) e ∙ word-putWord r′ (2 * i) p (omega (arith, m .only .len)) in
       record {
@@ -189,31 +134,135 @@ module _ (b : List ℕ) (l : Leg) (s : Sound b) (set : legIn b ≡ some l) where
           subst (λ (y : ℕ). PlaceOf b (wordAt b (listStart + 2 * y)) (wordAt r″ (2 * y))) (sym z)
           (subst (λ (y : ℕ). PlaceOf b (wordAt b (listStart + 2 * i)) y) (sym w) (subst (λ (y : ℕ). PlaceOf b y p) ex q))
 
-  -- THE ROW IS THE SPLIT LIST'S
-  pub loaded : (k i : ℕ) (r r′ : List ℕ) → rowBytes ≤ length r → k ≡ wordAt b lengthStart → k ≤ i → Loading b k i r r′ → Loaded l b r r′ k
-  unfolding splitOf
-  loaded k i r r′ room ek h m =
-      let cap = list-few in
-      let row : rowFrom l b r′ 0 k ≡ onto (build (points l (linesIn b))) [] =
-      same-row l b r′ (linesIn b) numbered b listStart 0 k (onto (build (points l (linesIn b))) []) (onto-points l (linesIn b) (build (points l (linesIn b))) hull)
-      (ap₂ (λ (x y : ℕ). wordsFrom b x y) start ek ∙ words-are)
-      (λ j u g. let q = m .places j (omega (arith, m .within)) in (q .line, q .number)) in
-      let st : stack l b r′ k ≡ build (points l (linesIn b)) =
-      sym (stack-row l b r′ 0 k [] ∙ ap (stack l b r′) (plain k)) ∙ ap (λ (x : List Point). onto x []) row
-      ∙ onto-onto (build (points l (linesIn b))) [] [] ∙ append-nil (build (points l (linesIn b))) in
+  -- EVERY PLACE
+  pub loading-all : (k i : ℕ) (r r′ : List ℕ) → k ≡ wordAt b lengthStart → k ≤ i → Loading b k i r r′ → PlacesOf b r r′ k
+  loading-all k i r r′ ek h m =
+      let cap = s .few in
       record {
-        held = record {
-          inside = omega (arith, m .only .len);
-          few = omega arith;
-          sites = λ j g. m .places j (omega (arith, m .within)) .site;
-          convex = subst Convex (sym st) (hull .convex);
-        };
-        list = ap entriesOf st;
+        count = ek;
+        places = λ j g. m .places j (omega (arith, m .within));
         only = only-wider (omega arith) (omega (arith, m .within)) (m .only);
       }
-    where
-      start : listStart + 2 * 0 ≡ listStart
-      start = omega arith
 
-      plain : (j : ℕ) → 0 + j ≡ j
-      plain j = omega arith
+-- the stored numbers are those of the list of the sites s, all of which are lines
+pub record Stored (l : Leg) (s : List Site) (b : List ℕ) : Type 0 where
+  pub sites : SitesOk b
+  pub lines : (p : Site) → List·Memᴰ p s → List·Memᴰ p (linesIn b)
+  pub few : length s ≤ maxSites
+  pub list : standingIn b ≡ numbersOf (splitOf l s)
+
+words-length : (x : List ℕ) (i n : ℕ) → length (wordsFrom x i n) ≡ n
+unfolding wordsFrom
+words-length x i zero = refl
+words-length x i (suc n) = ap suc (words-length x (i + 2) n)
+
+pub standing-length : (b : List ℕ) → length (standingIn b) ≡ wordAt b lengthStart
+unfolding standingIn
+standing-length b = words-length b listStart (wordAt b lengthStart)
+
+pub numbers-length : (es : List Entry) → length (numbersOf es) ≡ length es
+unfolding numbersOf
+numbers-length [] = refl
+numbers-length (e ∷ es) = ap suc (numbers-length es)
+
+-- every number of points of lines is that of a line
+words-member : (l : Leg) (b : List ℕ) (f : List Point) → PointsOf l (linesIn b) f → (o n : ℕ) → wordsFrom b o n ≡ numbersIn f → (j : ℕ) → j < n → holds (wordAt b (o + 2 * j)) (linesIn b) ≡ true
+unfolding wordsFrom
+words-member l b f p o zero e j h = absurd (omega arith)
+words-member l b [] p o (suc n) e j h = absurd (let z : _≡_ {A = ℕ} (suc (length (wordsFrom b (o + 2) n))) 0 = ap length e in omega arith)
+words-member l b (v ∷ f) p o (suc n) e zero h =
+    let z : o + 2 * 0 ≡ o = omega arith in
+    member-holds (wordAt b (o + 2 * 0)) (linesIn b) (v .site) (p v (List·Memᴰ·head refl) .0) (sym (ap (wordAt b) z ∙ ap (λ (x : List ℕ). getD x 0 0) e))
+words-member l b (v ∷ f) p o (suc n) e (suc j) h =
+    let z : o + 2 + 2 * j ≡ o + 2 * suc j = omega arith in
+    subst (λ (x : ℕ). holds (wordAt b x) (linesIn b) ≡ true) z
+    (words-member l b f (λ x y. p x (List·Memᴰ·tail y)) (o + 2) n (ap tailOf e) j (omega arith))
+
+module _ (l : Leg) (s : List Site) (b : List ℕ) (st : Stored l s b) where
+  all-numbered : Numbered (linesIn b)
+  all-numbered = record { small = λ p m. st .sites .numbers p m .most; one = rising-one (linesIn b) (st .sites .rising) }
+
+  stored-numbered : Numbered s
+  stored-numbered =
+      record { small = λ p m. all-numbered .small p (st .lines p m); one = λ p q m n. all-numbered .one p q (st .lines p m) (st .lines q n) }
+
+  hull : IsHull (points l s) (build (points l s))
+  hull = build-hull (points l s)
+
+  listed-points : PointsOf l (linesIn b) (onto (build (points l s)) [])
+  listed-points v i = let p = onto-points l s (build (points l s)) hull v i in (st .lines (v .site) (p .0), p .1)
+
+  words-are : wordsFrom b listStart (wordAt b lengthStart) ≡ numbersIn (onto (build (points l s)) [])
+  unfolding standingIn splitOf
+  words-are = st .list ∙ entries-numbers (onto (build (points l s)) [])
+
+  -- AS MANY ENTRIES as the table says, and no more than sites
+  pub stored-few : wordAt b lengthStart ≤ length s
+  stored-few =
+      omega (
+        arith,
+        standing-length b,
+        ap length (st .list),
+        numbers-length (splitOf l s),
+        few l s stored-numbered (splitOf l s) (split-is l s stored-numbered),
+      )
+
+  pub stored-held : NumbersHeld b
+  stored-held =
+      record {
+        few = omega (arith, stored-few, st .few);
+        held = words-member l b (onto (build (points l s)) []) listed-points listStart (wordAt b lengthStart) words-are;
+      }
+
+  module _ (k : ℕ) (r r′ : List ℕ) (room : rowBytes ≤ length r) (m : PlacesOf b r r′ k) where
+    stack-is : stack l b r′ k ≡ build (points l s)
+    stack-is =
+        let row : rowFrom l b r′ 0 k ≡ onto (build (points l s)) [] =
+        same-row l b r′ (linesIn b) all-numbered b listStart 0 k (onto (build (points l s)) []) listed-points
+        (ap₂ (λ (x y : ℕ). wordsFrom b x y) start (m .count) ∙ words-are)
+        (λ j u g. let q = m .places j (omega arith) in (q .line, q .number)) in
+        sym (stack-row l b r′ 0 k [] ∙ ap (stack l b r′) (plain k)) ∙ ap (λ (x : List Point). onto x []) row
+        ∙ onto-onto (build (points l s)) [] [] ∙ append-nil (build (points l s))
+      where
+        start : listStart + 2 * 0 ≡ listStart
+        start = omega arith
+
+        plain : (j : ℕ) → 0 + j ≡ j
+        plain j = omega arith
+
+    -- THE ROW IS THE SPLIT LIST'S
+    pub places-held : Held l b r′ k
+    places-held =
+        let cap : k ≤ maxSites = omega (arith, stored-few, st .few, m .count) in
+        record {
+          inside = omega (arith, m .only .len, cap);
+          few = cap;
+          sites = λ j g. m .places j g .site;
+          convex = subst Convex (sym stack-is) (hull .convex);
+        }
+
+    pub places-list : Lists l b r′ k s
+    places-list = subst (IsHull (points l s)) (sym stack-is) hull
+
+-- a sound table's list is that of its lines
+module _ (b : List ℕ) (l : Leg) (s : Sound b) (set : legIn b ≡ some l) where
+  sound-stored : Stored l (linesIn b) b
+  sound-stored =
+      record {
+        sites = s .whole .sites;
+        lines = λ p m. m;
+        few = omega (arith, lines-length b, s .whole .sites .few);
+        list = s .standing .list ∙ ap (λ (o : Option Leg). numbersOf (listOf o (linesIn b))) set;
+      }
+
+  pub sound-held : NumbersHeld b
+  sound-held = stored-held l (linesIn b) b sound-stored
+
+  pub loaded : (k : ℕ) (r r′ : List ℕ) → rowBytes ≤ length r → PlacesOf b r r′ k → Loaded l b r r′ k
+  unfolding splitOf
+  loaded k r r′ room m =
+      record {
+        held = places-held l (linesIn b) b sound-stored k r r′ room m;
+        list = ap entriesOf (stack-is l (linesIn b) b sound-stored k r r′ room m);
+        only = m .only;
+      }

@@ -1,16 +1,18 @@
--- The stored standing list as a row of places again: what "50 prints".
+-- The stored standing list as a row of places again.
 -- Assumes nothing.
 use mathlib.Core.Path.{_≡_}
-use mathlib.Core.Option.{some}
+use mathlib.Core.Bool.{true}
 use mathlib.Core.List.{List, List·Memᴰ}
 use Prim.Native.Nat.{ℕ, _+_, _*_, _≤_, _<_}
-use lib.ListN.{length}
-use Rattle.words.specs.Words.{Only}
+use Rattle.limits.specs.Limits.{maxSites}
+use Rattle.words.specs.Words.{wordAt, Only}
 use Rattle.grid.specs.declared.Leg.{Leg}
 use Rattle.split.specs.SplitOf.{splitOf}
 use Rattle.row.specs.Places.{siteAt, HasSite}
-use Rattle.row.specs.Vertices.{rowBytes, Held, entriesIn}
+use Rattle.row.specs.Vertices.{rowBytes, placeAt, Held, entriesIn}
+use Rattle.book.specs.Book.{holds}
 use Rattle.sites.specs.Lines.{linesIn}
+use Rattle.standing.specs.Layout.{lengthStart, listStart}
 
 -- p is the place of the record with the number n
 pub record PlaceOf (b : List ℕ) (n p : ℕ) : Type 0 where
@@ -18,7 +20,18 @@ pub record PlaceOf (b : List ℕ) (n p : ℕ) : Type 0 where
   pub line : List·Memᴰ (siteAt b p) (linesIn b)
   pub site : HasSite b p
 
--- the first k of the row are the list of the leg over the lines
+-- every stored number is that of a line, and there are no more of them than sites
+pub record NumbersHeld (b : List ℕ) : Type 0 where
+  pub few : wordAt b lengthStart ≤ maxSites
+  pub held : (i : ℕ) → i < wordAt b lengthStart → holds (wordAt b (listStart + 2 * i)) (linesIn b) ≡ true
+
+-- the first k of the row are the places of the stored numbers
+pub record PlacesOf (b r r′ : List ℕ) (k : ℕ) : Type 0 where
+  pub count : k ≡ wordAt b lengthStart
+  pub places : (i : ℕ) → i < k → PlaceOf b (wordAt b (listStart + 2 * i)) (placeAt r′ i)
+  pub only : Only 0 rowBytes r r′
+
+-- the first k of the row are the list of the leg over the lines: what "50 prints"
 pub record Loaded (l : Leg) (b r r′ : List ℕ) (k : ℕ) : Type 0 where
   pub held : Held l b r′ k
   pub list : entriesIn l b r′ k ≡ splitOf l (linesIn b)

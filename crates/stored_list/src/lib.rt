@@ -1,20 +1,24 @@
-// The stored standing list, loaded into a row of places: from site numbers back to records.
+// The stored standing list: loaded into a row of places, from site numbers back to records, and searched for a number.
 use grid::Leg;
 use sites::Found;
 ghost use mathlib.Core.Path.{_≡_};
 ghost use mathlib.Core.Option.{some};
 ghost use mathlib.Core.Bool.{true};
+ghost use mathlib.Core.List.{List·Memᴰ};
 ghost use Prim.Native.Nat.{_+_, _*_, _<_, _≤_};
 ghost use lib.ListN.{length};
 ghost use Rattle.limits.specs.Limits.{tableBytes, maxSites};
+ghost use Rattle.words.specs.Words.{wordAt};
+ghost use Rattle.grid.specs.Says.{Says};
 ghost use Rattle.book.specs.Book.{holds};
 ghost use Rattle.row.specs.Vertices.{rowBytes};
 ghost use Rattle.sites.specs.Layout.{recordStart};
 ghost use Rattle.sites.specs.Lines.{linesIn};
 ghost use Rattle.sites.specs.Rules.{SitesOk};
-ghost use Rattle.standing.specs.Standing.{legIn};
+ghost use Rattle.standing.specs.Layout.{lengthStart};
+ghost use Rattle.standing.specs.Standing.{legIn, standingIn};
 ghost use Rattle.table.specs.Table.{Sound};
-ghost use Rattle.stored_list.specs.Loading.{PlaceOf, Loaded};
+ghost use Rattle.stored_list.specs.Loading.{PlaceOf, NumbersHeld, PlacesOf, Loaded};
 
 // The place of record k.
 fn record_place(k: usize) -> usize
@@ -26,7 +30,7 @@ fn record_place(k: usize) -> usize
 }
 
 // The place of the record that has the number n.
-fn place_of(t: &[u8], n: u16) -> usize
+pub fn place_of(t: &[u8], n: u16) -> usize
     requires { ⌜ (length (now t) ≡ tableBytes) × SitesOk (now t) × (holds n (linesIn (now t)) ≡ true) ⌝ }
     ensures { λ r. ⌜ PlaceOf (now (t .entry)) n r ⌝ }
 {
@@ -37,10 +41,10 @@ fn place_of(t: &[u8], n: u16) -> usize
     }
 }
 
-// Loads the standing list into the row that begins the work buffer.
-pub fn load(t: &[u8], work: &mut [u8], leg: Leg) -> usize
-    requires { ⌜ Sound (now t) × (legIn (now t) ≡ some leg) × (rowBytes ≤ length (now work)) ⌝ }
-    ensures { λ r. ⌜ Loaded leg (now (t .entry)) (now (work .entry)) (now (work .exit)) r ⌝ }
+// Writes the places of the stored numbers into the row that begins the work buffer.
+pub fn places(t: &[u8], work: &mut [u8]) -> usize
+    requires { ⌜ (length (now t) ≡ tableBytes) × SitesOk (now t) × NumbersHeld (now t) × (rowBytes ≤ length (now work)) ⌝ }
+    ensures { λ r. ⌜ PlacesOf (now (t .entry)) (now (work .entry)) (now (work .exit)) r ⌝ }
 {
     let k = words::word(t, standing::LENGTH_START) as usize;
     let mut i = 0;
@@ -51,4 +55,29 @@ pub fn load(t: &[u8], work: &mut [u8], leg: Leg) -> usize
         i += 1;
     }
     k
+}
+
+// Loads the standing list into the row that begins the work buffer.
+pub fn load(t: &[u8], work: &mut [u8], leg: Leg) -> usize
+    requires { ⌜ Sound (now t) × (legIn (now t) ≡ some leg) × (rowBytes ≤ length (now work)) ⌝ }
+    ensures { λ r. ⌜ Loaded leg (now (t .entry)) (now (work .entry)) (now (work .exit)) r ⌝ }
+{
+    places(t, work)
+}
+
+// Whether the standing list names site n.
+pub fn lists(t: &[u8], n: u16) -> bool
+    requires { ⌜ (length (now t) ≡ tableBytes) × (wordAt (now t) lengthStart ≤ maxSites) ⌝ }
+    ensures { λ r. ⌜ Says r (List·Memᴰ n (standingIn (now (t .entry)))) ⌝ }
+{
+    let k = words::word(t, standing::LENGTH_START) as usize;
+    let mut i = 0;
+    while i < k {
+        let m = words::word(t, standing::LIST_START + 2 * i);
+        if m == n {
+            return true;
+        }
+        i += 1;
+    }
+    false
 }

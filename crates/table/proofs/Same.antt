@@ -1,4 +1,4 @@
--- What a change of some bytes leaves: the lines, the standing leg, the header.
+-- What a change of some bytes leaves: the lines, the standing leg, the stored list, the header.
 -- Assumes nothing.
 use mathlib.Core.Path.{_≡_, refl, sym, ap, ap₂, subst, _∙_}
 use mathlib.Core.List.{List, [], _∷_, List·Memᴰ}
@@ -15,8 +15,8 @@ use Rattle.row.specs.Places.{siteAtByte}
 use Rattle.sites.specs.Layout.{siteStart, siteBytes, recordStart, siteEnd}
 use Rattle.sites.specs.Lines.{countIn, lineAt, linesFrom, linesIn, SpareZero}
 use Rattle.sites.specs.Rules.{SitesOk}
-use Rattle.standing.specs.Layout.{flagStart, legStart, lengthStart, keptStart, keptEnd}
-use Rattle.standing.specs.Standing.{positionWords, legIn, ZeroFrom, HeaderOk}
+use Rattle.standing.specs.Layout.{flagStart, legStart, lengthStart, keptStart, keptEnd, listStart, listEnd}
+use Rattle.standing.specs.Standing.{positionWords, legIn, wordsFrom, standingIn, ZeroFrom, HeaderOk}
 
 -- the bytes from lo up to hi are the same
 abbrev pub Same : ℕ → ℕ → List ℕ → List ℕ → Type 0
@@ -76,6 +76,19 @@ leg-same b b′ s =
       word-same b b′ s (legStart + 4 + 2) (omega arith) (omega arith),
     )
     refl
+
+-- the stored list
+words-same : (b b′ : List ℕ) → Same listStart listEnd b b′ → (i n : ℕ) → listStart ≤ i → i + 2 * n ≤ listEnd → wordsFrom b′ i n ≡ wordsFrom b i n
+unfolding wordsFrom
+words-same b b′ s i zero l h = refl
+words-same b b′ s i (suc n) l h =
+    ap₂ (λ (x : ℕ) (y : List ℕ). x ∷ y) (word-same b b′ s i l (omega arith)) (words-same b b′ s (i + 2) n (omega arith) (omega arith))
+
+pub list-same : (b b′ : List ℕ) → Same lengthStart keptStart b b′ → Same listStart listEnd b b′ → wordAt b lengthStart ≤ maxSites → standingIn b′ ≡ standingIn b
+unfolding standingIn
+list-same b b′ c s few =
+    ap (wordsFrom b′ listStart) (word-same b b′ c lengthStart (omega arith) (omega arith))
+    ∙ words-same b b′ s listStart (wordAt b lengthStart) (omega arith) (omega arith)
 
 -- the header's layout
 pub header-same : (b b′ : List ℕ) → Same flagStart lengthStart b b′ → Same keptStart keptEnd b b′ → HeaderOk b → HeaderOk b′

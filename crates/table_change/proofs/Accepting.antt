@@ -1,47 +1,48 @@
 -- An accepted change, carried out: the table holds the changed book.
 -- Assumes nothing.
-use mathlib.Core.Path.{_≡_, refl, sym, ap, subst, _∙_}
+use mathlib.Core.Path.{_≡_, sym, ap, subst, _∙_}
 use mathlib.Core.Bool.{true, false, true≢false}
-use mathlib.Core.Option.{Option, some}
 use mathlib.Core.List.{List}
-use Prim.Native.Nat.{ℕ, _+_, _*_, _≤_, _<_}
+use Prim.Native.Nat.{ℕ, _<_}
 use native.Mathlib.Omega.{arith}
-use lib.ListN.{length, getD}
-use Rattle.limits.specs.Limits.{maxNumber, maxSites, tableBytes}
+use lib.ListN.{length}
+use Rattle.limits.specs.Limits.{maxSites}
 use Rattle.words.specs.Words.{Only}
 use Rattle.grid.specs.declared.Position.{Position}
 use Rattle.grid.specs.declared.Site.{Site}
 use Rattle.grid.specs.declared.Leg.{Leg}
 use Rattle.grid.specs.Position.{OnGrid}
-use Rattle.book.specs.declared.Command.{Command}
 use Rattle.book.specs.declared.Command.the-variants.{Add, Remove, Move, Stand}
-use Rattle.book.specs.Book.{Book, writeLine, strikeLine, moveLine, holds, change}
+use Rattle.book.specs.Book.{writeLine, strikeLine, moveLine, holds, change}
 use Rattle.book.specs.Proper.{LegOk, NumberOk}
-use Rattle.book.specs.Reply.{Reply, done}
+use Rattle.book.specs.Reply.{done}
 use Rattle.book.specs.Answer.{answer}
-use Rattle.book.proofs.Lines.{siteAs}
+use Rattle.book.proofs.Lines.{siteAs, strike-none, holds-strike}
 use Rattle.book.proofs.Answers.{add-accepted, remove-accepted, move-accepted, stand-accepted}
 use Rattle.sites.specs.declared.Found.{Found}
 use Rattle.sites.specs.Lines.{linesIn, Array, StandsAt, StandsNowhere, FoundAs}
 use Rattle.sites.proofs.Reading.{lines-length}
 use Rattle.sites.proofs.Finding.{found-at, found-absent, at-held, absent-held}
 use Rattle.sites.proofs.Kept.{sites-array}
-use Rattle.standing.specs.Layout.{flagStart, lengthStart, keptStart, keptEnd}
-use Rattle.standing.specs.Standing.{legIn, ZeroFrom, HeaderOk, LegStored}
+use Rattle.standing.specs.Layout.{flagStart}
+use Rattle.standing.specs.Standing.{legIn, ZeroFrom, LegStored}
 use Rattle.node.specs.Layout.{treeStart}
 use Rattle.table.specs.Table.{bookOf, Whole, Sound}
 use Rattle.table.proofs.Same.{lines-same, sites-same}
 use Rattle.demands.specs.Step.{Holds}
+use Rattle.list_change.specs.Patching.{Patchable}
+use Rattle.list_change.proofs.Restanding.{tied-below}
+use Rattle.list_change.proofs.Patching.{patchable}
 use Rattle.table_change.specs.Changes.{Relined}
-use Rattle.table_change.proofs.Restanding.{tied-below}
+use Rattle.table_change.proofs.Struck.{strike-written, strike-moved}
 
 pub sound-array : (b : List ℕ) → Sound b → Array b
 sound-array b s = sites-array (s .whole .len) (s .whole .sites)
 
--- after the lines have changed, the list may be made anew, and then the table holds the changed book
+-- after a line has changed, the list may be patched, and then the table holds the changed book
 module _ (b b₁ : List ℕ) (l : List Site) (s : Sound b) (r : Relined l b b₁) where
-  pub relined-leg : LegOk (legIn b₁)
-  relined-leg = subst LegOk (sym (r .leg)) (s .standing .leg)
+  relined-patch : (n : ℕ) → strikeLine n l ≡ strikeLine n (linesIn b) → Patchable n b₁
+  relined-patch n e = patchable b b₁ n s (r .whole) (r .leg) (r .list) (ap (strikeLine n) (r .lines) ∙ e)
 
   relined-book : bookOf b₁ ≡ record { lines = l; leg = legIn b }
   relined-book = λ i. record { lines = r .lines i; leg = r .leg i }
@@ -65,6 +66,9 @@ module _ (b : List ℕ) (n : ℕ) (p : Position) (s : Sound b) (acc : answer (bo
   pub add-never : (f : Found) (k : ℕ) → f ≡ Found.At k → FoundAs f n (linesIn b) → Holds b (change (Add n p) (bookOf b))
   add-never f k e a = absurd (true≢false (sym (at-held (found-at e a)) ∙ add-accepted (bookOf b) n p acc .new))
 
+  pub add-patch : (b₁ : List ℕ) → Relined (writeLine (siteAs n p) (linesIn b)) b b₁ → Patchable n b₁
+  add-patch b₁ r = relined-patch b b₁ (writeLine (siteAs n p) (linesIn b)) s r n (strike-written (siteAs n p) (linesIn b))
+
   -- ADDED
   pub add-done : (b₁ b₂ : List ℕ) → Relined (writeLine (siteAs n p) (linesIn b)) b b₁ → Holds b₂ (bookOf b₁) → Holds b₂ (change (Add n p) (bookOf b))
   unfolding change
@@ -76,6 +80,9 @@ module _ (b : List ℕ) (n : ℕ) (s : Sound b) (acc : answer (bookOf b) (Remove
 
   pub remove-never : (f : Found) (k : ℕ) → f ≡ Found.Absent k → FoundAs f n (linesIn b) → Holds b (change (Remove n) (bookOf b))
   remove-never f k e a = absurd (true≢false (sym (remove-accepted (bookOf b) n acc .held) ∙ absent-held (found-absent e a)))
+
+  pub remove-patch : (b₁ : List ℕ) → Relined (strikeLine n (linesIn b)) b b₁ → Patchable n b₁
+  remove-patch b₁ r = relined-patch b b₁ (strikeLine n (linesIn b)) s r n (strike-none n (strikeLine n (linesIn b)) (holds-strike n (linesIn b)))
 
   -- REMOVED
   pub remove-done : (b₁ b₂ : List ℕ) → Relined (strikeLine n (linesIn b)) b b₁ → Holds b₂ (bookOf b₁) → Holds b₂ (change (Remove n) (bookOf b))
@@ -91,6 +98,9 @@ module _ (b : List ℕ) (n : ℕ) (p : Position) (s : Sound b) (acc : answer (bo
 
   pub move-never : (f : Found) (k : ℕ) → f ≡ Found.Absent k → FoundAs f n (linesIn b) → Holds b (change (Move n p) (bookOf b))
   move-never f k e a = absurd (true≢false (sym (move-accepted (bookOf b) n p acc .held) ∙ absent-held (found-absent e a)))
+
+  pub move-patch : (b₁ : List ℕ) → Relined (moveLine n p (linesIn b)) b b₁ → Patchable n b₁
+  move-patch b₁ r = relined-patch b b₁ (moveLine n p (linesIn b)) s r n (strike-moved n p (linesIn b))
 
   -- MOVED
   pub move-done : (b₁ b₂ : List ℕ) → Relined (moveLine n p (linesIn b)) b b₁ → Holds b₂ (bookOf b₁) → Holds b₂ (change (Move n p) (bookOf b))

@@ -1,4 +1,3 @@
-pub mod Points
-pub mod Restanding
+pub mod Struck
 pub mod Relining
 pub mod Accepting

@@ -1,9 +1,8 @@
 -- A change of the site array and the same change of the tree, together.
 -- Assumes nothing.
 use mathlib.Core.Path.{_≡_, refl, sym, ap, subst, _∙_}
-use mathlib.Core.Bool.{true}
 use mathlib.Core.List.{List, [], _∷_, _++_, List·Memᴰ}
-use Prim.Native.Nat.{ℕ, zero, suc, _+_, _≤_, _<_}
+use Prim.Native.Nat.{ℕ, suc, _+_, _≤_, _<_}
 use native.Mathlib.Omega.{arith}
 use native.Mathlib.Decide.{decLt}
 use native.Mathlib.Numerals.{add-one}
@@ -15,19 +14,16 @@ use Rattle.words.proofs.Frame.{only-trans}
 use Rattle.grid.specs.declared.Position.{Position}
 use Rattle.grid.specs.declared.Site.{Site}
 use Rattle.grid.specs.Position.{OnGrid}
-use Rattle.book.specs.Book.{writeLine, strikeLine, moveLine, holds}
+use Rattle.book.specs.Book.{writeLine, strikeLine, moveLine}
 use Rattle.book.specs.Proper.{Rising, NumberOk}
-use Rattle.book.proofs.Lines.{siteAs, write-before, write-past, strike-between, move-is}
-use Rattle.sites.specs.Layout.{siteStart, siteEnd}
-use Rattle.sites.specs.Lines.{countIn, lineAt, linesIn, Array, noSite, numberOf, StandsAt, StandsNowhere}
+use Rattle.book.proofs.Lines.{siteAs, write-before, write-past, move-is}
+use Rattle.sites.specs.Lines.{countIn, lineAt, linesIn, Array, noSite, StandsAt, StandsNowhere}
 use Rattle.sites.specs.Rules.{SitesOk}
 use Rattle.sites.specs.Changes.{inserted, deleted, placed, Changed}
 use Rattle.sites.proofs.Reading.{lines-length, line-at}
 use Rattle.sites.proofs.Finding.{at-held, at-member, at-counted, absent-counted}
 use Rattle.sites.proofs.Deletion.{deleted-struck}
 use Rattle.sites.proofs.Kept.{sites-array, insert-lines, insert-kept, delete-lines, delete-kept, place-lines, place-kept}
-use Rattle.standing.specs.Layout.{flagStart, lengthStart, keptStart, keptEnd}
-use Rattle.standing.specs.Standing.{legIn, HeaderOk}
 use Rattle.node.specs.declared.Entry.{Entry}
 use Rattle.node.specs.Layout.{treeStart}
 use Rattle.node.specs.Header.{rootIn}
@@ -38,11 +34,11 @@ use Rattle.rtree.proofs.Outside.{rooted-below, leaves-below}
 use Rattle.tree_add.specs.Added.{Added}
 use Rattle.tree_remove.specs.Removal.{Removed}
 use Rattle.table.specs.Table.{leafEntry, leafEntries, Whole}
-use Rattle.table.proofs.Same.{Same, lines-same, sites-same, leg-same, header-same}
+use Rattle.table.proofs.Same.{lines-same, sites-same, leg-same, list-same, header-same}
 use Rattle.table.proofs.Leaves.{tied-lines, lines-tied, leaves-append}
 use Rattle.table.proofs.Totals.{total-ones}
 use Rattle.table_change.specs.Changes.{Swapped, Relined}
-use Rattle.table_change.proofs.Points.{leaf-count, line-leaf}
+use Rattle.list_change.proofs.Points.{leaf-count, line-leaf}
 
 -- ---- totals of lines
 
@@ -106,6 +102,7 @@ relined l m b b₁ b₂ w c s e o r t =
       };
       lines = same;
       leg = leg-same b b₂ (λ i x h. o .low i (omega arith) ∙ c .header i x (omega arith));
+      list = list-same b b₂ (λ i x h. o .low i (omega arith) ∙ c .header i (omega arith) (omega arith)) (λ i x h. o .low i (omega arith) ∙ c .above i (omega arith));
     }
   where
     same : linesIn b₂ ≡ m

@@ -4,7 +4,6 @@ use grid::Position;
 use grid::Site;
 use node::Entry;
 use sites::Found;
-use standing::Standing;
 ghost use mathlib.Core.Path.{_≡_};
 ghost use Prim.Native.Nat.{_*_, _<_, _≤_};
 ghost use lib.ListN.{length};
@@ -13,11 +12,10 @@ ghost use Rattle.grid.specs.Position.{OnGrid};
 ghost use Rattle.row.specs.Vertices.{rowBytes};
 ghost use Rattle.book.specs.declared.Command.{Command};
 ghost use Rattle.book.specs.Book.{writeLine, strikeLine, moveLine, change};
-ghost use Rattle.book.specs.Proper.{LegOk, NumberOk};
+ghost use Rattle.book.specs.Proper.{NumberOk};
 ghost use Rattle.book.specs.Reply.{Reply};
 ghost use Rattle.book.specs.Answer.{answer};
 ghost use Rattle.sites.specs.Lines.{linesIn, StandsAt, StandsNowhere};
-ghost use Rattle.standing.specs.Standing.{legIn};
 ghost use Rattle.table.specs.Table.{bookOf, leafEntry, Whole, Sound};
 ghost use Rattle.demands.specs.Step.{Holds};
 ghost use mathlib.Core.List.{List·Memᴰ};
@@ -38,21 +36,6 @@ fn leaf(p: Site) -> Entry
         east: east,
         north: north,
         spare: 0,
-    }
-}
-
-// Makes the standing list anew.
-fn restand(t: &mut [u8], work: &mut [u8])
-    requires { ⌜ Whole (now t) × LegOk (legIn (now t)) × (2 * rowBytes ≤ length (now work)) ⌝ }
-    ensures { λ _. ⌜ Holds (now (t .exit)) (bookOf (now (t .entry))) ⌝ }
-{
-    let s = standing::leg(t);
-    match s {
-        Standing::Unset => words::put_word(t, standing::LENGTH_START, 0),
-        Standing::Along(leg) => {
-            let k = tree_search::search(t, leg, work);
-            standing::store_list(t, work, leg, k);
-        }
     }
 }
 
@@ -116,7 +99,7 @@ pub fn add(t: &mut [u8], work: &mut [u8], n: u16, p: Position)
                     position: p,
                 },
             );
-            restand(t, work);
+            list_change::patch(t, work, n);
         }
         Found::At(_) => {}
     }
@@ -131,7 +114,7 @@ pub fn remove(t: &mut [u8], work: &mut [u8], n: u16)
     match found {
         Found::At(k) => {
             shrink(t, k, n);
-            restand(t, work);
+            list_change::patch(t, work, n);
         }
         Found::Absent(_) => {}
     }
@@ -146,7 +129,7 @@ pub fn replace(t: &mut [u8], work: &mut [u8], n: u16, p: Position)
     match found {
         Found::At(k) => {
             relocate(t, k, n, p);
-            restand(t, work);
+            list_change::patch(t, work, n);
         }
         Found::Absent(_) => {}
     }
@@ -158,5 +141,5 @@ pub fn stand(t: &mut [u8], work: &mut [u8], leg: Leg)
     ensures { λ _. ⌜ Holds (now (t .exit)) (change (Command.Stand leg) (bookOf (now (t .entry)))) ⌝ }
 {
     standing::store_leg(t, leg);
-    restand(t, work);
+    list_change::restand(t, work);
 }

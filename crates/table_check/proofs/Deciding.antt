@@ -32,8 +32,8 @@ use Rattle.tree_check.specs.Sites.{numberAt, Rising}
 use Rattle.tree_check.specs.Tied.{Tied}
 use Rattle.table.specs.Table.{bookOf, Whole, StandingOk, Sound}
 use Rattle.table_check.proofs.Matching.{words-length}
-use Rattle.table_change.proofs.Points.{tree-sites}
-use Rattle.table_change.proofs.Restanding.{whole-numbered}
+use Rattle.list_change.proofs.Points.{tree-sites}
+use Rattle.list_change.proofs.Restanding.{whole-numbered}
 
 -- ---- the standing leg and list
 

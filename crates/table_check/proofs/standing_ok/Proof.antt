@@ -1,4 +1,4 @@
-use Rattle.table_change.proofs.Points.{leaf-points, leaf-few}
+use Rattle.list_change.proofs.Points.{leaf-points, leaf-few}
 use Rattle.table_check.proofs.Deciding.{unset-says, along-off, along-grid, along-says}
 use borrow.Author.Needs.{needs}
 use Rattle.table_check.proofs.standing_ok.Statement.{statement}

@@ -1,4 +1,4 @@
-use Rattle.table_change.proofs.Points.{leaf-points, leaf-few}
+use Rattle.list_change.proofs.Points.{leaf-points, leaf-few}
 use Rattle.judge.proofs.Deciding.{list-none, leg-yes, list-done, list-off}
 use borrow.Author.Needs.{needs}
 use Rattle.judge.proofs.list.list.Statement.{statement}

@@ -1,8 +1,8 @@
-use Rattle.table_change.proofs.Points.{leaf-points, leaf-few}
-use Rattle.table_change.proofs.Restanding.{along-leg, restood-none, restood-list}
+use Rattle.list_change.proofs.Points.{leaf-points, leaf-few}
+use Rattle.list_change.proofs.Restanding.{along-leg, restood-none, restood-list}
 use borrow.Author.Needs.{needs}
-use Rattle.table_change.proofs.restand.Statement.{statement}
-use Rattle.table_change.proofs.restand.Tie as tie
+use Rattle.list_change.proofs.restand.Statement.{statement}
+use Rattle.list_change.proofs.restand.Tie as tie
 
 leg-requires : tie.Need-leg-requires
 leg-requires c κs = search needs

@@ -1,11 +1,11 @@
 -- The standing list, made anew: the table is sound, and its book is as it was.
 -- Assumes nothing.
-use mathlib.Core.Path.{_≡_, refl, sym, ap, subst, _∙_}
+use mathlib.Core.Path.{_≡_, sym, ap, subst, _∙_}
 use mathlib.Core.List.{List, []}
 use mathlib.Core.Option.{Option, none, some}
-use Prim.Native.Nat.{ℕ, _+_, _*_, _≤_, _<_}
+use Prim.Native.Nat.{ℕ, _+_}
 use native.Mathlib.Omega.{arith}
-use lib.ListN.{length, getD}
+use lib.ListN.{length}
 use Rattle.limits.specs.Limits.{tableBytes}
 use Rattle.words.specs.Words.{wordAt, putWord, Only}
 use Rattle.words.proofs.Frame.{only-putWord, word-putWord}
@@ -13,29 +13,25 @@ use Rattle.grid.specs.declared.Site.{Site}
 use Rattle.grid.specs.declared.Leg.{Leg}
 use Rattle.grid.specs.Position.{LegOnGrid}
 use Rattle.split.specs.SplitList.{Entry, Numbered}
-use Rattle.split.specs.SplitOf.{splitOf}
 use Rattle.row.specs.Vertices.{entriesIn}
-use Rattle.book.specs.Book.{Book, listOf, standingList}
+use Rattle.book.specs.Book.{listOf}
 use Rattle.book.specs.Proper.{LegOk}
 use Rattle.book.proofs.Lines.{rising-one}
-use Rattle.sites.specs.Layout.{siteStart, siteEnd}
 use Rattle.sites.specs.Lines.{countIn, linesIn}
-use Rattle.sites.specs.Rules.{SitesOk}
 use Rattle.standing.specs.declared.Standing.{Standing}
-use Rattle.standing.specs.Layout.{flagStart, lengthStart, keptStart, keptEnd, listStart, listEnd}
-use Rattle.standing.specs.Standing.{legIn, wordsFrom, standingIn, numbersOf, HeaderOk, asOption, ListStored}
+use Rattle.standing.specs.Layout.{lengthStart, listStart}
+use Rattle.standing.specs.Standing.{legIn, wordsFrom, standingIn, numbersOf, asOption, ListStored}
 use Rattle.node.specs.Layout.{treeStart}
 use Rattle.node.specs.Tally.{total}
-use Rattle.rtree.specs.Rooted.{leavesIn}
 use Rattle.rtree.proofs.Outside.{rooted-below, leaves-below}
 use Rattle.tree_search.specs.Searching.{Found}
 use Rattle.tree_search.proofs.Finding.{found-is}
 use Rattle.tree_check.specs.Tied.{Tied}
-use Rattle.table.specs.Table.{bookOf, leafEntries, Whole, StandingOk, Sound}
-use Rattle.table.proofs.Same.{Same, lines-same, sites-same, leg-same, header-same}
+use Rattle.table.specs.Table.{bookOf, leafEntries, Whole}
+use Rattle.table.proofs.Same.{lines-same, sites-same, leg-same, header-same}
 use Rattle.table.proofs.Leaves.{tied-lines, lines-tied}
 use Rattle.demands.specs.Step.{Holds}
-use Rattle.table_change.proofs.Points.{tree-sites}
+use Rattle.list_change.proofs.Points.{tree-sites}
 
 -- no number is held twice
 pub whole-numbered : (b : List ℕ) → Whole b → Numbered (linesIn b)

@@ -1,0 +1,74 @@
+// The standing list after a change of the sites: patched by the one site whose record has changed, or made anew by a search of the tree.
+use grid::Leg;
+use sites::Found;
+use standing::Standing;
+ghost use mathlib.Core.Path.{_≡_};
+ghost use mathlib.Core.Bool.{true};
+ghost use mathlib.Core.Option.{some};
+ghost use Prim.Native.Nat.{_*_, _≤_};
+ghost use lib.ListN.{length};
+ghost use Rattle.row.specs.Vertices.{rowBytes};
+ghost use Rattle.book.specs.Book.{holds};
+ghost use Rattle.book.specs.Proper.{LegOk};
+ghost use Rattle.sites.specs.Lines.{linesIn};
+ghost use Rattle.standing.specs.Standing.{legIn};
+ghost use Rattle.table.specs.Table.{bookOf, Whole};
+ghost use Rattle.demands.specs.Step.{Holds};
+ghost use Rattle.list_change.specs.Patching.{ListsOthers, Patchable};
+
+// Makes the standing list anew.
+pub fn restand(t: &mut [u8], work: &mut [u8])
+    requires { ⌜ Whole (now t) × LegOk (legIn (now t)) × (2 * rowBytes ≤ length (now work)) ⌝ }
+    ensures { λ _. ⌜ Holds (now (t .exit)) (bookOf (now (t .entry))) ⌝ }
+{
+    let s = standing::leg(t);
+    match s {
+        Standing::Unset => words::put_word(t, standing::LENGTH_START, 0),
+        Standing::Along(leg) => {
+            let k = tree_search::search(t, leg, work);
+            standing::store_list(t, work, leg, k);
+        }
+    }
+}
+
+// Deals site n into the list of the leg over the other sites. Places are loaded from the changed table: a record that comes moves those behind it.
+fn deal_along(t: &mut [u8], work: &mut [u8], leg: Leg, n: u16)
+    requires { ⌜ Whole (now t) × LegOk (legIn (now t)) × (legIn (now t) ≡ some leg) × (2 * rowBytes ≤ length (now work)) ⌝ }
+    requires { ⌜ ListsOthers n (now t) × (holds n (linesIn (now t)) ≡ true) ⌝ }
+    ensures { λ _. ⌜ Holds (now (t .exit)) (bookOf (now (t .entry))) ⌝ }
+{
+    let k = stored_list::places(t, work);
+    let p = stored_list::place_of(t, n);
+    let m = row_skip::deal(t, leg, p, work, k);
+    standing::store_list(t, work, leg, m);
+}
+
+// Deals site n into the standing list, which is that of the other sites.
+fn deal_site(t: &mut [u8], work: &mut [u8], n: u16)
+    requires { ⌜ Whole (now t) × LegOk (legIn (now t)) × (2 * rowBytes ≤ length (now work)) ⌝ }
+    requires { ⌜ ListsOthers n (now t) × (holds n (linesIn (now t)) ≡ true) ⌝ }
+    ensures { λ _. ⌜ Holds (now (t .exit)) (bookOf (now (t .entry))) ⌝ }
+{
+    let s = standing::leg(t);
+    match s {
+        Standing::Unset => {}
+        Standing::Along(leg) => deal_along(t, work, leg, n),
+    }
+}
+
+// Brings the standing list up to date when site n has come, gone or moved. A list that does not name n is that of the other sites,
+// so n is dealt in if it is held. Where n is named, sites that it kept out may come in, and only a search finds them.
+pub fn patch(t: &mut [u8], work: &mut [u8], n: u16)
+    requires { ⌜ Patchable n (now t) × (2 * rowBytes ≤ length (now work)) ⌝ }
+    ensures { λ _. ⌜ Holds (now (t .exit)) (bookOf (now (t .entry))) ⌝ }
+{
+    if stored_list::lists(t, n) {
+        restand(t, work);
+        return;
+    }
+    let found = sites::find(t, n);
+    match found {
+        Found::At(_) => deal_site(t, work, n),
+        Found::Absent(_) => {}
+    }
+}
