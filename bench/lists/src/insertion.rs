@@ -2,20 +2,8 @@
 
 use crate::shared::{Leg, Vertex, put_record, ready, turns, vertex};
 
-/// Two rows of places; the second is room for work.
-pub struct Rows {
-    list: [u16; 512],
-    spare: [u16; 512],
-}
-
-impl Rows {
-    pub fn new() -> Self {
-        Rows {
-            list: [0; 512],
-            spare: [0; 512],
-        }
-    }
-}
+/// A row of places.
+pub type Row = [u16; 512];
 
 /// Which sites a list is built from.
 #[derive(Clone, Copy)]
@@ -63,38 +51,46 @@ impl Sites<'_> {
         row.len() == 1 || turns(self.vertex(row[row.len() - 2]), u, x)
     }
 
-    /// Pushes x on the first k, off which it drops what it takes over.
-    fn push(self, row: &mut [u16], k: usize, place: u16, x: Vertex) -> usize {
-        let mut j = k;
+    /// How many of the row stay left of x, which none is right of; `None` where one hides it.
+    fn place(self, row: &[u16], x: Vertex) -> Option<usize> {
+        let mut j = row.len();
         while j > 0 {
             let u = self.vertex(row[j - 1]);
             if hides(u, x) {
-                return j;
+                return None;
             }
             if self.stands(&row[..j], u, x) {
                 break;
             }
             j -= 1;
         }
-        row[j] = place;
-        j + 1
+        Some(j)
     }
 
-    /// Inserts x into the list in the first k: what is right of it is pushed again.
-    fn insert(self, rows: &mut Rows, k: usize, place: u16, x: Vertex) -> usize {
-        let n = self.cut(&rows.list[..k], x.a);
-        rows.spare[..k].copy_from_slice(&rows.list[..k]);
-        let mut s = self.push(&mut rows.list, n, place, x);
-        for i in n..k {
-            // On two neighbours of the old list its rest stands as it did.
-            if i >= 2 && s >= 2 && rows.spare[i - 2..i] == rows.list[s - 2..s] {
-                rows.list[s..s + k - i].copy_from_slice(&rows.spare[i..k]);
-                return s + k - i;
-            }
-            let next = rows.spare[i];
-            s = self.push(&mut rows.list, s, next, self.vertex(next));
+    /// Whether the first of the row, which is right of x, stays behind it.
+    fn stays(self, row: &[u16], x: Vertex) -> bool {
+        let u = self.vertex(row[0]);
+        u.c < x.c && (row.len() == 1 || turns(x, u, self.vertex(row[1])))
+    }
+
+    /// Whether x is strictly below the chord of its neighbours.
+    fn below_chord(self, row: &[u16], j: usize, i: usize, x: Vertex) -> bool {
+        j == 0 || i == row.len() || turns(self.vertex(row[j - 1]), x, self.vertex(row[i]))
+    }
+
+    /// Inserts x into the list in the first k, in place.
+    fn insert(self, row: &mut Row, k: usize, place: u16, x: Vertex) -> usize {
+        let n = self.cut(&row[..k], x.a);
+        let Some(j) = self.place(&row[..n], x) else {
+            return k;
+        };
+        let i = (n..k).find(|&i| self.stays(&row[i..k], x)).unwrap_or(k);
+        if !self.below_chord(&row[..k], j, i, x) {
+            return k;
         }
-        s
+        row.copy_within(i..k, j + 1);
+        row[j] = place;
+        j + 1 + k - i
     }
 }
 
@@ -118,7 +114,7 @@ fn above(u: Vertex, v: Vertex, x: Vertex) -> bool {
     weigh(v) < weigh(x)
 }
 
-pub fn list(table: &[u8], n: usize, leg: Leg, rows: &mut Rows, report: &mut [u8]) -> usize {
+pub fn list(table: &[u8], n: usize, leg: Leg, row: &mut Row, report: &mut [u8]) -> usize {
     if !ready(table, n, leg) {
         return 0;
     }
@@ -126,9 +122,9 @@ pub fn list(table: &[u8], n: usize, leg: Leg, rows: &mut Rows, report: &mut [u8]
     let mut k = 0;
     for place in (0..n as u16).rev() {
         let x = sites.vertex(place);
-        if !sites.covers(&rows.list[..k], x) {
-            k = sites.insert(rows, k, place, x);
+        if !sites.covers(&row[..k], x) {
+            k = sites.insert(row, k, place, x);
         }
     }
-    put_record(k, |i| sites.vertex(rows.list[i]), report)
+    put_record(k, |i| sites.vertex(row[i]), report)
 }

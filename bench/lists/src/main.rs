@@ -11,7 +11,7 @@ mod hull;
 mod insertion;
 mod shared;
 
-use insertion::Rows;
+use insertion::Row;
 use lists::{WORK_NEEDED, leg_words, probe_list, table};
 use reference::grid::{HALF_WIDTH, Leg, MOST_SITES, Position, Site};
 use reference::random::Random;
@@ -26,6 +26,7 @@ const REPEATS: usize = 41;
 /// does falls on all alike, and the median over the repeats leaves out a turn that it broke into.
 const TURN: usize = 4;
 const LONGEST_RECORD: usize = 3 + 10 * MOST_SITES;
+const EMPTY_ROW: Row = [0; MOST_SITES];
 
 struct Task {
     table: Vec<u8>,
@@ -101,7 +102,7 @@ fn entries(task: &Task) -> usize {
     let n = table.len() / lists::SITE_LEN;
     let lengths = [
         probe_list(table, n, *leg, &mut vec![0; WORK_NEEDED], proved),
-        insertion::list(table, n, *leg, &mut Rows::new(), same),
+        insertion::list(table, n, *leg, &mut { EMPTY_ROW }, same),
         hull::list(table, n, *leg, &mut Vec::new(), hull),
     ];
     assert!(lengths[0] > 0 && lengths == [lengths[0]; 3], "{lengths:?}");
@@ -139,7 +140,7 @@ type Times = [Vec<f64>; 4];
 /// the record alone.
 fn measure(tasks: &[Task]) -> [f64; 4] {
     let mut work = vec![0; WORK_NEEDED];
-    let mut rows = Rows::new();
+    let mut row = EMPTY_ROW;
     let mut vertices: Vec<Vertex> = Vec::new();
     let listed: Vec<Vec<Vertex>> = tasks.iter().map(listed).collect();
     let mut turns: Vec<Times> = vec![Times::default(); tasks.len().div_ceil(TURN)];
@@ -150,7 +151,7 @@ fn measure(tasks: &[Task]) -> [f64; 4] {
                 probe_list(table, MOST_SITES, *leg, &mut work, report)
             }));
             times[1].push(time(tasks, |Task { table, leg }, report| {
-                insertion::list(table, MOST_SITES, *leg, &mut rows, report)
+                insertion::list(table, MOST_SITES, *leg, &mut row, report)
             }));
             times[2].push(time(tasks, |Task { table, leg }, report| {
                 hull::list(table, MOST_SITES, *leg, &mut vertices, report)

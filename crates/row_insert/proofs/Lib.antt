@@ -1,7 +1,5 @@
 pub mod Testing
 pub mod Pushing
-pub mod CopyingWithin
-pub mod SpareRow
-pub mod Settling
-pub mod PushingRest
+pub mod Beating
+pub mod Moving
 pub mod Inserting

@@ -1,9 +1,9 @@
--- What the tests on vertices in hand say of the sites: the returns of `stands`.
+-- What the tests on vertices in hand say of the sites: the returns of `stands`, `stays` and `below_chord`.
 -- Assumes nothing.
 use mathlib.Core.Path.{_≡_, subst}
 use mathlib.Core.Bool.{Bool, true, false}
 use mathlib.Core.List.{List}
-use Prim.Native.Nat.{ℕ, _-_, _≤_, _<_}
+use Prim.Native.Nat.{ℕ, _+_, _-_, _≤_, _<_}
 use native.Mathlib.Omega.{arith}
 use Rattle.grid.specs.declared.Leg.{Leg}
 use Rattle.grid.specs.Says.{Says}
@@ -14,6 +14,7 @@ use Rattle.row.specs.declared.Vertex.{Vertex}
 use Rattle.row.specs.Vertices.{asPoint, bare, pointAt, IsVertex, placeAt, vertexIn, stack, Held}
 use Rattle.row.proofs.Reading.{a-of, c-of}
 use Rattle.row.proofs.Stacks.{stack-top, stack-two, edge}
+use Rattle.row_insert.specs.Insertion.{Stays, Between, BelowChord}
 
 module _ {l : Leg} {t : List ℕ} where
   pub hides-of : {p q : ℕ} {u x : Vertex} (b : Bool) → IsVertex l t p u → IsVertex l t q x → Says b (Hides (bare u) (bare x))
@@ -64,3 +65,42 @@ module _ {l : Leg} {t : List ℕ} (r : List ℕ) (j : ℕ) {q : ℕ} {u x : Vert
     pub stands-two : u .a < x .a → x .c < u .c → (b : Bool) → Says b (Turn (bare s) (bare u) (bare x))
         → Says b (Under (pointAt l t q) (stack l t r j))
     stands-two d e b k = under-two l t r j h (pointAt l t q) b (stepped d e) (turns-of b hs hu hx k)
+
+-- u is the vertex at i
+module _ {l : Leg} {t : List ℕ} (r : List ℕ) (k i : ℕ) {q : ℕ} {u x : Vertex} (hu : IsVertex l t (placeAt r i) u) (hx : IsVertex l t q x) where
+  pub stays-not : x .c ≤ u .c → ¬ Stays l t r k (pointAt l t q) i
+  stays-not h s = omega (arith, s .step .down, c-of hu, c-of hx)
+
+  -- right of x and below it
+  module _ (h : x .a < vertexIn l t r i .a) (g : u .c < x .c) where
+    behind : Step (pointAt l t q) (vertexIn l t r i)
+    behind = record { right = omega (arith, a-of hx); down = omega (arith, c-of hu, c-of hx) }
+
+    pub stays-last : i + 1 ≡ k → Stays l t r k (pointAt l t q) i
+    stays-last e = record { step = behind; turn = λ f. absurd (omega arith) }
+
+    module _ {v : Vertex} (hv : IsVertex l t (placeAt r (i + 1)) v) (f : i + 1 < k) where
+      pub stays-asks : Held l t r k → (x .a ≤ u .a) × (u .a ≤ v .a) × (v .c ≤ u .c)
+      stays-asks hd =
+          let e : i + 1 - 1 ≡ i = omega arith in
+          let s = rw e at (edge l t r k (i + 1) hd f (omega arith)) in
+          (omega (arith, a-of hu), omega (arith, s .right, a-of hu, a-of hv), omega (arith, s .down, c-of hu, c-of hv))
+
+      pub stays-turn : (b : Bool) → Says b (Turn (bare x) (bare u) (bare v)) → Says b (Stays l t r k (pointAt l t q) i)
+      stays-turn true s = record { step = behind; turn = λ _. turns-of true hx hu hv s }
+      stays-turn false s = λ y. turns-of false hx hu hv s (y .turn f)
+
+-- s is the vertex at j - 1, and u the vertex at i
+module _ {l : Leg} {t : List ℕ} (r : List ℕ) (k j i : ℕ) {q : ℕ} {s u x : Vertex} (hs : IsVertex l t (placeAt r (j - 1)) s) (hu : IsVertex l t (placeAt r i) u)
+    (hx : IsVertex l t q x) (h : 0 < j) (g : i < k) where
+  pub chord-asks : Between l t r k j i (pointAt l t q) → (s .a ≤ x .a) × (x .a ≤ u .a) × (u .c ≤ x .c) × (x .c ≤ s .c)
+  chord-asks w = (
+    omega (arith, w .left h .right, a-of hs, a-of hx),
+    omega (arith, w .right g .right, a-of hu, a-of hx),
+    omega (arith, w .right g .down, c-of hu, c-of hx),
+    omega (arith, w .left h .down, c-of hs, c-of hx),
+  )
+
+  pub chord-turn : (b : Bool) → Says b (Turn (bare s) (bare x) (bare u)) → Says b (BelowChord l t r k j i (pointAt l t q))
+  chord-turn true y = λ _ _. turns-of true hs hx hu y
+  chord-turn false y = λ f. turns-of false hs hx hu y (f h g)

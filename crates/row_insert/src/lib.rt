@@ -1,20 +1,19 @@
-// Inserting a site into the list in a row.
-// Follows Handle_Leaf_Entry of document 002 (figure 4.6), one-sided: what is left of the site stays, the site is pushed on it, and what is
-// right of it is pushed again. So the neighbour on either side is the last vertex that is not taken over, and no breakpoint is made at 0 or at 1.
+// Inserting a site into the list in a row, in place.
+// Follows Handle_Leaf_Entry of document 002 (figure 4.6): on either side the neighbour is the last vertex that is not taken over, and no
+// breakpoint is made at 0 or at 1. What stays on the right moves up to the site or makes room for it.
 use grid::Leg;
 use row::Vertex;
 ghost use mathlib.Core.Path.{_≡_};
 ghost use Prim.Native.Nat.{_+_, _*_, _-_, _^_, _<_, _≤_};
 ghost use lib.ListN.{length};
-ghost use Rattle.limits.specs.Limits.{maxSites};
-ghost use Rattle.words.specs.Words.{Only, Copied};
+ghost use Rattle.words.specs.Words.{Copied};
 ghost use Rattle.grid.specs.Position.{LegOnGrid};
-ghost use Rattle.grid.specs.Says.{Says, If};
+ghost use Rattle.grid.specs.Says.{Says};
 ghost use Rattle.split.specs.Hull.{Turn, Under};
 ghost use Rattle.split.specs.SplitOf.{Hides};
 ghost use Rattle.row.specs.Places.{HasSite};
-ghost use Rattle.row.specs.Vertices.{bare, pointAt, IsVertex, rowBytes, placeAt, stack, Held, Cut};
-ghost use Rattle.row_insert.specs.Insertion.{spare, Placed, Fit, Pushed, Inserted, Room, Settled, Apart};
+ghost use Rattle.row.specs.Vertices.{bare, pointAt, IsVertex, placeAt, vertexIn, stack, Held, Cut};
+ghost use Rattle.row_insert.specs.Insertion.{Room, Placed, Stays, Tangent, Between, BelowChord, Spliced, Inserted};
 
 // Whether u hides x, which is not left of it.
 fn hides(u: Vertex, x: Vertex) -> bool
@@ -94,23 +93,73 @@ fn place(t: &[u8], row: &[u8], leg: Leg, k: usize, x: Vertex) -> Spot
     Spot { on: 0, add: true }
 }
 
-// Pushes x, which is as far right as every vertex, on the first k.
-pub fn push(t: &[u8], row: &mut [u8], leg: Leg, k: usize, x: Vertex) -> usize
-    requires { ⌜ Fit leg (now t) (now row) k (x .place) × LegOnGrid leg × IsVertex leg (now t) (x .place) x ⌝ }
-    ensures { λ r. ⌜ Pushed leg (now (t .entry)) (now (row .entry)) k (pointAt leg (now (t .entry)) (x .place)) (now (row .exit)) r ⌝ }
+// Whether the vertex at i, which is right of x, stays behind it: it lies below x, and the breakpoints rise.
+fn stays(t: &[u8], row: &[u8], leg: Leg, k: usize, i: usize, x: Vertex) -> bool
+    requires { ⌜ Held leg (now t) (now row) k × LegOnGrid leg × (i < k) ⌝ }
+    requires { ⌜ IsVertex leg (now t) (x .place) x × (x .a < vertexIn leg (now t) (now row) i .a) ⌝ }
+    ensures { λ r. ⌜ Says r (Stays leg (now (t .entry)) (now (row .entry)) k (pointAt leg (now (t .entry)) (x .place)) i) ⌝ }
 {
-    let spot = place(t, row, leg, k, x);
-    let j = spot.on;
-    if spot.add {
-        words::put_word(row, 2 * j, x.place as u16);
-        return j + 1;
+    let u = row::vertex_in(t, row, leg, k, i);
+    if x.c <= u.c {
+        return false;
     }
-    j
+    let next = i + 1;
+    if next == k {
+        return true;
+    }
+    let v = row::vertex_in(t, row, leg, k, next);
+    turns(x, u, v)
 }
 
-// Copies n bytes from one part of b to another.
-fn copy_within(b: &mut [u8], from: usize, to: usize, n: usize)
-    requires { ⌜ (from + n ≤ length (now b)) × (to + n ≤ length (now b)) × Apart from to n ⌝ }
+// The first from n on, where those right of x begin, that stays; k where none does.
+fn right_tangent(t: &[u8], row: &[u8], leg: Leg, k: usize, n: usize, x: Vertex) -> usize
+    requires { ⌜ Held leg (now t) (now row) k × LegOnGrid leg × IsVertex leg (now t) (x .place) x × Cut leg (now t) (now row) k (x .a) n ⌝ }
+    ensures { λ r. ⌜ Tangent leg (now (t .entry)) (now (row .entry)) k n (pointAt leg (now (t .entry)) (x .place)) r ⌝ }
+{
+    let mut i = n;
+    while i < k {
+        if stays(t, row, leg, k, i, x) {
+            return i;
+        }
+        i += 1;
+    }
+    k
+}
+
+// Whether x is strictly below the chord of its neighbours, the vertices at j - 1 and at i. A missing neighbour leaves it at an end of the list.
+fn below_chord(t: &[u8], row: &[u8], leg: Leg, k: usize, j: usize, i: usize, x: Vertex) -> bool
+    requires { ⌜ Held leg (now t) (now row) k × LegOnGrid leg × (j ≤ k) × (i ≤ k) ⌝ }
+    requires { ⌜ IsVertex leg (now t) (x .place) x × Between leg (now t) (now row) k j i (pointAt leg (now t) (x .place)) ⌝ }
+    ensures { λ r. ⌜ Says r (BelowChord leg (now (t .entry)) (now (row .entry)) k j i (pointAt leg (now (t .entry)) (x .place))) ⌝ }
+{
+    if j == 0 {
+        return true;
+    }
+    if i == k {
+        return true;
+    }
+    let s = row::vertex_in(t, row, leg, k, j - 1);
+    let u = row::vertex_in(t, row, leg, k, i);
+    turns(s, x, u)
+}
+
+// Moves n bytes up by a place, the last first.
+fn move_up(b: &mut [u8], from: usize, n: usize)
+    requires { ⌜ from + n + 2 ≤ length (now b) ⌝ }
+    ensures { λ _. ⌜ Copied (now (b .entry)) from (now (b .entry)) (from + 2) n (now (b .exit)) ⌝ }
+{
+    let mut k = n;
+    while 0 < k {
+        k -= 1;
+        let i = from + k;
+        let j = i + 2;
+        b[j] = b[i];
+    }
+}
+
+// Moves n bytes down, the first first.
+fn move_down(b: &mut [u8], from: usize, to: usize, n: usize)
+    requires { ⌜ (from + n ≤ length (now b)) × (to ≤ from) ⌝ }
     ensures { λ _. ⌜ Copied (now (b .entry)) from (now (b .entry)) to n (now (b .exit)) ⌝ }
 {
     let mut k = 0;
@@ -122,76 +171,50 @@ fn copy_within(b: &mut [u8], from: usize, to: usize, n: usize)
     }
 }
 
-// The vertex that stands in the spare row at i.
-fn vertex_in_spare(t: &[u8], work: &[u8], leg: Leg, k: usize, i: usize) -> Vertex
-    requires { ⌜ Held leg (now t) (spare (now work)) k × LegOnGrid leg × (i < k) ⌝ }
-    ensures { λ r. ⌜ IsVertex leg (now (t .entry)) (placeAt (spare (now (work .entry))) i) r ⌝ }
+// Moves the places from i up to k behind j.
+fn shift(row: &mut [u8], k: usize, j: usize, i: usize)
+    requires { ⌜ (j ≤ i) × (i ≤ k) × Room k (now row) ⌝ }
+    ensures { λ _. ⌜ Copied (now (row .entry)) (2 * i) (now (row .entry)) (2 * j + 2) (2 * (k - i)) (now (row .exit)) ⌝ }
 {
-    let p = words::word(work, row::ROW_BYTES + 2 * i) as usize;
-    row::vertex_at(t, leg, p)
+    let n = 2 * (k - i);
+    let from = 2 * i;
+    let to = 2 * j + 2;
+    if from < to {
+        move_up(row, from, n);
+        return;
+    }
+    // Where x takes over one vertex, the rest stands right already.
+    if from == to {
+        return;
+    }
+    move_down(row, from, to, n);
 }
 
-// Whether the last two of the first s are neighbours of the spare row, the ones before i: then the rest of that row stands on them as it did.
-fn settled(work: &[u8], i: usize, s: usize) -> bool
-    requires { ⌜ (2 * i ≤ rowBytes) × (2 * s ≤ rowBytes) × (2 * rowBytes ≤ length (now work)) ⌝ }
-    ensures { λ r. ⌜ If r (Settled (spare (now (work .entry))) i (now (work .entry)) s) ⌝ }
+// Puts place p behind the first j, and the places from i up to k behind it.
+fn splice(row: &mut [u8], k: usize, j: usize, i: usize, p: usize) -> usize
+    requires { ⌜ (j ≤ i) × (i ≤ k) × Room k (now row) × (p < 65536) ⌝ }
+    ensures count { λ r. ⌜ r ≡ j + 1 + (k - i) ⌝ }
+    ensures spliced { λ _. ⌜ Spliced (now (row .entry)) k j i p (now (row .exit)) ⌝ }
 {
-    if i < 2 {
-        return false;
-    }
-    if s < 2 {
-        return false;
-    }
-    let last = words::word(work, row::ROW_BYTES + 2 * (i - 1));
-    if last != words::word(work, 2 * (s - 1)) {
-        return false;
-    }
-    let prior = words::word(work, row::ROW_BYTES + 2 * (i - 2));
-    if prior != words::word(work, 2 * (s - 2)) {
-        return false;
-    }
-    true
+    shift(row, k, j, i);
+    words::put_word(row, 2 * j, p as u16);
+    j + 1 + (k - i)
 }
 
-// Copies the rest of the spare row.
-fn finish(work: &mut [u8], k: usize, i: usize, s: usize) -> usize
-    requires { ⌜ (i ≤ k) × (k ≤ maxSites) × (2 * s + 2 * (k - i) ≤ rowBytes) × (2 * rowBytes ≤ length (now work)) ⌝ }
-    ensures copied { λ _. ⌜ Copied (spare (now (work .entry))) (2 * i) (now (work .entry)) (2 * s) (2 * (k - i)) (now (work .exit)) ⌝ }
-    ensures count { λ r. ⌜ r ≡ s + (k - i) ⌝ }
-{
-    let n = k - i;
-    copy_within(work, row::ROW_BYTES + 2 * i, 2 * s, 2 * n);
-    s + n
-}
-
-// Pushes the vertices of the spare row from n on, which are right of x, where x is inserted among the first n already.
-fn push_rest(t: &[u8], work: &mut [u8], leg: Leg, k: usize, n: usize, x: Vertex, r: usize) -> usize
-    requires { ⌜ Held leg (now t) (spare (now work)) k × LegOnGrid leg × Cut leg (now t) (spare (now work)) k (pointAt leg (now t) (x .place) .a) n ⌝ }
-    requires { ⌜ Room k (now work) × Inserted leg (now t) (spare (now work)) n (pointAt leg (now t) (x .place)) (now work) r ⌝ }
-    ensures inserted { λ s. ⌜ Inserted leg (now (t .entry)) (spare (now (work .entry))) k (pointAt leg (now (t .entry)) (x .place)) (now (work .exit)) s ⌝ }
-    ensures only { λ _. ⌜ Only 0 rowBytes (now (work .entry)) (now (work .exit)) ⌝ }
-{
-    let mut s = r;
-    let mut i = n;
-    while i < k {
-        if settled(work, i, s) {
-            return finish(work, k, i, s);
-        }
-        let u = vertex_in_spare(t, work, leg, k, i);
-        s = push(t, work, leg, s, u);
-        i += 1;
-    }
-    s
-}
-
-// Inserts x into the list in the first k of the row that begins the work buffer; n of them are not right of it. The spare row after it is room for work.
+// Inserts x into the list in the first k of the row that begins the work buffer; n of them are not right of it.
 pub fn insert(t: &[u8], work: &mut [u8], leg: Leg, k: usize, n: usize, x: Vertex) -> usize
     requires { ⌜ Held leg (now t) (now work) k × LegOnGrid leg × Room k (now work) × Cut leg (now t) (now work) k (x .a) n ⌝ }
     requires { ⌜ IsVertex leg (now t) (x .place) x × HasSite (now t) (x .place) ⌝ }
-    ensures inserted { λ r. ⌜ Inserted leg (now (t .entry)) (now (work .entry)) k (pointAt leg (now (t .entry)) (x .place)) (now (work .exit)) r ⌝ }
-    ensures only { λ _. ⌜ Only 0 (2 * rowBytes) (now (work .entry)) (now (work .exit)) ⌝ }
+    ensures { λ r. ⌜ Inserted leg (now (t .entry)) (now (work .entry)) k (pointAt leg (now (t .entry)) (x .place)) (now (work .exit)) r ⌝ }
 {
-    copy_within(work, 0, row::ROW_BYTES, 2 * k);
-    let r = push(t, work, leg, n, x);
-    push_rest(t, work, leg, k, n, x, r)
+    let spot = place(t, work, leg, n, x);
+    if !spot.add {
+        return k;
+    }
+    let j = spot.on;
+    let i = right_tangent(t, work, leg, k, n, x);
+    if !below_chord(t, work, leg, k, j, i, x) {
+        return k;
+    }
+    splice(work, k, j, i, x.place)
 }

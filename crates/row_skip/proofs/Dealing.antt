@@ -3,20 +3,18 @@
 use mathlib.Core.Path.{_≡_, sym, subst}
 use mathlib.Core.Bool.{Bool, true}
 use mathlib.Core.List.{List, [], _∷_, List·Memᴰ·head, List·Memᴰ·tail}
-use Prim.Native.Nat.{ℕ, _*_}
+use Prim.Native.Nat.{ℕ}
 use native.Mathlib.Omega.{arith}
 use Rattle.limits.specs.Limits.{maxSites}
-use Rattle.words.specs.Words.{Only}
-use Rattle.words.proofs.Frame.{only-refl}
+use Rattle.words.proofs.Frame.{only-refl, only-wider}
 use Rattle.grid.specs.declared.Leg.{Leg}
 use Rattle.grid.specs.Says.{If}
 use Rattle.split.specs.Hull.{Point, In, IsHull}
 use Rattle.split.specs.Skip.{Witness}
-use Rattle.split.proofs.HullLaws.{grow, covers-cons, self}
-use Rattle.split.proofs.Insertion.{insert-hull}
+use Rattle.split.proofs.HullLaws.{grow, covers-cons, self, members}
 use Rattle.split.proofs.Skipping.{skip-hull}
 use Rattle.row.specs.declared.Vertex.{Vertex}
-use Rattle.row.specs.Vertices.{pointAt, IsVertex, rowBytes, stack, Held}
+use Rattle.row.specs.Vertices.{pointAt, IsVertex, stack, Held}
 use Rattle.row.proofs.Reading.{a-of, c-of}
 use Rattle.row_insert.specs.Insertion.{Inserted}
 use Rattle.row_skip.specs.Skipping.{Space, Dealt}
@@ -44,12 +42,12 @@ module _ {l : Leg} {t r : List ℕ} {k p : ℕ} (hd : Held l t r k) where
           only = only-refl;
         }
 
-    pub deal-inserted : {r′ : List ℕ} {n : ℕ} → Inserted l t r k (pointAt l t (x .place)) r′ n × Only 0 (2 * rowBytes) r r′ → Dealt l t r k p r′ n
-    deal-inserted {r′} {n} (i, o) =
+    pub deal-inserted : {r′ : List ℕ} {n : ℕ} → Inserted l t r k (pointAt l t (x .place)) r′ n → Dealt l t r k p r′ n
+    deal-inserted {r′} {n} i =
         let i′ : Inserted l t r k (pointAt l t p) r′ n = subst (λ (q : ℕ). Inserted l t r k (pointAt l t q) r′ n) (hx .place-is) i in
         record {
           within = i .within;
           held = i .held;
-          lists = λ s d. rw (i′ .same) (insert-hull (pointAt l t p) d);
-          only = o;
+          lists = λ s d. members d (i′ .hull);
+          only = only-wider (omega arith) (omega arith) (i .only);
         }

@@ -1,52 +1,68 @@
+use Rattle.row_insert.proofs.Inserting.{insert-hidden, insert-between, insert-above, insert-listed}
+use Rattle.row.proofs.Stacks.{held-below}
+use borrow.Author.Tests.{not-true, not-false}
 use borrow.Author.Needs.{needs}
-use mathlib.Core.Logic.{inl}
-use native.Mathlib.Omega.{arith}
-use Rattle.row_insert.proofs.Inserting.{first-fit, rest-held, rest-cut, rest-room, rest-begun, all-inserted, all-only}
 use Rattle.row_insert.proofs.insert.Statement.{statement}
 use Rattle.row_insert.proofs.insert.Tie as tie
 
-mul-copy-within : tie.Need-mul-copy-within
-mul-copy-within c = search needs
-
-copy-within-requires : tie.Need-copy-within-requires
-copy-within-requires c κs = (omega arith, omega arith, inl (omega arith))
-
-push-requires : tie.Need-push-requires
-push-requires c κs = (search first-fit, search needs, search needs)
-
-push-rest-requires : tie.Need-push-rest-requires
-push-rest-requires c κs =
-    let s = c .before .before .before .before .before .before .before .before .before .before .before in
-    let m = c .before .before .before .before .before .before .before .copy-within .ensures in
-    let p = c .before .before .before .push .ensures in
-    let v = s .pre .1 .0 in
-    let h = s .pre .0 .0 in
-    let r = s .pre .0 .2 in
-    let n = s .pre .0 .3 in
-    ((rest-held v h r n m p, s .pre .0 .1, rest-cut v h r n m p), (rest-room v h r n m p, rest-begun v h r n m p))
+place-requires : tie.Need-place-requires
+place-requires c κs =
+    let s = c .before .before .before in
+    (held-below (s .args .leg) (s .args .t .now) (s .args .work .now) (s .args .k) (s .args .n) (s .pre .0 .3 .within) (s .pre .0 .0), search needs, search needs)
 
 same-length : tie.Need-same-length
 same-length c = search needs
 
 returns : tie.Need-returns
 returns c =
-    let s = c .before .before .before .before .before .before .before .before .before .before .before .before .before .before in
-    let m = c .before .before .before .before .before .before .before .before .before .before .copy-within .ensures in
-    let p = c .before .before .before .before .before .before .push .ensures in
-    let v = s .pre .1 .0 in
-    let h = s .pre .0 .0 in
-    let r = s .pre .0 .2 in
-    let n = s .pre .0 .3 in
-    let q = c .before .before .push-rest .ensures in
-    (all-inserted v h r n m p (q .0), all-only v h r n m p (q .1))
+    let s = c .before .before .before .before .before .before in
+    let p = c .before .before .place in
+    insert-hidden (s .pre .0 .0) (s .pre .0 .3) (s .pre .1 .0) (p .ensures .0) (p .result .add) (p .ensures .1) (not-true _ (c .if1 .taken))
+
+right-tangent-requires : tie.Need-right-tangent-requires
+right-tangent-requires c κs = search needs
+
+below-chord-requires : tie.Need-below-chord-requires
+below-chord-requires c κs =
+    let s = c .before .before .before .before .before .before .before .before .before in
+    let p = c .before .before .before .before .before .place in
+    let b = insert-between (s .pre .0 .0) (s .pre .0 .3) (s .pre .1 .0) (p .ensures .0) (p .result .add) (p .ensures .1) (not-false _ (c .before .before .before .if1 .left)) (c .before .right-tangent .ensures) in
+    ((s .pre .0 .0, s .pre .0 .1, b .0, b .1), (s .pre .1 .0, b .2))
+
+same-length-2 : tie.Need-same-length-2
+same-length-2 c = search needs
+
+returns-2 : tie.Need-returns-2
+returns-2 c =
+    let s = c .before .before .before .before .before .before .before .before .before .before .before in
+    let p = c .before .before .before .before .before .before .before .place in
+    insert-above (s .pre .0 .0) (s .pre .0 .3) (s .pre .1 .0) (p .ensures .0) (p .result .add) (p .ensures .1) (not-false _ (c .before .before .before .before .before .if1 .left)) (c .before .before .before .right-tangent .ensures) (c .before .below-chord .result) (not-true _ (c .if2 .taken)) (c .before .below-chord .ensures)
+
+splice-requires : tie.Need-splice-requires
+splice-requires c κs = search needs
+
+same-length-3 : tie.Need-same-length-3
+same-length-3 c = search needs
+
+returns-3 : tie.Need-returns-3
+returns-3 c =
+    let s = c .before .before .before .before .before .before .before .before .before .before .before .before .before .before .before in
+    let p = c .before .before .before .before .before .before .before .before .before .before .before .place in
+    let b = c .before .before .before .before .before .below-chord in
+    let q = c .before .before .splice .ensures in
+    insert-listed (s .pre .0 .0) (s .pre .0 .3) (s .pre .1 .0) (p .ensures .0) (p .result .add) (p .ensures .1) (not-false _ (c .before .before .before .before .before .before .before .before .before .if1 .left)) (c .before .before .before .before .before .before .before .right-tangent .ensures) (s .pre .1 .1) (s .pre .0 .2) (b .result) (not-false _ (c .before .before .before .before .if2 .left)) (b .ensures) (q .0) (q .1)
 
 pub insert-spec : {M : Type 1} → statement M
 insert-spec =
     tie.close
     (tie.spec
-    mul-copy-within
-    copy-within-requires
-    push-requires
-    push-rest-requires
+    place-requires
     same-length
-    returns)
+    returns
+    right-tangent-requires
+    below-chord-requires
+    same-length-2
+    returns-2
+    splice-requires
+    same-length-3
+    returns-3)

@@ -36,7 +36,7 @@ insert-requires : tie.Need-insert-requires
 insert-requires c κs =
     let s = c .before .before .before .before .before .before .before .before .before .before .before .before .before in
     let v = c .before .before .before .before .before .before .before .before .before .vertex-at .ensures in
-    ((s .pre .0 .0, s .pre .0 .1, record { few = omega arith; rows = s .pre .1 .1 }, search needs), (itself v, itself-has v (s .pre .0 .2)))
+    ((s .pre .0 .0, s .pre .0 .1, record { few = omega arith; row = omega arith }, search needs), (itself v, itself-has v (s .pre .0 .2)))
 
 same-length-3 : tie.Need-same-length-3
 same-length-3 c = search needs

@@ -1,10 +1,10 @@
-use Rattle.row_insert.proofs.copy_within.Statement.{statement}
-use borrow.Author.Needs.{needs}
-use native.Mathlib.Omega.{arith}
-use Prim.Native.Nat.{_-_}
+use Rattle.row_insert.proofs.Moving.{down-one}
 use Rattle.words.proofs.Copying.{Copying, copying-none, copying-all}
-use Rattle.row_insert.proofs.CopyingWithin.{within-one}
-use Rattle.row_insert.proofs.copy_within.Tie as tie
+use native.Mathlib.Omega.{arith}
+use borrow.Author.Needs.{needs}
+use Prim.Native.Nat.{_-_}
+use Rattle.row_insert.proofs.move_down.Statement.{statement}
+use Rattle.row_insert.proofs.move_down.Tie as tie
 
 abbrev Inv-loop : tie.InvT-loop
 Inv-loop b₀ from to n k₀ b k = Copying b₀ from b₀ to n b k
@@ -34,7 +34,7 @@ loop-less : tie.Need-loop-less Inv-loop μ-loop
 loop-less c = omega arith
 
 loop-again : tie.Need-loop-again Inv-loop μ-loop
-loop-again c = search (needs, within-one)
+loop-again c = search (needs, down-one)
 
 same-length : tie.Need-same-length Inv-loop μ-loop
 same-length c = omega arith
@@ -42,8 +42,8 @@ same-length c = omega arith
 returns : tie.Need-returns Inv-loop μ-loop
 returns c = search (needs, copying-all)
 
-pub copy-within-spec : {M : Type 1} → statement M
-copy-within-spec =
+pub move-down-spec : {M : Type 1} → statement M
+move-down-spec =
     tie.close
     (tie.spec
     Inv-loop
