@@ -1,27 +1,12 @@
-//! A sort and a convex hull in plain Rust: the lower left hull of the squared distances from S
-//! and from E.
+//! A sort and a convex hull in plain Rust, over the bytes that the proved call reads.
 
-use crate::shared::{Leg, Vertex, put_record, ready, turns, vertex};
+use crate::shared::{ready, vertex};
+use plain::vertex::{Leg, Vertex};
+use plain::{hull, record};
 
 /// Puts the listed vertices first, and returns how many they are.
 pub fn listed(table: &[u8], n: usize, leg: Leg, hull: &mut Vec<Vertex>) -> usize {
-    hull.clear();
-    hull.extend((0..n).map(|site| vertex(table, leg, site)));
-    hull.sort_unstable();
-    // The hull grows at the front of the sorted vertices.
-    let mut k = 0;
-    for i in 0..n {
-        let next = hull[i];
-        if k > 0 && next.c >= hull[k - 1].c {
-            continue;
-        }
-        while k >= 2 && !turns(hull[k - 2], hull[k - 1], next) {
-            k -= 1;
-        }
-        hull[k] = next;
-        k += 1;
-    }
-    k
+    hull::listed((0..n).map(|site| vertex(table, leg, site)), hull)
 }
 
 pub fn list(table: &[u8], n: usize, leg: Leg, hull: &mut Vec<Vertex>, report: &mut [u8]) -> usize {
@@ -29,5 +14,5 @@ pub fn list(table: &[u8], n: usize, leg: Leg, hull: &mut Vec<Vertex>, report: &m
         return 0;
     }
     let k = listed(table, n, leg, hull);
-    put_record(k, |i| hull[i], report)
+    record::put(k, |i| hull[i], report)
 }

@@ -1,6 +1,8 @@
 //! The proved algorithm in plain Rust: a row of places, each site skipped or inserted in turn.
 
-use crate::shared::{Leg, Vertex, put_record, ready, turns, vertex};
+use crate::shared::{ready, vertex};
+use plain::record;
+use plain::vertex::{Leg, Vertex, product, turns};
 
 /// A row of places.
 pub type Row = [u16; 512];
@@ -109,8 +111,8 @@ fn above(u: Vertex, v: Vertex, x: Vertex) -> bool {
     if v.a <= u.a || u.c <= v.c || x.a < u.a || x.c < v.c {
         return false;
     }
-    let (fall, rise) = (u64::from(u.c - v.c), u64::from(v.a - u.a));
-    let weigh = |p: Vertex| fall * u64::from(p.a) + rise * u64::from(p.c);
+    let (fall, rise) = (u.c - v.c, v.a - u.a);
+    let weigh = |p: Vertex| product(fall, p.a) + product(rise, p.c);
     weigh(v) < weigh(x)
 }
 
@@ -126,5 +128,5 @@ pub fn list(table: &[u8], n: usize, leg: Leg, row: &mut Row, report: &mut [u8]) 
             k = sites.insert(row, k, place, x);
         }
     }
-    put_record(k, |i| sites.vertex(row[i]), report)
+    record::put(k, |i| sites.vertex(row[i]), report)
 }

@@ -13,11 +13,12 @@ mod shared;
 
 use insertion::Row;
 use lists::{WORK_NEEDED, leg_words, probe_list, table};
+use plain::record;
+use plain::turns::take;
+use plain::vertex::Vertex;
 use reference::grid::{HALF_WIDTH, Leg, MOST_SITES, Position, Site};
 use reference::random::Random;
-use shared::Vertex;
 use std::hint::black_box;
-use std::time::Instant;
 
 /// Many, so that the processor does not learn the branches by heart.
 const TABLES: usize = 128;
@@ -31,6 +32,8 @@ const EMPTY_ROW: Row = [0; MOST_SITES];
 struct Task {
     table: Vec<u8>,
     leg: [u16; 4],
+    /// Its list.
+    listed: Vec<Vertex>,
 }
 
 /// The most that the proved code may take, as a ratio to the same algorithm and to the hull.
@@ -66,10 +69,11 @@ fn task(leg: Leg, positions: Vec<Position>, numbers: Vec<u16>) -> Task {
     let sites: Vec<Site> = sites
         .map(|(number, position)| Site { number, position })
         .collect();
-    Task {
-        table: table(&sites),
-        leg: leg_words(&leg),
-    }
+    let (table, leg) = (table(&sites), leg_words(&leg));
+    let mut listed = Vec::new();
+    let k = hull::listed(&table, MOST_SITES, leg, &mut listed);
+    listed.truncate(k);
+    Task { table, leg, listed }
 }
 
 /// Sites and leg anywhere on the grid.
@@ -82,21 +86,15 @@ fn anywhere(random: &mut Random) -> Task {
     task(Leg { s, e }, positions, numbers(random, Order::Random))
 }
 
-/// Sites along a leg across the grid, nearer to it than to each other; so all are listed.
+/// Sites along a leg, all of them listed.
 fn all_listed(random: &mut Random, order: Order) -> Task {
-    let north = random.between(-HALF_WIDTH, HALF_WIDTH - 40);
-    let leg = Leg::new((-HALF_WIDTH, north), (HALF_WIDTH, north));
-    let mut position = |k: i64| {
-        let east = 31 * k - 7_950 + random.between(-4, 4);
-        Position::new(east, north + random.between(0, 8))
-    };
-    let positions = (0..512).map(&mut position).collect();
+    let (leg, positions) = plain::legs::all_listed(random);
     task(leg, positions, numbers(random, order))
 }
 
 /// Fails if the three programs do not write the same record; its entries.
 fn entries(task: &Task) -> usize {
-    let Task { table, leg } = task;
+    let Task { table, leg, .. } = task;
     let mut reports = [0, 1, 2].map(|mark| vec![mark; LONGEST_RECORD]);
     let [proved, same, hull] = &mut reports;
     let n = table.len() / lists::SITE_LEN;
@@ -111,30 +109,13 @@ fn entries(task: &Task) -> usize {
     (lengths[0] - 3) / 10
 }
 
-fn listed(Task { table, leg }: &Task) -> Vec<Vertex> {
-    let mut vertices = Vec::new();
-    let k = hull::listed(table, MOST_SITES, *leg, &mut vertices);
-    vertices.truncate(k);
-    vertices
-}
-
-/// Microseconds for a list of these tasks.
-fn time(tasks: &[Task], mut list: impl FnMut(&Task, &mut [u8]) -> usize) -> f64 {
+/// Lists the tasks of a turn.
+fn each(tasks: &[Task], mut list: impl FnMut(&Task, &mut [u8]) -> usize) {
     let mut report = [0; LONGEST_RECORD];
-    let began = Instant::now();
     for task in tasks {
         black_box(list(black_box(task), black_box(&mut report)));
     }
-    began.elapsed().as_secs_f64() * 1e6 / tasks.len() as f64
 }
-
-fn median(mut times: Vec<f64>) -> f64 {
-    times.sort_by(f64::total_cmp);
-    times[times.len() / 2]
-}
-
-/// The times of each program at one turn, repeated.
-type Times = [Vec<f64>; 4];
 
 /// Microseconds for a list by the proved code, the same algorithm, and the sort and hull, and for
 /// the record alone.
@@ -142,32 +123,33 @@ fn measure(tasks: &[Task]) -> [f64; 4] {
     let mut work = vec![0; WORK_NEEDED];
     let mut row = EMPTY_ROW;
     let mut vertices: Vec<Vertex> = Vec::new();
-    let listed: Vec<Vec<Vertex>> = tasks.iter().map(listed).collect();
-    let mut turns: Vec<Times> = vec![Times::default(); tasks.len().div_ceil(TURN)];
-    for _ in 0..REPEATS {
-        let lists = tasks.chunks(TURN).zip(listed.chunks(TURN));
-        for (times, (tasks, listed)) in turns.iter_mut().zip(lists) {
-            times[0].push(time(tasks, |Task { table, leg }, report| {
-                probe_list(table, MOST_SITES, *leg, &mut work, report)
-            }));
-            times[1].push(time(tasks, |Task { table, leg }, report| {
-                insertion::list(table, MOST_SITES, *leg, &mut row, report)
-            }));
-            times[2].push(time(tasks, |Task { table, leg }, report| {
-                hull::list(table, MOST_SITES, *leg, &mut vertices, report)
-            }));
-            let mut next = listed.iter();
-            times[3].push(time(tasks, |_, report| {
-                let vertices = next.next().expect("one for each task");
-                shared::put_record(vertices.len(), |i| vertices[i], report)
-            }));
-        }
-    }
-    let medians: Vec<[f64; 4]> = turns.into_iter().map(|times| times.map(median)).collect();
-    std::array::from_fn(|program| {
-        let sum: f64 = medians.iter().map(|medians| medians[program]).sum();
-        sum / medians.len() as f64
-    })
+    let turns: Vec<&[Task]> = tasks.chunks(TURN).collect();
+    let mut proved = |tasks: &&[Task]| {
+        each(tasks, |Task { table, leg, .. }, report| {
+            probe_list(table, MOST_SITES, *leg, &mut work, report)
+        });
+    };
+    let mut same = |tasks: &&[Task]| {
+        each(tasks, |Task { table, leg, .. }, report| {
+            insertion::list(table, MOST_SITES, *leg, &mut row, report)
+        });
+    };
+    let mut hull = |tasks: &&[Task]| {
+        each(tasks, |Task { table, leg, .. }, report| {
+            hull::list(table, MOST_SITES, *leg, &mut vertices, report)
+        });
+    };
+    let mut record = |tasks: &&[Task]| {
+        each(tasks, |Task { listed, .. }, report| {
+            record::put(listed.len(), |i| listed[i], report)
+        });
+    };
+    let times = take(
+        REPEATS,
+        &turns,
+        [&mut proved, &mut same, &mut hull, &mut record],
+    );
+    times.map(|time| time / TURN as f64)
 }
 
 struct Scenario {

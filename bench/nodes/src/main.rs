@@ -8,29 +8,30 @@
 //! does not show the reading order: that search.rs reads as the crate tree_search does is seen
 //! only by comparing the two.
 
-mod legs;
 mod optimal;
 mod row;
 mod search;
-mod tables;
 
-use legs::Length;
+use plain::legs::Length;
+use plain::tables::{Kind, Lie, serve};
 use reference::command;
 use reference::grid::{Leg, MOST_SITES};
 use reference::random::Random;
 use reference::record::{ENTRY_LEN, Record};
 use reference::split::Entry;
 use search::{Nodes, Search};
+use service::Proved;
 use service::bytes::steps;
 use service::table::meaning;
 use std::collections::BTreeSet;
-use tables::{Lie, full_table, serve};
 
 /// Of each kind.
 const TABLES: usize = 32;
 /// On each table and of each length.
 const LEGS: usize = 400;
 const ROUNDS: usize = 8;
+/// Enough for 100,000 changes: a round of a full table has 512.
+const MANY_ROUNDS: usize = 196;
 const LONGEST_RECORD: usize = 3 + ENTRY_LEN * MOST_SITES;
 
 /// The most that may be read, as a ratio to the optimal number, by legs up to so many steps.
@@ -50,33 +51,27 @@ const LENGTHS: [Length; 6] = [
     Length::Any,
 ];
 
-struct Kind {
-    name: &'static str,
-    lie: Lie,
-    rounds: usize,
+const fn full(lie: Lie, rounds: usize) -> Kind {
+    Kind {
+        lie,
+        sites: MOST_SITES,
+        rounds,
+    }
 }
 
-const KINDS: [Kind; 4] = [
-    Kind {
-        name: "anywhere",
-        lie: Lie::Anywhere,
-        rounds: 0,
-    },
-    Kind {
-        name: "anywhere, long history",
-        lie: Lie::Anywhere,
-        rounds: ROUNDS,
-    },
-    Kind {
-        name: "clustered",
-        lie: Lie::Clustered,
-        rounds: 0,
-    },
-    Kind {
-        name: "clustered, long history",
-        lie: Lie::Clustered,
-        rounds: ROUNDS,
-    },
+const KINDS: [(&str, Kind); 6] = [
+    ("anywhere", full(Lie::Anywhere, 0)),
+    ("anywhere, long history", full(Lie::Anywhere, ROUNDS)),
+    (
+        "anywhere, 100,000 changes",
+        full(Lie::Anywhere, MANY_ROUNDS),
+    ),
+    ("clustered", full(Lie::Clustered, 0)),
+    ("clustered, long history", full(Lie::Clustered, ROUNDS)),
+    (
+        "clustered, 100,000 changes",
+        full(Lie::Clustered, MANY_ROUNDS),
+    ),
 ];
 
 /// Sums over legs.
@@ -140,11 +135,11 @@ impl Row {
         row
     }
 
-    fn print(&self, kind: &Kind, length: Length) {
+    fn print(&self, kind: &str, length: Length) {
         let Row {
             all, worst_table, ..
         } = self;
-        print!("{:24} {:>10} ", kind.name, length.name());
+        print!("{kind:26} {:>10} ", length.name());
         print!("{:>7.1} {:>6.2}", all.mean(all.entries), all.mean(all.read));
         for ((optimal, ratio), worst) in all.optimal.iter().zip(all.ratios()).zip(worst_table) {
             print!("  {:>7.2} {ratio:>6.3} {worst:>6.3}", all.mean(*optimal));
@@ -156,7 +151,12 @@ impl Row {
 /// Fails if the proved service lists something else for one of the legs.
 fn measure(table: &mut [u8], legs: &[Leg]) -> Vec<Sums> {
     let commands: Vec<_> = legs.iter().map(|leg| command::list(*leg)).collect();
-    let report = serve(table, &commands.concat(), LONGEST_RECORD * legs.len());
+    let report = serve(
+        &Proved,
+        table,
+        &commands.concat(),
+        LONGEST_RECORD * legs.len(),
+    );
     let records = Record::read_all(&report).expect("whole records");
     assert_eq!(records.len(), legs.len());
     let legs = legs.iter().zip(records);
@@ -235,7 +235,7 @@ fn print_head() {
     println!("  worst         the same on the table where it is largest");
     println!();
     print!(
-        "{:24} {:>10} {:>7} {:>6}",
+        "{:26} {:>10} {:>7} {:>6}",
         "sites", "legs", "entries", "read"
     );
     for test in TESTS {
@@ -248,12 +248,12 @@ fn main() {
     print_head();
     let mut random = Random::new(43);
     let mut largest = Largest::default();
-    for kind in &KINDS {
-        let tables = (0..TABLES).map(|_| full_table(&mut random, kind.lie, kind.rounds));
+    for (name, kind) in KINDS {
+        let tables = (0..TABLES).map(|_| kind.table(&Proved, &mut random));
         let mut tables: Vec<Vec<u8>> = tables.collect();
         for length in LENGTHS {
             let row = Row::measure(&mut random, &mut tables, length);
-            row.print(kind, length);
+            row.print(name, length);
             if length.within(BOUND_TO) {
                 largest.take(&row);
             }
@@ -261,7 +261,7 @@ fn main() {
         let nodes = |table: &Vec<u8>| meaning(table).expect("the table is sound").nodes;
         let nodes: usize = tables.iter().map(nodes).sum();
         println!(
-            "{:24} nodes in a tree: {:.1}",
+            "{:26} nodes in a tree: {:.1}",
             "",
             nodes as f64 / TABLES as f64
         );

@@ -56,7 +56,7 @@ fn leg_of(random: &mut Random, steps: i64) -> Leg {
     }
 }
 
-fn anywhere(random: &mut Random) -> Position {
+pub fn anywhere(random: &mut Random) -> Position {
     let corner = |by| Position::new(by, by);
     random.position(corner(-HALF_WIDTH), corner(HALF_WIDTH))
 }
@@ -73,4 +73,15 @@ fn direction(random: &mut Random) -> (f64, f64) {
             return (east as f64 / length, north as f64 / length);
         }
     }
+}
+
+/// A leg across the grid and sites along it, nearer to it than to each other; so all are listed.
+pub fn all_listed(random: &mut Random) -> (Leg, Vec<Position>) {
+    let north = random.between(-HALF_WIDTH, HALF_WIDTH - 40);
+    let leg = Leg::new((-HALF_WIDTH, north), (HALF_WIDTH, north));
+    let mut position = |k: i64| {
+        let east = 31 * k - 7_950 + random.between(-4, 4);
+        Position::new(east, north + random.between(0, 8))
+    };
+    (leg, (0..512).map(&mut position).collect())
 }

@@ -1,10 +1,10 @@
-//! Full tables, made by the proved batch call alone.
+//! Tables of a service, made by its batch call alone.
 
 use reference::command;
 use reference::grid::{HALF_WIDTH, MOST_SITES, Position, Site, TABLE_LEN, WORK_LEN};
 use reference::random::Random;
 use reference::record::ACCEPTED;
-use service::{Proved, Service};
+use service::Service;
 
 /// How the sites lie.
 #[derive(Clone, Copy)]
@@ -48,37 +48,62 @@ impl Ground {
     }
 }
 
-/// A table of 512 sites. In each round of its history a random half is removed, and as many are
-/// added elsewhere.
-pub fn full_table(random: &mut Random, lie: Lie, rounds: usize) -> Vec<u8> {
-    let mut table = vec![0; TABLE_LEN];
-    assert_eq!(Proved.lay_out(&mut table), 0);
-    let ground = Ground::new(random, lie);
-    let mut numbers: Vec<u16> = (1..).take(MOST_SITES).collect();
-    random.shuffle(&mut numbers);
-    change(&mut table, &ground.additions(random, &numbers));
-    for _ in 0..rounds {
-        random.shuffle(&mut numbers);
-        let half = &mut numbers[..MOST_SITES / 2];
-        let removals: Vec<_> = half.iter().map(|number| command::remove(*number)).collect();
-        change(&mut table, &removals.concat());
-        random.shuffle(half);
-        change(&mut table, &ground.additions(random, half));
+/// What a table has to be like.
+#[derive(Clone, Copy)]
+pub struct Kind {
+    pub lie: Lie,
+    pub sites: usize,
+    /// In each round of the table's history a random half of the sites is removed, and as many
+    /// are added elsewhere.
+    pub rounds: usize,
+}
+
+impl Kind {
+    /// Additions alone, anywhere.
+    pub const fn fresh(sites: usize) -> Self {
+        Kind {
+            lie: Lie::Anywhere,
+            sites,
+            rounds: 0,
+        }
     }
+
+    pub fn table(self, service: &impl Service, random: &mut Random) -> Vec<u8> {
+        let ground = Ground::new(random, self.lie);
+        let mut numbers: Vec<u16> = (1..).take(self.sites).collect();
+        random.shuffle(&mut numbers);
+        let mut table = filled(service, &ground.additions(random, &numbers));
+        for _ in 0..self.rounds {
+            random.shuffle(&mut numbers);
+            let half = &mut numbers[..self.sites / 2];
+            let removals: Vec<_> = half.iter().map(|number| command::remove(*number)).collect();
+            change(service, &mut table, &removals.concat());
+            random.shuffle(half);
+            change(service, &mut table, &ground.additions(random, half));
+        }
+        table
+    }
+}
+
+/// A table laid out and given these additions.
+pub fn filled(service: &impl Service, additions: &[u8]) -> Vec<u8> {
+    let mut table = vec![0; TABLE_LEN];
+    assert_eq!(service.lay_out(&mut table), 0);
+    change(service, &mut table, additions);
     table
 }
 
 /// Commands that are all accepted.
-fn change(table: &mut [u8], commands: &[u8]) {
-    let report = serve(table, commands, MOST_SITES);
+pub fn change(service: &impl Service, table: &mut [u8], commands: &[u8]) {
+    let report = serve(service, table, commands, MOST_SITES);
     assert!(report.iter().all(|byte| *byte == ACCEPTED));
 }
 
 /// One batch call that uses all commands; its report.
-pub fn serve(table: &mut [u8], commands: &[u8], room: usize) -> Vec<u8> {
+pub fn serve(service: &impl Service, table: &mut [u8], commands: &[u8], room: usize) -> Vec<u8> {
     let mut report = vec![0; room];
     let mut work = vec![0; WORK_LEN];
-    let (reason, used, written) = Proved.batch(table, &mut work, commands, &mut report);
+    let (reason, used, written) = service.batch(table, &mut work, commands, &mut report);
     assert_eq!((reason, used), (0, commands.len()));
     report.truncate(written);
     report

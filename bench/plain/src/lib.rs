@@ -1,0 +1,11 @@
+//! What the benchmarks share: split lists in plain Rust, random legs and tables, and the turns in
+//! which programs are timed.
+
+pub mod hull;
+pub mod legs;
+pub mod record;
+pub mod tables;
+pub mod turns;
+pub mod verdict;
+pub mod vertex;
+pub mod wrap;

@@ -1,0 +1,118 @@
+//! Lists of legs: the service with all legs in one call and with one leg a call, beside plain
+//! Rust.
+
+use crate::caller::{Calls, LONGEST_RECORD, Singly, Together};
+use crate::contenders::{Hull, Kept, Lister, Wrap};
+use crate::sites::{held, words};
+use crate::times::Times;
+use plain::legs::{Length, all_listed};
+use plain::tables::{Kind, filled};
+use plain::turns::{Program, take};
+use plain::vertex::{Leg, Site};
+use reference::command;
+use reference::grid::{self, MOST_SITES};
+use reference::random::Random;
+use reference::record::ENTRY_LEN;
+use service::Proved;
+use std::hint::black_box;
+
+/// A table, its sites as a plain array, and legs to be listed.
+pub struct Task {
+    calls: Calls,
+    sites: Vec<Site>,
+    legs: Vec<Leg>,
+}
+
+impl AsRef<Calls> for Task {
+    fn as_ref(&self) -> &Calls {
+        &self.calls
+    }
+}
+
+impl Task {
+    fn new(table: Vec<u8>, legs: Vec<grid::Leg>) -> Self {
+        let commands = legs.iter().copied().map(command::list).collect();
+        Task {
+            sites: held(&table),
+            calls: Calls::new(table, commands),
+            legs: legs.into_iter().map(words).collect(),
+        }
+    }
+
+    /// Sites anywhere, and random legs.
+    pub fn anywhere(random: &mut Random, sites: usize, length: Length, legs: usize) -> Self {
+        let table = Kind::fresh(sites).table(&Proved, random);
+        let legs = (0..legs).map(|_| length.leg(random)).collect();
+        Task::new(table, legs)
+    }
+
+    /// A leg whose list has 512 entries, so many times; the sites added in any order.
+    pub fn all_listed(random: &mut Random, legs: usize) -> Self {
+        let (leg, mut positions) = all_listed(random);
+        random.shuffle(&mut positions);
+        let mut numbers: Vec<u16> = (1..).take(MOST_SITES).collect();
+        random.shuffle(&mut numbers);
+        let sites = numbers.into_iter().zip(positions);
+        let additions = sites.map(|(number, position)| {
+            let site = grid::Site { number, position };
+            command::add(site)
+        });
+        let additions: Vec<_> = additions.collect();
+        Task::new(filled(&Proved, &additions.concat()), vec![leg; legs])
+    }
+}
+
+/// A program in plain Rust that writes records.
+struct Plain<L> {
+    lister: L,
+    report: Vec<u8>,
+}
+
+impl<L: Lister> Plain<L> {
+    fn new(lists: usize) -> Self {
+        Plain {
+            lister: L::default(),
+            report: vec![0; LONGEST_RECORD * lists],
+        }
+    }
+
+    /// The records of the task's legs, one behind the other.
+    fn records(&mut self, task: &Task) -> &[u8] {
+        let mut written = 0;
+        for leg in &task.legs {
+            let (sites, leg) = (black_box(&task.sites), black_box(*leg));
+            written += self.lister.list(sites, leg, &mut self.report[written..]);
+        }
+        black_box(&self.report[..written])
+    }
+}
+
+impl<L: Lister> Program<Task> for Plain<L> {
+    fn run(&mut self, task: &Task) {
+        self.records(task);
+    }
+}
+
+/// Microseconds for a leg, and the entries of a list. Fails if not all write the same records.
+pub fn measure(tasks: &[Task], repeats: usize) -> (Times, f64) {
+    let legs = tasks[0].legs.len();
+    let (mut together, mut singly) = (Together::new(legs), Singly::new());
+    let (mut wrap, mut kept) = (Plain::<Wrap>::new(legs), Plain::<Kept>::new(legs));
+    let mut hull = Plain::<Hull>::new(legs);
+    let mut written = 0;
+    for task in tasks {
+        let (_, report) = together.outcome(&task.calls);
+        assert!(report == wrap.records(task), "gift wrapping differs");
+        assert!(report == kept.records(task), "kept distances differ");
+        assert!(report == hull.records(task), "the hull differs");
+        written += report.len();
+    }
+    let listed = (tasks.len() * legs) as f64;
+    let entries = (written as f64 / listed - 3.0) / ENTRY_LEN as f64;
+    let times = take(
+        repeats,
+        tasks,
+        [&mut together, &mut singly, &mut wrap, &mut kept, &mut hull],
+    );
+    (Times::of(times.map(|time| time / legs as f64)), entries)
+}

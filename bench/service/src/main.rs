@@ -1,0 +1,155 @@
+//! How long the calls of the proved service take, against plain Rust.
+//!
+//! `make bench` runs it: `rt staticlib host` writes the proved service, then
+//! `cargo run --release --manifest-path bench/service/Cargo.toml`.
+//!
+//! The programs take turns at each table; a time is the mean over the tables of the medians over
+//! the repeats. Only the ratios say something: the times are the machine's.
+
+mod caller;
+mod changes;
+mod contenders;
+mod fixed;
+mod lists;
+mod machine;
+mod sites;
+mod targets;
+mod times;
+
+use changes::Change;
+use fixed::Fixed;
+use plain::legs::Length;
+use plain::verdict::Bound;
+use reference::grid::MOST_SITES;
+use reference::random::Random;
+use targets::Targets;
+use times::Times;
+
+/// Many, so that the processor does not learn the branches by heart.
+const TABLES: usize = 16;
+const REPEATS: usize = 11;
+const LEGS: usize = 200;
+/// Legs of 512 entries.
+const WORST_LEGS: usize = 10;
+const CHANGES: usize = 100;
+/// Up to here a leg is short.
+const SHORT: i64 = 2_000;
+
+const LENGTHS: [Length; 6] = [
+    Length::Of(100),
+    Length::Of(500),
+    Length::Of(SHORT),
+    Length::UpTo(SHORT),
+    Length::Of(8_000),
+    Length::Of(16_000),
+];
+
+fn print_head() {
+    println!("Machine: {}.", machine::name());
+    println!("Microseconds. Means over {TABLES} tables of medians of {REPEATS} repeats; the");
+    println!("programs take turns. Sites and legs anywhere on the grid, lengths in steps.");
+    println!("  a call  the proved service, so many legs or changes in one call");
+    println!("  wrap    gift wrapping by scan in plain Rust, each scan over the sites");
+    println!("  kept    the same, the distances computed once a leg and kept");
+    println!("  hull    a scan, a sort and a hull in plain Rust");
+    println!("Then how many times faster the service is: many a call, and one a call.");
+}
+
+/// What the targets of a leg are: against wrapping and against the hull.
+fn leg_target(sites: usize, length: Length) -> Option<(f64, f64)> {
+    match (sites, length) {
+        (64, Length::UpTo(SHORT)) => Some((1.0, 3.0)),
+        (MOST_SITES, Length::UpTo(SHORT)) => Some((3.0, 10.0)),
+        (MOST_SITES, Length::Of(8_000)) => Some((3.0, 2.0)),
+        (MOST_SITES, Length::Of(16_000)) => Some((2.5, 0.8)),
+        _ => None,
+    }
+}
+
+/// Prints the rows of legs; the times of a short one at 512 sites.
+fn legs(random: &mut Random, targets: &mut Targets) -> Times {
+    let mut short = None;
+    println!();
+    Times::print_head("a leg, its record written", LEGS);
+    for sites in [64, MOST_SITES] {
+        for length in LENGTHS {
+            let task = |_| lists::Task::anywhere(random, sites, length, LEGS);
+            let tasks: Vec<_> = (0..TABLES).map(task).collect();
+            let (times, entries) = lists::measure(&tasks, REPEATS);
+            let name = length.name();
+            times.print(&format!("{sites} sites, {name} ({entries:.1} entries)"));
+            if let Some((wrap, hull)) = leg_target(sites, length) {
+                targets.faster(&format!("{sites} sites, a leg {name}"), &times, wrap, hull);
+            }
+            if let Length::UpTo(SHORT) = length {
+                short = Some(times);
+            }
+        }
+    }
+    short.expect("a row of short legs")
+}
+
+fn standing(leg: Option<Length>) -> String {
+    let name = |leg: Length| format!("leg {}", leg.name());
+    leg.map_or("no leg".to_string(), name)
+}
+
+fn worst(random: &mut Random, targets: &mut Targets) {
+    println!();
+    Times::print_head("the worst list", WORST_LEGS);
+    let task = |_| lists::Task::all_listed(random, WORST_LEGS);
+    let tasks: Vec<_> = (0..TABLES).map(task).collect();
+    let (times, entries) = lists::measure(&tasks, REPEATS);
+    let what = format!("{MOST_SITES} sites, a list of {entries} entries");
+    times.print(&what);
+    targets.faster_than_wrapping(&what, &times, 8.0);
+    targets.within(&what, &times, 6.0);
+}
+
+fn changes(random: &mut Random, targets: &mut Targets) {
+    println!();
+    Times::print_head("a change, no record of the list", CHANGES);
+    for kind in [Change::Add, Change::Remove, Change::Move] {
+        for leg in [None, Some(Length::Of(SHORT))] {
+            let task = |_| changes::Task::new(random, kind, leg, CHANGES);
+            let tasks: Vec<_> = (0..TABLES).map(task).collect();
+            let times = changes::measure(&tasks, REPEATS);
+            let what = format!("{}, {}", kind.name(), standing(leg));
+            times.print(&what);
+            if leg.is_some() {
+                targets.faster(&format!("512 sites, {what}"), &times, 8.0, 25.0);
+            }
+        }
+    }
+}
+
+fn fixed(random: &mut Random, targets: &mut Targets, short: &Times) {
+    println!();
+    println!("{:36} {:>10}", "a call without commands", "time");
+    for sites in [0, 64, MOST_SITES] {
+        for leg in [None, Some(Length::Of(SHORT))] {
+            let time = Fixed { sites, leg }.measure(random, TABLES, REPEATS);
+            let what = format!("{sites} sites, {}", standing(leg));
+            println!("{what:36} {time:>10.2}");
+            if sites == MOST_SITES {
+                let what = format!("{what}, a call, in legs");
+                let most = Bound::AtMost(1.2);
+                targets.hold(&what, "of the service", time / short.together, most);
+                targets.hold(&what, "of scan, sort and hull", time / short.hull, most);
+            }
+        }
+    }
+}
+
+fn main() {
+    print_head();
+    let mut random = Random::new(47);
+    let mut targets = Targets::default();
+    let short = legs(&mut random, &mut targets);
+    worst(&mut random, &mut targets);
+    changes(&mut random, &mut targets);
+    fixed(&mut random, &mut targets, &short);
+    println!();
+    println!("Targets, many a call; a leg in which a call is counted is one up to {SHORT} steps.");
+    targets.print();
+}

@@ -1,0 +1,63 @@
+//! The ratios that are held to a bound.
+
+use crate::times::Times;
+use plain::verdict::Bound;
+
+struct Target {
+    what: String,
+    against: &'static str,
+    ratio: f64,
+    bound: Bound,
+}
+
+#[derive(Default)]
+pub struct Targets(Vec<Target>);
+
+const WRAP: &str = "gift wrapping by scan";
+const KEPT: &str = "the same, distances kept";
+const HULL: &str = "scan, sort and hull";
+
+impl Targets {
+    pub fn hold(&mut self, what: &str, against: &'static str, ratio: f64, bound: Bound) {
+        let what = what.to_string();
+        self.0.push(Target {
+            what,
+            against,
+            ratio,
+            bound,
+        });
+    }
+
+    /// How many times faster than wrapping the service, many a call, has to be.
+    pub fn faster_than_wrapping(&mut self, what: &str, times: &Times, least: f64) {
+        let than = |time: f64| time / times.together;
+        self.hold(what, WRAP, than(times.wrap), Bound::AtLeast(least));
+        self.hold(what, KEPT, than(times.kept), Bound::AtLeast(least));
+    }
+
+    /// How many times faster than wrapping and than the hull.
+    pub fn faster(&mut self, what: &str, times: &Times, wrap: f64, hull: f64) {
+        self.faster_than_wrapping(what, times, wrap);
+        let ratio = times.hull / times.together;
+        self.hold(what, HULL, ratio, Bound::AtLeast(hull));
+    }
+
+    /// How many times the hull's time it may take.
+    pub fn within(&mut self, what: &str, times: &Times, most: f64) {
+        let ratio = times.together / times.hull;
+        self.hold(
+            what,
+            "times scan, sort and hull",
+            ratio,
+            Bound::AtMost(most),
+        );
+    }
+
+    pub fn print(&self) {
+        for target in &self.0 {
+            let verdict = target.bound.verdict(target.ratio);
+            print!("{:40} {:26} ", target.what, target.against);
+            println!("{:>6.2}  {verdict}", target.ratio);
+        }
+    }
+}
