@@ -7,7 +7,7 @@ use crate::bytes::empty_table;
 use crate::table::{Meaning, meaning};
 use crate::{Answer, Service};
 use reference::book::{ALL_USED, Book, Reply, WRONG_LENGTH};
-use reference::command::{LIST, PRINT};
+use reference::command::{Command, LIST, PRINT};
 use reference::grid::{MOST_SITES, TABLE_LEN, WORK_LEN};
 use reference::record::{ENTRY_LEN, Record};
 use std::collections::BTreeMap;
@@ -27,6 +27,12 @@ pub struct Desk<'s, S> {
 pub struct Tally {
     pub calls: usize,
     pub by_reason: BTreeMap<u8, usize>,
+    /// Commands that got a record, by their first byte.
+    pub by_command: BTreeMap<u8, usize>,
+    pub bytes_used: usize,
+    pub bytes_written: usize,
+    /// Tables whose rules were all tested.
+    pub checked: usize,
     pub accepted: usize,
     pub lists: usize,
     pub longest_list: usize,
@@ -77,7 +83,7 @@ impl<'s, S: Service> Desk<'s, S> {
         );
         lent.assert_after(&answer, &expected.report);
         let accepted_before = self.tally.accepted;
-        self.tally.count(&expected);
+        self.tally.count(commands, &expected);
         if self.tally.accepted == accepted_before {
             assert!(self.table == before, "the table is left by {commands:02X?}");
         } else {
@@ -112,6 +118,7 @@ impl<'s, S: Service> Desk<'s, S> {
                     ..
                 } = meaning;
                 assert!(book == self.book, "the table holds {book:?}");
+                self.tally.checked += 1;
                 self.tally.most_levels = self.tally.most_levels.max(levels);
                 self.tally.most_nodes = self.tally.most_nodes.max(nodes);
             }
@@ -120,9 +127,16 @@ impl<'s, S: Service> Desk<'s, S> {
 }
 
 impl Tally {
-    fn count(&mut self, reply: &Reply) {
+    fn count(&mut self, commands: &[u8], reply: &Reply) {
         self.calls += 1;
         *self.by_reason.entry(reply.reason).or_default() += 1;
+        self.bytes_used += reply.used;
+        self.bytes_written += reply.written;
+        let mut used = &commands[..reply.used];
+        while let Ok((_, length)) = Command::read(used) {
+            *self.by_command.entry(used[0]).or_default() += 1;
+            used = &used[length..];
+        }
         for record in Record::read_all(&reply.report).expect("whole records") {
             match record {
                 Record::Accepted => self.accepted += 1,
@@ -137,9 +151,11 @@ impl Tally {
 
     pub fn add(&mut self, other: &Tally) {
         self.calls += other.calls;
-        for (reason, times) in &other.by_reason {
-            *self.by_reason.entry(*reason).or_default() += times;
-        }
+        add_each(&mut self.by_reason, &other.by_reason);
+        add_each(&mut self.by_command, &other.by_command);
+        self.bytes_used += other.bytes_used;
+        self.bytes_written += other.bytes_written;
+        self.checked += other.checked;
         self.accepted += other.accepted;
         self.lists += other.lists;
         self.longest_list = self.longest_list.max(other.longest_list);
@@ -148,6 +164,12 @@ impl Tally {
         }
         self.most_levels = self.most_levels.max(other.most_levels);
         self.most_nodes = self.most_nodes.max(other.most_nodes);
+    }
+}
+
+fn add_each(sums: &mut BTreeMap<u8, usize>, more: &BTreeMap<u8, usize>) {
+    for (key, times) in more {
+        *sums.entry(*key).or_default() += times;
     }
 }
 

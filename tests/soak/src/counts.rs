@@ -1,0 +1,71 @@
+//! What came up in years without a difference.
+
+use reference::command::{ADD, LIST, MOVE, PRINT, REMOVE, STAND};
+use service::desk::Tally;
+use std::fmt::{Display, Formatter, Result};
+
+#[derive(Clone, Debug, Default)]
+pub struct Counts {
+    pub years: usize,
+    pub tally: Tally,
+    /// Lists compared with those of fresh tables.
+    pub fresh_lists: usize,
+    /// Tables with a flipped bit, and those among them in which a rule was broken.
+    pub damaged: usize,
+    pub broken: usize,
+}
+
+impl Counts {
+    pub fn add(&mut self, other: &Counts) {
+        self.years += other.years;
+        self.tally.add(&other.tally);
+        self.fresh_lists += other.fresh_lists;
+        self.damaged += other.damaged;
+        self.broken += other.broken;
+    }
+}
+
+const KINDS: [(u8, &str); 6] = [
+    (ADD, "add"),
+    (REMOVE, "remove"),
+    (MOVE, "move"),
+    (LIST, "list"),
+    (STAND, "stand"),
+    (PRINT, "print"),
+];
+
+impl Display for Counts {
+    fn fmt(&self, f: &mut Formatter) -> Result {
+        let tally = &self.tally;
+        writeln!(f, "years          {}", self.years)?;
+        writeln!(f, "calls          {}", tally.calls)?;
+        write!(f, "  by reason   ")?;
+        for (reason, times) in &tally.by_reason {
+            write!(f, " {reason}: {times}")?;
+        }
+        write!(f, "\ncommands      ")?;
+        for (mark, name) in KINDS {
+            let times = tally.by_command.get(&mark).unwrap_or(&0);
+            write!(f, " {name}: {times}")?;
+        }
+        write!(f, "\n  refused     ")?;
+        for (number, times) in tally.by_refusal.iter().enumerate().skip(1) {
+            write!(f, " {number}: {times}")?;
+        }
+        writeln!(f, "\n  accepted     {}", tally.accepted)?;
+        let longest = tally.longest_list;
+        writeln!(
+            f,
+            "lists compared {}, the longest of {longest}",
+            tally.lists
+        )?;
+        writeln!(f, "  with fresh   {}", self.fresh_lists)?;
+        let (used, written) = (tally.bytes_used, tally.bytes_written);
+        writeln!(f, "bytes          {used} used, {written} written")?;
+        let (levels, nodes) = (tally.most_levels, tally.most_nodes);
+        write!(f, "tables checked {}", tally.checked)?;
+        writeln!(f, ", up to {levels} levels and {nodes} nodes")?;
+        let (damaged, broken) = (self.damaged, self.broken);
+        write!(f, "damaged tables {damaged}, of which {broken} broken")
+    }
+}

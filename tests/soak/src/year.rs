@@ -1,0 +1,109 @@
+//! One year: a table of any size and shape, and calls of every kind on each of its days.
+
+use crate::counts::Counts;
+use reference::book::Book;
+use reference::command::stand;
+use reference::grid::MOST_SITES;
+use reference::random::Random;
+use service::Service;
+use service::damage::{flipped, offer, regions};
+use service::desk::Desk;
+use service::draw::{Pool, broken_off};
+use service::history::{Run, call, compare_with_fresh};
+use service::shape::{self, Dealing};
+
+const DAYS: usize = 365;
+const MOST_COMMANDS_A_CALL: usize = 20;
+/// After so many days come fresh tables and damaged ones.
+const QUARTER: usize = 91;
+const DAMAGED_A_QUARTER: usize = 10;
+
+pub struct Year {
+    random: Random,
+    pub day: usize,
+    pub commands: Vec<u8>,
+}
+
+impl Year {
+    pub fn new(seed: u64) -> Self {
+        Year {
+            random: Random::new(seed),
+            day: 0,
+            commands: Vec::new(),
+        }
+    }
+
+    /// Panics at the first difference.
+    pub fn run<S: Service>(&mut self, service: &S) -> Counts {
+        let pool = self.pool();
+        let desk = self.desk(service, &pool);
+        let mut run = Run { desk, pool };
+        let mut counts = Counts {
+            years: 1,
+            ..Counts::default()
+        };
+        for day in 1..=DAYS {
+            self.day = day;
+            self.call(&mut run);
+            if day % QUARTER == 0 {
+                counts.fresh_lists += compare_with_fresh(&mut self.random, &mut run);
+                for _ in 0..DAMAGED_A_QUARTER {
+                    counts.damaged += 1;
+                    counts.broken += usize::from(self.damage(&run));
+                }
+            }
+        }
+        counts.tally = run.desk.tally;
+        counts
+    }
+
+    fn pool(&mut self) -> Pool {
+        let random = &mut self.random;
+        let numbers = match random.between(1, 4) {
+            1 => 1 + random.index(12),
+            2 => 13 + random.index(60),
+            3 => 73 + random.index(MOST_SITES - 73),
+            // More than a table holds.
+            _ => MOST_SITES + 1 + random.index(MOST_SITES),
+        };
+        Pool::new(random, numbers)
+    }
+
+    /// Laid out and empty, or as full as can be with a tree of any legal shape.
+    fn desk<'s, S: Service>(&mut self, service: &'s S, pool: &Pool) -> Desk<'s, S> {
+        let random = &mut self.random;
+        if random.once_in(3) {
+            return Desk::lay_out(service);
+        }
+        let mut book = Book::new();
+        book.records(&pool.additions(random));
+        if random.once_in(2) {
+            book.records(&[stand(pool.leg(random))]);
+        }
+        let dealing = &mut match random.once_in(4) {
+            true => Dealing::Tallest,
+            false => Dealing::Any(random),
+        };
+        Desk::take_up(service, shape::table(&book, dealing))
+    }
+
+    fn call<S: Service>(&mut self, run: &mut Run<S>) {
+        let count = self.random.index(MOST_COMMANDS_A_CALL + 1);
+        let commands = run.pool.commands(&mut self.random, count);
+        self.commands = broken_off(&mut self.random, commands);
+        call(&mut self.random, &mut run.desk, &self.commands);
+    }
+
+    /// Offers the table with one bit flipped where a rule speaks; whether one was broken.
+    fn damage<S: Service>(&mut self, run: &Run<S>) -> bool {
+        let random = &mut self.random;
+        let table = &run.desk.table;
+        let regions = regions(table);
+        let filled: Vec<_> = regions.iter().filter(|r| !r.bytes.is_empty()).collect();
+        let bytes = &random.pick(&filled).bytes;
+        let at = bytes.start + random.index(bytes.len());
+        let damaged = flipped(table, at, random.index(8));
+        self.commands = run.pool.commands(random, 3).concat();
+        !offer(run.desk.service(), &damaged, &self.commands).is_empty()
+    }
+}
