@@ -1,7 +1,9 @@
 # make test: proves every crate and runs all tests. make text: builds stops-text, the service in words.
 # make demo: the batch program on document 01's example, in bytes and in words. make bench: ratios to plain Rust.
-.PHONY: test text demo bench
+# make soak MINUTES=n: random years of changes against the second program; SEED=s begins with that year.
+.PHONY: test text demo bench soak
 
+MINUTES ?= 10
 STOPS_TEXT = text/target/release/stops-text
 EXAMPLE = crates/stops/stdin
 ANSWERS = target/demo.answers
@@ -28,5 +30,10 @@ demo: text
 bench:
 	rt staticlib list_probe
 	rt staticlib host
+	cargo run --offline --release --manifest-path bench/service/Cargo.toml
 	cargo run --offline --release --manifest-path bench/lists/Cargo.toml
 	cargo run --offline --release --manifest-path bench/nodes/Cargo.toml
+
+soak:
+	rt staticlib host
+	cargo run --offline --release --manifest-path tests/Cargo.toml -p soak --features proved -- $(MINUTES) $(SEED)

@@ -1,6 +1,7 @@
 //! What the benchmarks share: split lists in plain Rust, random legs and tables, and the turns in
 //! which programs are timed.
 
+mod clock;
 pub mod hull;
 pub mod legs;
 pub mod record;

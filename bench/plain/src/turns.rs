@@ -1,6 +1,6 @@
 //! Programs are timed in turns, so that what else the machine does falls on all alike.
 
-use std::time::Instant;
+use crate::clock;
 
 /// Something to be timed on a task.
 pub trait Program<T> {
@@ -23,9 +23,9 @@ pub fn median(mut times: Vec<f64>) -> f64 {
 
 fn time<T>(program: &mut dyn Program<T>, task: &T) -> f64 {
     program.prepare(task);
-    let began = Instant::now();
+    let began = clock::now();
     program.run(task);
-    began.elapsed().as_secs_f64() * 1e6
+    (clock::now() - began).as_secs_f64() * 1e6
 }
 
 /// Microseconds of each program for a task: means over the tasks of medians over the repeats.

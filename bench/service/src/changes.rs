@@ -33,26 +33,18 @@ impl Change {
         }
     }
 
-    /// Changes of different sites, of which numbers 1 to `held` are held.
-    fn commands(self, random: &mut Random, held: usize, count: usize) -> Vec<Command> {
-        let first = match self {
-            Change::Add => held + 1,
-            Change::Remove | Change::Move => 1,
-        };
-        let last = first - 1 + held.max(count);
-        let number = |number: usize| u16::try_from(number).expect("few numbers");
-        let mut numbers: Vec<u16> = (first..=last).map(number).collect();
-        random.shuffle(&mut numbers);
-        let site = |number, random: &mut Random| grid::Site {
+    /// Changes of the sites with these numbers.
+    fn commands(self, random: &mut Random, numbers: &[u16]) -> Vec<Command> {
+        let mut site = |number| grid::Site {
             number,
             position: anywhere(random),
         };
-        let command = |number| match self {
-            Change::Add => Command::Add(site(number, random)),
-            Change::Remove => Command::Remove(number),
-            Change::Move => Command::Move(site(number, random)),
+        let command = |number: &u16| match self {
+            Change::Add => Command::Add(site(*number)),
+            Change::Remove => Command::Remove(*number),
+            Change::Move => Command::Move(site(*number)),
         };
-        numbers.into_iter().take(count).map(command).collect()
+        numbers.iter().map(command).collect()
     }
 }
 
@@ -73,29 +65,36 @@ impl AsRef<Calls> for Task {
 impl Task {
     /// So many changes at 512 sites; additions end there, and removals begin there.
     pub fn new(random: &mut Random, kind: Change, leg: Option<Length>, count: usize) -> Self {
-        let sites = match kind {
-            Change::Add => MOST_SITES - count,
-            Change::Remove | Change::Move => MOST_SITES,
-        };
-        let mut table = Kind::fresh(sites).table(&Proved, random);
+        let mut table = Kind::fresh(MOST_SITES).table(&Proved, random);
+        let mut numbers: Vec<u16> = (1..).take(MOST_SITES).collect();
+        random.shuffle(&mut numbers);
+        numbers.truncate(count);
+        if let Change::Add = kind {
+            let removals = Change::Remove.commands(random, &numbers);
+            change(&Proved, &mut table, &bytes(&removals).concat());
+        }
         let leg = leg.map(|length| length.leg(random));
         if let Some(leg) = leg {
             change(&Proved, &mut table, &command::stand(leg));
         }
-        let changes = kind.commands(random, sites, count);
-        let bytes = |change: &Command| match *change {
-            Command::Add(site) => command::add(site),
-            Command::Move(site) => command::move_site(site),
-            Command::Remove(number) => command::remove(number),
-            _ => unreachable!("a change of sites"),
-        };
+        let changes = kind.commands(random, &numbers);
         Task {
             sites: held(&table),
-            calls: Calls::new(table, changes.iter().map(bytes).collect()),
+            calls: Calls::new(table, bytes(&changes)),
             leg: leg.map(words),
             changes,
         }
     }
+}
+
+fn bytes(changes: &[Command]) -> Vec<Vec<u8>> {
+    let bytes = |change: &Command| match *change {
+        Command::Add(site) => command::add(site),
+        Command::Move(site) => command::move_site(site),
+        Command::Remove(number) => command::remove(number),
+        _ => unreachable!("a change of sites"),
+    };
+    changes.iter().map(bytes).collect()
 }
 
 /// A sorted array, and what lists its standing leg.

@@ -30,7 +30,7 @@ impl AsRef<Calls> for Task {
 }
 
 impl Task {
-    fn new(table: Vec<u8>, legs: Vec<grid::Leg>) -> Self {
+    pub fn new(table: Vec<u8>, legs: Vec<grid::Leg>) -> Self {
         let commands = legs.iter().copied().map(command::list).collect();
         Task {
             sites: held(&table),
@@ -63,13 +63,13 @@ impl Task {
 }
 
 /// A program in plain Rust that writes records.
-struct Plain<L> {
+pub struct Plain<L> {
     lister: L,
     report: Vec<u8>,
 }
 
 impl<L: Lister> Plain<L> {
-    fn new(lists: usize) -> Self {
+    pub fn new(lists: usize) -> Self {
         Plain {
             lister: L::default(),
             report: vec![0; LONGEST_RECORD * lists],

@@ -46,7 +46,9 @@ const LENGTHS: [Length; 6] = [
 
 fn print_head() {
     println!("Machine: {}.", machine::name());
-    println!("Microseconds. Means over {TABLES} tables of medians of {REPEATS} repeats; the");
+    println!(
+        "Microseconds of processor time. Means over {TABLES} tables of medians of {REPEATS} repeats; the"
+    );
     println!("programs take turns. Sites and legs anywhere on the grid, lengths in steps.");
     println!("  a call  the proved service, so many legs or changes in one call");
     println!("  wrap    gift wrapping by scan in plain Rust, each scan over the sites");
@@ -66,9 +68,7 @@ fn leg_target(sites: usize, length: Length) -> Option<(f64, f64)> {
     }
 }
 
-/// Prints the rows of legs; the times of a short one at 512 sites.
-fn legs(random: &mut Random, targets: &mut Targets) -> Times {
-    let mut short = None;
+fn legs(random: &mut Random, targets: &mut Targets) {
     println!();
     Times::print_head("a leg, its record written", LEGS);
     for sites in [64, MOST_SITES] {
@@ -81,12 +81,8 @@ fn legs(random: &mut Random, targets: &mut Targets) -> Times {
             if let Some((wrap, hull)) = leg_target(sites, length) {
                 targets.faster(&format!("{sites} sites, a leg {name}"), &times, wrap, hull);
             }
-            if let Length::UpTo(SHORT) = length {
-                short = Some(times);
-            }
         }
     }
-    short.expect("a row of short legs")
 }
 
 fn standing(leg: Option<Length>) -> String {
@@ -123,19 +119,34 @@ fn changes(random: &mut Random, targets: &mut Targets) {
     }
 }
 
-fn fixed(random: &mut Random, targets: &mut Targets, short: &Times) {
+fn fixed(random: &mut Random, targets: &mut Targets) {
     println!();
-    println!("{:36} {:>10}", "a call without commands", "time");
+    print!("{:36} {:>10}", "a call without commands", "call");
+    println!(" {:>8} {:>8}", "leg", "by hull");
     for sites in [0, 64, MOST_SITES] {
         for leg in [None, Some(Length::Of(SHORT))] {
-            let time = Fixed { sites, leg }.measure(random, TABLES, REPEATS);
+            let fixed = Fixed {
+                sites,
+                standing: leg,
+                legs: Length::UpTo(SHORT),
+            };
+            let times = fixed.measure(random, TABLES, REPEATS);
             let what = format!("{sites} sites, {}", standing(leg));
-            println!("{what:36} {time:>10.2}");
+            print!("{what:36} {:>10.2}", times.call);
+            match sites {
+                // Without a site a leg is refused.
+                0 => println!(" {:>8} {:>8}", "-", "-"),
+                _ => println!(" {:>8.2} {:>8.2}", times.leg, times.hull),
+            }
             if sites == MOST_SITES {
-                let what = format!("{what}, a call, in legs");
-                let most = Bound::AtMost(1.2);
-                targets.hold(&what, "of the service", time / short.together, most);
-                targets.hold(&what, "of scan, sort and hull", time / short.hull, most);
+                let (what, most) = (format!("{what}, a call, in legs"), Bound::AtMost(1.2));
+                targets.hold(&what, "by the service", times.call / times.leg, most);
+                targets.hold(
+                    &what,
+                    "by scan, sort and hull",
+                    times.call / times.hull,
+                    most,
+                );
             }
         }
     }
@@ -145,10 +156,10 @@ fn main() {
     print_head();
     let mut random = Random::new(47);
     let mut targets = Targets::default();
-    let short = legs(&mut random, &mut targets);
+    legs(&mut random, &mut targets);
     worst(&mut random, &mut targets);
     changes(&mut random, &mut targets);
-    fixed(&mut random, &mut targets, &short);
+    fixed(&mut random, &mut targets);
     println!();
     println!("Targets, many a call; a leg in which a call is counted is one up to {SHORT} steps.");
     targets.print();

@@ -11,6 +11,7 @@ pub mod model;
 pub mod proved;
 pub mod shape;
 pub mod table;
+pub mod wrong;
 
 pub use model::Model;
 #[cfg(feature = "proved")]

@@ -10,27 +10,8 @@ use service::damage::{assert_wrong_length_first, flipped, offer, regions};
 use service::history::{Size, compare_with_fresh, run};
 use service::shape::{self, Dealing};
 use service::table::meaning;
-use service::{Answer, BROKEN_TABLE, Model, Service};
-
-type Batch = fn(&mut [u8], &mut [u8], &[u8], &mut [u8]) -> Answer;
-
-struct Wrong(Batch);
-
-impl Service for Wrong {
-    fn lay_out(&self, table: &mut [u8]) -> u32 {
-        Model.lay_out(table)
-    }
-
-    fn batch(
-        &self,
-        table: &mut [u8],
-        work: &mut [u8],
-        commands: &[u8],
-        report: &mut [u8],
-    ) -> Answer {
-        (self.0)(table, work, commands, report)
-    }
-}
+use service::wrong::Wrong;
+use service::{BROKEN_TABLE, Model, Service};
 
 /// A little of what the other tests do.
 fn trial(service: &impl Service) {
