@@ -140,7 +140,7 @@ fn fixed(random: &mut Random, targets: &mut Targets) {
             }
             if sites == MOST_SITES {
                 let (what, most) = (format!("{what}, a call, in legs"), Bound::AtMost(1.2));
-                targets.hold(&what, "by the service", times.call / times.leg, most);
+                targets.show(&what, "by the service", times.call / times.leg);
                 targets.hold(
                     &what,
                     "by scan, sort and hull",

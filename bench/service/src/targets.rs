@@ -7,7 +7,8 @@ struct Target {
     what: String,
     against: &'static str,
     ratio: f64,
-    bound: Bound,
+    /// None where the ratio is only to be seen.
+    bound: Option<Bound>,
 }
 
 #[derive(Default)]
@@ -18,7 +19,7 @@ const KEPT: &str = "the same, distances kept";
 const HULL: &str = "scan, sort and hull";
 
 impl Targets {
-    pub fn hold(&mut self, what: &str, against: &'static str, ratio: f64, bound: Bound) {
+    fn add(&mut self, what: &str, against: &'static str, ratio: f64, bound: Option<Bound>) {
         let what = what.to_string();
         self.0.push(Target {
             what,
@@ -28,11 +29,20 @@ impl Targets {
         });
     }
 
-    /// How many times faster than wrapping the service, many a call, has to be.
+    pub fn hold(&mut self, what: &str, against: &'static str, ratio: f64, bound: Bound) {
+        self.add(what, against, ratio, Some(bound));
+    }
+
+    pub fn show(&mut self, what: &str, against: &'static str, ratio: f64) {
+        self.add(what, against, ratio, None);
+    }
+
+    /// How many times faster than wrapping the service, many a call, has to be. Kept distances are
+    /// another program, which only shows how far one could go without a tree.
     pub fn faster_than_wrapping(&mut self, what: &str, times: &Times, least: f64) {
         let than = |time: f64| time / times.together;
         self.hold(what, WRAP, than(times.wrap), Bound::AtLeast(least));
-        self.hold(what, KEPT, than(times.kept), Bound::AtLeast(least));
+        self.show(what, KEPT, than(times.kept));
     }
 
     /// How many times faster than wrapping and than the hull.
@@ -55,7 +65,9 @@ impl Targets {
 
     pub fn print(&self) {
         for target in &self.0 {
-            let verdict = target.bound.verdict(target.ratio);
+            let verdict = target
+                .bound
+                .map_or("no target".to_string(), |bound| bound.verdict(target.ratio));
             print!("{:40} {:26} ", target.what, target.against);
             println!("{:>6.2}  {verdict}", target.ratio);
         }
