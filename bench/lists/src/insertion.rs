@@ -19,30 +19,44 @@ impl Sites<'_> {
         vertex(self.table, self.leg, usize::from(place))
     }
 
-    /// How many of the row are not right of a.
+    /// How many of the row are not right of a: by bisection, the ends first.
     fn cut(self, row: &[u16], a: u32) -> usize {
         let (mut low, mut high) = (0, row.len());
         while low < high {
-            let middle = low + (high - low) / 2;
-            if self.vertex(row[middle]).a <= a {
-                low = middle + 1;
+            let probe = probe(low, high, row.len());
+            if self.vertex(row[probe]).a <= a {
+                low = probe + 1;
             } else {
-                high = middle;
+                high = probe;
             }
         }
         low
     }
 
-    /// Whether the row shows that x cannot be listed: by its last vertex, its first, or one edge.
-    fn covers(self, row: &[u16], x: Vertex) -> bool {
+    /// Whether the row's last vertex or its first shows that x cannot be listed.
+    fn covered_by_end(self, row: &[u16], x: Vertex) -> bool {
         let (Some(first), Some(last)) = (row.first(), row.last()) else {
             return false;
         };
-        if lower(self.vertex(*last), x) || lower(self.vertex(*first), x) {
-            return true;
-        }
-        let n = self.cut(row, x.a);
+        lower(self.vertex(*last), x) || lower(self.vertex(*first), x)
+    }
+
+    /// Whether the edge to the vertex at n does.
+    fn covered_by_edge(self, row: &[u16], n: usize, x: Vertex) -> bool {
         0 < n && n < row.len() && above(self.vertex(row[n - 1]), self.vertex(row[n]), x)
+    }
+
+    /// Skips x or inserts it into the list in the first k.
+    fn deal(self, row: &mut Row, k: usize, place: u16) -> usize {
+        let x = self.vertex(place);
+        if self.covered_by_end(&row[..k], x) {
+            return k;
+        }
+        let n = self.cut(&row[..k], x.a);
+        if self.covered_by_edge(&row[..k], n, x) {
+            return k;
+        }
+        self.insert(row, k, n, place, x)
     }
 
     /// Whether x may stand on the row, of which u is the last.
@@ -80,9 +94,8 @@ impl Sites<'_> {
         j == 0 || i == row.len() || turns(self.vertex(row[j - 1]), x, self.vertex(row[i]))
     }
 
-    /// Inserts x into the list in the first k, in place.
-    fn insert(self, row: &mut Row, k: usize, place: u16, x: Vertex) -> usize {
-        let n = self.cut(&row[..k], x.a);
+    /// Inserts x into the list in the first k, in place; n of them are not right of it.
+    fn insert(self, row: &mut Row, k: usize, n: usize, place: u16, x: Vertex) -> usize {
         let Some(j) = self.place(&row[..n], x) else {
             return k;
         };
@@ -93,6 +106,15 @@ impl Sites<'_> {
         row.copy_within(i..k, j + 1);
         row[j] = place;
         j + 1 + k - i
+    }
+}
+
+/// Where a bisection of low to high looks next.
+fn probe(low: usize, high: usize, k: usize) -> usize {
+    match (low, high) {
+        (_, high) if high == k => k - 1,
+        (0, _) => 0,
+        _ => low + (high - low) / 2,
     }
 }
 
@@ -123,10 +145,7 @@ pub fn list(table: &[u8], n: usize, leg: Leg, row: &mut Row, report: &mut [u8]) 
     let sites = Sites { table, leg };
     let mut k = 0;
     for place in (0..n as u16).rev() {
-        let x = sites.vertex(place);
-        if !sites.covers(&row[..k], x) {
-            k = sites.insert(row, k, place, x);
-        }
+        k = sites.deal(row, k, place);
     }
     record::put(k, |i| sites.vertex(row[i]), report)
 }
