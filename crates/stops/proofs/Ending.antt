@@ -18,7 +18,7 @@ use Rattle.book.specs.Book.{Book}
 use Rattle.book.specs.Command.{positionAt, legAt, whole, parseAt}
 use Rattle.book.specs.Run.{Outcome, run}
 use Rattle.book.proofs.Runs.{StopsFor, run-ends}
-use Rattle.stops.specs.Session.{longestCommand, Ready}
+use Rattle.stops.specs.Calls.{longestCommand, Ready}
 
 -- ---- a cut command is short
 

@@ -13,7 +13,7 @@ use Rattle.stops.specs.declared.Batched.{Batched}
 use Rattle.stops.specs.declared.Next.{Next}
 use Rattle.stops.specs.declared.Next.the-variants.{More, End, Closed}
 use Rattle.stops.specs.Input.{ReadOn}
-use Rattle.stops.specs.Session.{Onward, Ready, Final, Joins, Follows, Answered, Turned}
+use Rattle.stops.specs.Calls.{Onward, Ready, Final, Joins, Follows, Answered, Turned}
 
 -- more bytes came
 pub joins-more : (s : List ℕ) (reason : Reason) (left held : ℕ) (s′ : List ℕ) → ReadOn left s held s′ → held ≢ left

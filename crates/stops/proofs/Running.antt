@@ -16,9 +16,9 @@ use Rattle.demands.specs.Whole.Made.{none, next}
 use Rattle.demands.proofs.WholeRun.{laid-holds}
 use Rattle.stops.specs.declared.Next.{Next}
 use Rattle.stops.specs.declared.Next.the-variants.{More, End, Closed}
-use Rattle.stops.specs.Session.{longestCommand, longestRecord, Follows, restOf, Turned, Takes, Fed, Session, Program}
-use Rattle.stops.specs.Session.Fed.{start, more}
-use Rattle.stops.specs.Session.Calls.{ended, closed, spent}
+use Rattle.stops.specs.Calls.{longestCommand, longestRecord, Follows, restOf, Turned, Takes, Fed, Series, Program}
+use Rattle.stops.specs.Calls.Fed.{start, more}
+use Rattle.stops.specs.Calls.Calls.{ended, closed, spent}
 use Rattle.stops.proofs.Serving.{sound-after}
 
 -- the table that the program lays out
@@ -28,7 +28,7 @@ laid-as t t₁ r l h = rw (← h .laid (eq-eqb (length t) tableBytes l) .0) h
 pub laid-sound : (t t₁ : List ℕ) (r : Reason) → length t ≡ tableBytes → LaidOut t r t₁ → Sound t₁
 laid-sound t t₁ r l h = laid-holds t t₁ (laid-as t t₁ r l h) .sound
 
-pub program : (size room : ℕ) (t t₁ : List ℕ) (r : Reason) (x : Next) (t′ : List ℕ) → length t ≡ tableBytes → LaidOut t r t₁ → Session size room t₁ x t′
+pub program : (size room : ℕ) (t t₁ : List ℕ) (r : Reason) (x : Next) (t′ : List ℕ) → length t ≡ tableBytes → LaidOut t r t₁ → Series size room t₁ x t′
     → Program size room x t′
 program size room t t₁ r x t′ l h s =
     record { calls = s .calls; are = s .are; ran = record { before = t; laid-table = t₁; laid = laid-as t t₁ r l h; made = s .made } }
@@ -55,7 +55,7 @@ pub running-first : (t w s rep : List ℕ) → Sound t → length w ≡ workByte
 running-first t w s rep h l k n = record { calls = []; fed = start; made = none; sound = h; work = l; input = refl; report = refl; inside = omega arith; large = k; wide = n }
 
 module _ (s₀ rep₀ t₀ t w s rep : List ℕ) (held : ℕ) (v : Running s₀ rep₀ t₀ t w s rep held) where
-  pub running-spent : Session (length s₀) (length rep₀) t₀ Closed t
+  pub running-spent : Series (length s₀) (length rep₀) t₀ Closed t
   running-spent = record { calls = v .calls; are = spent (v .fed); made = v .made }
 
   module _ (r : Next) (t′ w′ s′ rep′ : List ℕ) (u : Turned held t w s rep r t′ w′ s′ rep′) where
@@ -89,10 +89,10 @@ module _ (s₀ rep₀ t₀ t w s rep : List ℕ) (held : ℕ) (v : Running s₀ 
           wide = omega (arith, v .wide, lr);
         }
 
-    pub running-end : (x : Reason) → r ≡ End x → Session (length s₀) (length rep₀) t₀ (End x) t′
+    pub running-end : (x : Reason) → r ≡ End x → Series (length s₀) (length rep₀) t₀ (End x) t′
     running-end x e =
         let f = follows-as (End x) e in
         record { calls = v .calls ++ (call ∷ []); are = ended (v .fed) takes (sym (f .0)) (rw (f .0) (f .1)); made = calls-made }
 
-    pub running-closed : r ≡ Closed → Session (length s₀) (length rep₀) t₀ Closed t′
+    pub running-closed : r ≡ Closed → Series (length s₀) (length rep₀) t₀ Closed t′
     running-closed e = record { calls = v .calls ++ (call ∷ []); are = closed (v .fed) takes; made = calls-made }

@@ -23,7 +23,7 @@ use Rattle.demands.specs.Batch.{result, Served, Batch}
 use Rattle.demands.specs.Step.{Holds}
 use Rattle.demands.proofs.Chains.{chain-holds}
 use Rattle.stops.specs.Input.{Kept}
-use Rattle.stops.specs.Session.{longestCommand, longestRecord, Moves, Answered}
+use Rattle.stops.specs.Calls.{longestCommand, longestRecord, Moves, Answered}
 use Rattle.stops.proofs.Ending.{ready-after}
 
 -- the first n elements are n

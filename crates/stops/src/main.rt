@@ -6,7 +6,7 @@ ghost use lib.ListN.{length, take};
 ghost use Rattle.limits.specs.Limits.{tableBytes, workBytes};
 ghost use Rattle.table.specs.Table.{Sound};
 ghost use Rattle.stops.specs.Input.{Kept, ReadOn};
-ghost use Rattle.stops.specs.Session.{longestCommand, longestRecord, Ready, Joins, Follows, Answered, Turned, Session, Program};
+ghost use Rattle.stops.specs.Calls.{longestCommand, longestRecord, Ready, Joins, Follows, Answered, Turned, Series, Program};
 
 // "ends with 2E and the reason byte"
 const END_MARK: u8 = 0x2E;
@@ -118,7 +118,7 @@ fn turn(table: &mut [u8], work: &mut [u8], input: &mut [u8], held: usize, report
 // The turns, to the end. Nothing says that an input ends, so they are counted down, from a number that no run uses up.
 fn run(table: &mut [u8], work: &mut [u8], input: &mut [u8], report: &mut [u8]) -> Next
     requires { ⌜ Sound (now table) × (length (now work) ≡ workBytes) × (longestCommand ≤ length (now input)) × (longestRecord ≤ length (now report)) ⌝ }
-    ensures { λ r. ⌜ Session (length (now (input .entry))) (length (now (report .entry))) (now (table .entry)) r (now (table .exit)) ⌝ }
+    ensures { λ r. ⌜ Series (length (now (input .entry))) (length (now (report .entry))) (now (table .entry)) r (now (table .exit)) ⌝ }
 {
     let mut held = 0;
     let mut turns = u64::MAX;

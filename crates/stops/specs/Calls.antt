@@ -119,7 +119,7 @@ pub data Calls (size room : ℕ) : List Call → Next → Type 0 where
   spent : {cs : List Call} {held : List ℕ} → Fed size room cs held → Calls size room cs Closed
 
 -- a run of them on the table t, which leaves t′
-pub record Session (size room : ℕ) (t : List ℕ) (r : Next) (t′ : List ℕ) : Type 0 where
+pub record Series (size room : ℕ) (t : List ℕ) (r : Next) (t′ : List ℕ) : Type 0 where
   pub calls : List Call
   pub are : Calls size room calls r
   pub made : Made t calls t′
