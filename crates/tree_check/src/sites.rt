@@ -71,6 +71,23 @@ pub fn note(t: &[u8], n: usize, seen: &mut [u8])
     }
 }
 
+// The record after k, or k where it is the last of n.
+fn next(k: usize, n: usize) -> usize
+    requires { ⌜ k < n ⌝ }
+    ensures { λ r. ⌜ (k ≤ r) × (r < n) ⌝ }
+{
+    let j = k + 1;
+    if j < n { j } else { k }
+}
+
+// Record j where `there` says so, else record k. A choice of values: it falls either way as often, so that a branch would be foreseen half the time.
+fn either(there: bool, j: usize, k: usize) -> usize
+    requires { ⌜ k ≤ j ⌝ }
+    ensures { λ r. ⌜ r ≤ j ⌝ }
+{
+    if there { j } else { k }
+}
+
 // The record that the hint for the number x names, or the one after it, if it has the number, else n.
 fn hinted(t: &[u8], n: usize, x: u16, seen: &[u8]) -> usize
     requires { ⌜ (length (now t) ≡ tableBytes) × (n ≤ maxSites) × (length (now seen) ≡ seenBytes) ⌝ }
@@ -79,14 +96,10 @@ fn hinted(t: &[u8], n: usize, x: u16, seen: &[u8]) -> usize
     let i = hint_at(x);
     let k = 2 * wide(seen[i]);
     if k < n {
-        if number_at(t, k) == x {
-            return k;
-        }
-        let j = k + 1;
-        if j < n {
-            if number_at(t, j) == x {
-                return j;
-            }
+        let j = next(k, n);
+        let r = either(number_at(t, j) == x, j, k);
+        if number_at(t, r) == x {
+            return r;
         }
     }
     n
