@@ -25,33 +25,31 @@ fn larger(a: u16, b: u16) -> u16 {
     if a <= b { b } else { a }
 }
 
-// 1 where box j stands before box i in the order, else 0.
-fn before(low: &[u16; 9], high: &[u16; 9], j: usize, i: usize) -> usize
-    requires { ⌜ (j < 9) × (i < 9) ⌝ }
-    ensures { λ r. ⌜ r ≤ 1 ⌝ }
-{
-    let a = measure::wide(low[j]) + measure::wide(high[j]);
-    let b = measure::wide(low[i]) + measure::wide(high[i]);
-    if a < b {
-        return 1;
+// A number for each box, by its middle and of equal middles by its index: no two are equal, so that one comparison orders two boxes.
+fn keys(low: &[u16; 9], high: &[u16; 9]) -> [u32; 9] {
+    let mut keys: [u32; 9] = [0; 9];
+    let mut i: usize = 0;
+    while i < 9 {
+        let sum = measure::wide(low[i]) + measure::wide(high[i]);
+        keys[i] = 16 * sum + i as u32;
+        i += 1;
     }
-    if b < a {
-        return 0;
-    }
-    if j < i {
-        return 1;
-    }
-    0
+    keys
 }
 
-// The place of box i in the order.
-fn rank(low: &[u16; 9], high: &[u16; 9], i: usize) -> usize
-    requires { ⌜ i < 9 ⌝ }
+// 1 where a is less than b, else 0. A choice of values: no branch foresees how boxes lie.
+fn less(a: u32, b: u32) -> usize
+    ensures { λ r. ⌜ r ≤ 1 ⌝ }
 {
+    if a < b { 1 } else { 0 }
+}
+
+// The place in the order of the box whose key is given.
+fn rank(keys: &[u32; 9], key: u32) -> usize {
     let mut r: usize = 0;
     let mut j: usize = 0;
     while j < 9 {
-        r += before(low, high, j, i);
+        r += less(keys[j], key);
         j += 1;
     }
     r
@@ -59,10 +57,12 @@ fn rank(low: &[u16; 9], high: &[u16; 9], i: usize) -> usize
 
 // The place of each box in the order.
 fn ranks(low: &[u16; 9], high: &[u16; 9]) -> [usize; 9] {
+    let keys = keys(low, high);
     let mut places: [usize; 9] = [0; 9];
     let mut i: usize = 0;
     while i < 9 {
-        places[i] = rank(low, high, i);
+        let key = keys[i];
+        places[i] = rank(&keys, key);
         i += 1;
     }
     places
@@ -89,6 +89,13 @@ fn mask_at(places: &[usize; 9], cut: usize) -> u16 {
     mask
 }
 
+// 0 for a box of the side whose bit is `side`, and all ones for another, so that no branch leaves it out.
+fn blank(mask: u16, i: usize, side: u16) -> u16
+    requires { ⌜ i < 9 ⌝ }
+{
+    if (mask >> i) & 1 == side { 0 } else { 65535 }
+}
+
 // How long the boxes of one side, whose bit is `side`, are together along an axis.
 fn extent(low: &[u16; 9], high: &[u16; 9], mask: u16, side: u16) -> u32
     ensures { λ r. ⌜ r < 65536 ⌝ }
@@ -97,10 +104,9 @@ fn extent(low: &[u16; 9], high: &[u16; 9], mask: u16, side: u16) -> u32
     let mut most: u16 = 0;
     let mut i: usize = 0;
     while i < 9 {
-        if (mask >> i) & 1 == side {
-            least = lesser(least, low[i]);
-            most = larger(most, high[i]);
-        }
+        let out = blank(mask, i, side);
+        least = lesser(least, low[i] | out);
+        most = larger(most, high[i] & (65535 - out));
         i += 1;
     }
     measure::span(least, most)

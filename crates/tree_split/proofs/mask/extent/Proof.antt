@@ -12,11 +12,8 @@ abbrev μ-loop : tie.MeasureT-loop
 loop-holds : tie.Need-loop-holds Inv-loop μ-loop
 loop-holds c = search needs
 
-cast-if1 : tie.Need-cast-if1 Inv-loop μ-loop
-cast-if1 c = search needs
-
-shr-if1 : tie.Need-shr-if1 Inv-loop μ-loop
-shr-if1 c = search needs
+blank-requires : tie.Need-blank-requires Inv-loop μ-loop
+blank-requires c κs = search needs
 
 mul-lesser : tie.Need-mul-lesser Inv-loop μ-loop
 mul-lesser c = search needs
@@ -32,6 +29,9 @@ mul-larger c = search needs
 
 element-copy-out-larger : tie.Need-element-copy-out-larger Inv-loop μ-loop
 element-copy-out-larger c = search needs
+
+sub-larger : tie.Need-sub-larger Inv-loop μ-loop
+sub-larger c = search needs
 
 larger-requires : tie.Need-larger-requires Inv-loop μ-loop
 larger-requires c κs = search needs
@@ -58,13 +58,13 @@ extent-spec =
     Inv-loop
     μ-loop
     loop-holds
-    cast-if1
-    shr-if1
+    blank-requires
     mul-lesser
     element-copy-out-lesser
     lesser-requires
     mul-larger
     element-copy-out-larger
+    sub-larger
     larger-requires
     add-i
     loop-less

@@ -4,16 +4,22 @@ use Rattle.tree_split.proofs.mask.rank.Statement.{statement}
 use Rattle.tree_split.proofs.mask.rank.Tie as tie
 
 abbrev Inv-loop : tie.InvT-loop
-Inv-loop low high i r₀ j₀ r j = (j ≤ 9) × (r ≤ j)
+Inv-loop keys key r₀ j₀ r j = (j ≤ 9) × (r ≤ j)
 
 abbrev μ-loop : tie.MeasureT-loop
-μ-loop low high i r₀ j₀ r j = 9 - j
+μ-loop keys key r₀ j₀ r j = 9 - j
 
 loop-holds : tie.Need-loop-holds Inv-loop μ-loop
 loop-holds c = search needs
 
-before-requires : tie.Need-before-requires Inv-loop μ-loop
-before-requires c κs = search needs
+mul-less : tie.Need-mul-less Inv-loop μ-loop
+mul-less c = search needs
+
+element-copy-out-less : tie.Need-element-copy-out-less Inv-loop μ-loop
+element-copy-out-less c = search needs
+
+less-requires : tie.Need-less-requires Inv-loop μ-loop
+less-requires c κs = search needs
 
 add-r : tie.Need-add-r Inv-loop μ-loop
 add-r c = search needs
@@ -33,4 +39,15 @@ returns c = search needs
 pub rank-spec : {M : Type 1} → statement M
 rank-spec =
     tie.close
-    (tie.spec Inv-loop μ-loop loop-holds before-requires add-r add-j loop-less loop-again returns)
+    (tie.spec
+    Inv-loop
+    μ-loop
+    loop-holds
+    mul-less
+    element-copy-out-less
+    less-requires
+    add-r
+    add-j
+    loop-less
+    loop-again
+    returns)

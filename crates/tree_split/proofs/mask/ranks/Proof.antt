@@ -4,13 +4,22 @@ use Rattle.tree_split.proofs.mask.ranks.Statement.{statement}
 use Rattle.tree_split.proofs.mask.ranks.Tie as tie
 
 abbrev Inv-loop : tie.InvT-loop
-Inv-loop low high places₀ i₀ places i = i ≤ 9
+Inv-loop low high keys places₀ i₀ places i = i ≤ 9
 
 abbrev μ-loop : tie.MeasureT-loop
-μ-loop low high places₀ i₀ places i = 9 - i
+μ-loop low high keys places₀ i₀ places i = 9 - i
+
+keys-requires : tie.Need-keys-requires Inv-loop μ-loop
+keys-requires c κs = search needs
 
 loop-holds : tie.Need-loop-holds Inv-loop μ-loop
 loop-holds c = search needs
+
+mul-key : tie.Need-mul-key Inv-loop μ-loop
+mul-key c = search needs
+
+array-read-key : tie.Need-array-read-key Inv-loop μ-loop
+array-read-key c = search needs
 
 rank-requires : tie.Need-rank-requires Inv-loop μ-loop
 rank-requires c κs = search needs
@@ -39,7 +48,10 @@ ranks-spec =
     (tie.spec
     Inv-loop
     μ-loop
+    keys-requires
     loop-holds
+    mul-key
+    array-read-key
     rank-requires
     mul-places
     array-write-places
