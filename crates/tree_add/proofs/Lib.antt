@@ -1,4 +1,5 @@
 pub mod Rooms
 pub mod Halves
+pub mod Grown
 pub mod Upward
 pub mod Raising

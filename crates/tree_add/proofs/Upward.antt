@@ -1,25 +1,25 @@
 -- On the way up: an addition under a child, and what it makes of the parent.
 -- Assumes nothing.
-use mathlib.Core.Path.{_≡_, refl, ap, subst, _∙_}
-use mathlib.Core.List.{List, [], _∷_, _++_}
+use mathlib.Core.Path.{_≡_, refl, sym, ap, subst, _∙_}
+use mathlib.Core.List.{List, [], _∷_, _++_, append-nil}
 use Prim.Native.Nat.{ℕ, suc, _+_, _-_, _≤_, _<_}
 use native.Mathlib.Omega.{arith}
 use lib.ListN.{length, getD, set, take, drop, length-set, length-append}
 use lib.Seq.{set-split}
-use Rattle.limits.specs.Limits.{minEntries, maxEntries, maxNodes, tableBytes}
+use Rattle.limits.specs.Limits.{minEntries, maxEntries, tableBytes}
 use Rattle.words.specs.Words.{Only}
 use Rattle.words.proofs.Frame.{only-trans}
 use Rattle.node.specs.declared.Entry.{Entry}
 use Rattle.node.specs.Layout.{poolStart}
 use Rattle.node.specs.Node.{entries, noEntry, Wrote}
 use Rattle.node.specs.Free.{free}
-use Rattle.node.specs.Boxes.{hull}
+use Rattle.node.specs.Boxes.{grow, hull}
 use Rattle.node.specs.Tally.{total, hit, tally, Within}
 use Rattle.node.proofs.Counting.{hit-same}
 use Rattle.node.proofs.Reading.{eight}
 use Rattle.node.proofs.Storing.{others, in-pool, in-tree}
 use Rattle.node.proofs.FreeStack.{free-kept}
-use Rattle.rtree.specs.Tree.{Store, joined, leaves, nodes, nodesAt, Each, Sound}
+use Rattle.rtree.specs.Tree.{Store, joined, leaves, nodes, leavesAt, nodesAt, Each, Sound}
 use Rattle.rtree.specs.Change.{Ready}
 use Rattle.rtree.proofs.Every.{each-append, each-left, each-right, each-snoc}
 use Rattle.rtree.proofs.Totals.{total-both, total-cons, total-joined, total-snoc, leaves-at, nodes-at, leaves-under}
@@ -27,7 +27,9 @@ use Rattle.rtree.proofs.Kept.{Agree, kept-leaves, kept-nodes, kept-sound}
 use Rattle.rtree.proofs.Descent.{child-parted, child, child-total, child-ready}
 use Rattle.tree_add.specs.declared.Room.{Room}
 use Rattle.tree_add.specs.Steps.{spill, Placed, Open, Renewed, Inserted}
+use Rattle.tree_add.proofs.Rooms.{renewed}
 use Rattle.tree_add.proofs.Halves.{renewed-same}
+use Rattle.tree_add.proofs.Grown.{hull-grown}
 
 -- a leaf takes the entry, or hands it back
 inserted-at : (r : Room) (n : ℕ) (e : Entry) (b b′ : List ℕ) → Ready 0 n b → Placed r n e b b′ → Inserted r 0 n e b b′
@@ -214,9 +216,6 @@ module _ (h n k : ℕ) (f : Entry) (b : List ℕ) (rd : Ready h n b) (nz : h ≡
   pub down-ready : Ready (h - 1) (f .reference) b
   down-ready = child-ready (h - 1) n k b f above lt qf
 
-  pub down-id : f .reference < maxNodes
-  down-id = down-ready .id
-
   pub down-three : minEntries ≤ length (entries b (f .reference))
   down-three = child (h - 1) n k b f above lt qf .least
 
@@ -239,11 +238,26 @@ module _ (h n k : ℕ) (f : Entry) (b : List ℕ) (rd : Ready h n b) (nz : h ≡
     pub up-not-free : tally n (free b₁) ≡ 0
     up-not-free = above-not-free (h - 1) n k b f above lt qf q e b₁ ad
 
-    pub up-kept : (b₂ : List ℕ) → q ≡ Room.Kept → Wrote n (set (entries b₁ n) k (hull (f .reference) (entries b₁ (f .reference)))) b₁ b₂ → Inserted Room.Kept h n e b b₂
+    -- the child's smallest box is the one that it had, grown by e
+    grown-is : (d : Entry) → Inserted Room.Kept (h - 1) (f .reference) e b b₁ → d ≡ grow e f → d ≡ hull (f .reference) (entries b₁ (f .reference))
+    unfolding spill leavesAt
+    grown-is d a qd =
+        let c : ℕ = f .reference in
+        let nil : entries b₁ c ++ [] ≡ entries b₁ c = append-nil (entries b₁ c) in
+        let box : f ≡ hull c (entries b c) = child (h - 1) n k b f above lt qf .box in
+        let sd : Each (Sound (entries b₁) (h - 1)) (entries b₁ c) = subst (λ (l : List Entry). Each (Sound (entries b₁) (h - 1)) l) nil (a .sound) in
+        qd
+        ∙ ap (grow e) box
+        ∙ hull-grown (entries b) (entries b₁) (h - 1) c e (entries b c) (entries b₁ c) (down-ready .sound) sd
+        (λ w. ap (λ (l : List Entry). total w (joined (leaves (entries b₁) (h - 1)) l)) (sym nil) ∙ a .leaf w)
+
+    pub up-kept : (d : Entry) (b₂ : List ℕ) → q ≡ Room.Kept → d ≡ grow e f → Wrote n (set (entries b₁ n) k d) b₁ b₂ → Inserted Room.Kept h n e b b₂
     unfolding spill
-    up-kept b₂ eq w =
+    up-kept d b₂ eq qd v =
         let g : ℕ = h - 1 in
         let a : Inserted Room.Kept g (f .reference) e b b₁ = rw eq at ad in
+        let w : Wrote n (set (entries b₁ n) k (hull (f .reference) (entries b₁ (f .reference)))) b₁ b₂ =
+        renewed n k (f .reference) d b₁ b₂ (grown-is d a qd) v in
         let op : Open g (f .reference) [] b₁ = after-open Room.Kept g (f .reference) e b b₁ down-ready a in
         let out = above-out g n k b f above lt qf Room.Kept e b₁ a in
         let three : minEntries ≤ length (entries b₁ (f .reference)) = omega (arith, a .least, down-three) in

@@ -52,6 +52,7 @@ fn halve(table: &mut [u8], h: usize, n: usize, k: usize, c: usize, x: Entry) -> 
 }
 
 // Adds the leaf entry e under node n, whose entries stand at height h, or hands back the ninth entry of n.
+// A child that is not split has its old box, grown by e's: its entries need not be read again.
 pub fn insert(table: &mut [u8], h: usize, n: usize, e: Entry) -> Room
     requires { ⌜ Ready h n (now table) × (h ≤ length (free (now table))) × ((h ≡ 0 → ⊥) → 0 < length (entries (now table) n)) ⌝ }
     ensures { λ r. ⌜ Inserted r h n e (now (table .entry)) (now (table .exit)) ⌝ }
@@ -65,7 +66,8 @@ pub fn insert(table: &mut [u8], h: usize, n: usize, e: Entry) -> Room
     let r = insert(table, h - 1, c, e);
     match r {
         Room::Kept => {
-            renew(table, n, k, c);
+            let g = boxes::grown(e, f);
+            pool::put(table, n, k, g);
             Room::Kept
         }
         Room::Over(x) => halve(table, h - 1, n, k, c, x),

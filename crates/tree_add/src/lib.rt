@@ -1,5 +1,5 @@
 // The addition of a leaf entry. Follows Insert of Guttman's R-tree, which document 01, "The tree", names. It differs so: a ninth entry is never stored but handed
-// back, and the parent deals the eight and the one (crate tree_split); boxes are recomputed from the child's entries on the way up.
+// back, and the parent deals the eight and the one (crate tree_split); on the way up a box grows by the new one, and is recomputed from the child's entries where the child was split.
 // It never fails: that a node is free for each split, and that the levels fit, is proved.
 use node::Entry;
 use node::header;

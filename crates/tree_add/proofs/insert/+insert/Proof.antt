@@ -1,17 +1,18 @@
 use native.Mathlib.Omega.{arith}
 use borrow.Author.Needs.{needs}
-use Rattle.tree_add.proofs.Upward.{inserted-leaf, down-ready, down-id, down-some, up-len, up-in, up-free, up-not-free, up-kept, up-open, up-full, up-out, up-over}
+use Rattle.tree_add.proofs.Upward.{inserted-leaf, down-ready, down-some, up-len, up-in, up-free, up-not-free, up-kept, up-open, up-full, up-out, up-over}
 use Prim.Native.Nat.{ℕ, _<_}
 use borrow.Fn.Kinds.{In}
 use borrow.Fn.PlainCycle.{Measures, is, falls, and}
 use Rattle.tree_add.proofs.insert.insert.Reads as insert
 use Rattle.tree_add.proofs.insert.insert.Kinds as insert-kinds
 use Rattle.tree_add.proofs.insert.+insert.Lts-insert as insert-lts
+use Rattle.node.proofs.boxes.grown.Reads as grown-reads
 use Rattle.node.proofs.pool.entry_at.Reads as entry-at-reads
+use Rattle.node.proofs.pool.put.Reads as put-reads
 use Rattle.tree_add.proofs.choose.choose.Reads as choose-reads
 use Rattle.tree_add.proofs.insert.halve.Reads as halve-reads
 use Rattle.tree_add.proofs.insert.put_in.Reads as put-in-reads
-use Rattle.tree_add.proofs.insert.renew.Reads as renew-reads
 use Rattle.tree_add.proofs.insert.+insert.{statement}
 use Rattle.tree_add.proofs.insert.+insert.Tie.{close}
 
@@ -33,8 +34,10 @@ insert-put-in-requires : (t : ℕ) → insert-lts.Need-put-in-requires (
   entry-at-reads.Learnt,
   insert-below t,
   insert.Post,
-  renew-reads.Asked,
-  renew-reads.Learnt,
+  grown-reads.Asked,
+  grown-reads.Learnt,
+  put-reads.Asked,
+  put-reads.Learnt,
   halve-reads.Asked,
   halve-reads.Learnt,
 ) (insert-at t) insert.Post
@@ -49,8 +52,10 @@ insert-same-length : (t : ℕ) → insert-lts.Need-same-length (
   entry-at-reads.Learnt,
   insert-below t,
   insert.Post,
-  renew-reads.Asked,
-  renew-reads.Learnt,
+  grown-reads.Asked,
+  grown-reads.Learnt,
+  put-reads.Asked,
+  put-reads.Learnt,
   halve-reads.Asked,
   halve-reads.Learnt,
 ) (insert-at t) insert.Post
@@ -65,8 +70,10 @@ insert-returns : (t : ℕ) → insert-lts.Need-returns (
   entry-at-reads.Learnt,
   insert-below t,
   insert.Post,
-  renew-reads.Asked,
-  renew-reads.Learnt,
+  grown-reads.Asked,
+  grown-reads.Learnt,
+  put-reads.Asked,
+  put-reads.Learnt,
   halve-reads.Asked,
   halve-reads.Learnt,
 ) (insert-at t) insert.Post
@@ -81,8 +88,10 @@ insert-choose-requires : (t : ℕ) → insert-lts.Need-choose-requires (
   entry-at-reads.Learnt,
   insert-below t,
   insert.Post,
-  renew-reads.Asked,
-  renew-reads.Learnt,
+  grown-reads.Asked,
+  grown-reads.Learnt,
+  put-reads.Asked,
+  put-reads.Learnt,
   halve-reads.Asked,
   halve-reads.Learnt,
 ) (insert-at t) insert.Post
@@ -97,8 +106,10 @@ insert-entry-at-requires : (t : ℕ) → insert-lts.Need-entry-at-requires (
   entry-at-reads.Learnt,
   insert-below t,
   insert.Post,
-  renew-reads.Asked,
-  renew-reads.Learnt,
+  grown-reads.Asked,
+  grown-reads.Learnt,
+  put-reads.Asked,
+  put-reads.Learnt,
   halve-reads.Asked,
   halve-reads.Learnt,
 ) (insert-at t) insert.Post
@@ -113,8 +124,10 @@ insert-cast-c : (t : ℕ) → insert-lts.Need-cast-c (
   entry-at-reads.Learnt,
   insert-below t,
   insert.Post,
-  renew-reads.Asked,
-  renew-reads.Learnt,
+  grown-reads.Asked,
+  grown-reads.Learnt,
+  put-reads.Asked,
+  put-reads.Learnt,
   halve-reads.Asked,
   halve-reads.Learnt,
 ) (insert-at t) insert.Post
@@ -129,8 +142,10 @@ insert-sub-insert : (t : ℕ) → insert-lts.Need-sub-insert (
   entry-at-reads.Learnt,
   insert-below t,
   insert.Post,
-  renew-reads.Asked,
-  renew-reads.Learnt,
+  grown-reads.Asked,
+  grown-reads.Learnt,
+  put-reads.Asked,
+  put-reads.Learnt,
   halve-reads.Asked,
   halve-reads.Learnt,
 ) (insert-at t) insert.Post
@@ -145,8 +160,10 @@ insert-insert-requires : (t : ℕ) → insert-lts.Need-insert-requires (
   entry-at-reads.Learnt,
   insert-below t,
   insert.Post,
-  renew-reads.Asked,
-  renew-reads.Learnt,
+  grown-reads.Asked,
+  grown-reads.Learnt,
+  put-reads.Asked,
+  put-reads.Learnt,
   halve-reads.Asked,
   halve-reads.Learnt,
 ) (insert-at t) insert.Post
@@ -167,14 +184,16 @@ insert-enum-told : (t : ℕ) → insert-lts.Need-enum-told (
   entry-at-reads.Learnt,
   insert-below t,
   insert.Post,
-  renew-reads.Asked,
-  renew-reads.Learnt,
+  grown-reads.Asked,
+  grown-reads.Learnt,
+  put-reads.Asked,
+  put-reads.Learnt,
   halve-reads.Asked,
   halve-reads.Learnt,
 ) (insert-at t) insert.Post
 insert-enum-told t c = search needs
 
-insert-renew-requires : (t : ℕ) → insert-lts.Need-renew-requires (
+insert-grown-requires : (t : ℕ) → insert-lts.Need-grown-requires (
   put-in-reads.Asked,
   put-in-reads.Learnt,
   choose-reads.Asked,
@@ -183,19 +202,39 @@ insert-renew-requires : (t : ℕ) → insert-lts.Need-renew-requires (
   entry-at-reads.Learnt,
   insert-below t,
   insert.Post,
-  renew-reads.Asked,
-  renew-reads.Learnt,
+  grown-reads.Asked,
+  grown-reads.Learnt,
+  put-reads.Asked,
+  put-reads.Learnt,
   halve-reads.Asked,
   halve-reads.Learnt,
 ) (insert-at t) insert.Post
-insert-renew-requires t c κs =
-    let i = c .before .before .before .before .before in
+insert-grown-requires t c κs = search needs
+
+insert-put-requires : (t : ℕ) → insert-lts.Need-put-requires (
+  put-in-reads.Asked,
+  put-in-reads.Learnt,
+  choose-reads.Asked,
+  choose-reads.Learnt,
+  entry-at-reads.Asked,
+  entry-at-reads.Learnt,
+  insert-below t,
+  insert.Post,
+  grown-reads.Asked,
+  grown-reads.Learnt,
+  put-reads.Asked,
+  put-reads.Learnt,
+  halve-reads.Asked,
+  halve-reads.Learnt,
+) (insert-at t) insert.Post
+insert-put-requires t c κs =
+    let i = c .before .before .before .before .before .before in
     let f = i .before .before .before in
     let k = f .before .before in
     let z = k .before .before in
     let s = z .before .before in
     let rd = s .pre .1 .0 in
-    (up-len _ _ _ _ _ rd (z .if1 .left) (k .choose .ensures) (f .entry-at .ensures) _ _ _ (i .insert .ensures), rd .id, down-id _ _ _ _ _ rd (z .if1 .left) (k .choose .ensures) (f .entry-at .ensures), up-in _ _ _ _ _ rd (z .if1 .left) (k .choose .ensures) (f .entry-at .ensures) _ _ _ (i .insert .ensures))
+    (up-len _ _ _ _ _ rd (z .if1 .left) (k .choose .ensures) (f .entry-at .ensures) _ _ _ (i .insert .ensures), rd .id, up-in _ _ _ _ _ rd (z .if1 .left) (k .choose .ensures) (f .entry-at .ensures) _ _ _ (i .insert .ensures))
 
 insert-enum-known-r : (t : ℕ) → insert-lts.Need-enum-known-r (
   put-in-reads.Asked,
@@ -206,8 +245,10 @@ insert-enum-known-r : (t : ℕ) → insert-lts.Need-enum-known-r (
   entry-at-reads.Learnt,
   insert-below t,
   insert.Post,
-  renew-reads.Asked,
-  renew-reads.Learnt,
+  grown-reads.Asked,
+  grown-reads.Learnt,
+  put-reads.Asked,
+  put-reads.Learnt,
   halve-reads.Asked,
   halve-reads.Learnt,
 ) (insert-at t) insert.Post
@@ -222,8 +263,10 @@ insert-sub-halve : (t : ℕ) → insert-lts.Need-sub-halve (
   entry-at-reads.Learnt,
   insert-below t,
   insert.Post,
-  renew-reads.Asked,
-  renew-reads.Learnt,
+  grown-reads.Asked,
+  grown-reads.Learnt,
+  put-reads.Asked,
+  put-reads.Learnt,
   halve-reads.Asked,
   halve-reads.Learnt,
 ) (insert-at t) insert.Post
@@ -238,8 +281,10 @@ insert-halve-requires : (t : ℕ) → insert-lts.Need-halve-requires (
   entry-at-reads.Learnt,
   insert-below t,
   insert.Post,
-  renew-reads.Asked,
-  renew-reads.Learnt,
+  grown-reads.Asked,
+  grown-reads.Learnt,
+  put-reads.Asked,
+  put-reads.Learnt,
   halve-reads.Asked,
   halve-reads.Learnt,
 ) (insert-at t) insert.Post
@@ -269,8 +314,10 @@ insert-same-length-2 : (t : ℕ) → insert-lts.Need-same-length-2 (
   entry-at-reads.Learnt,
   insert-below t,
   insert.Post,
-  renew-reads.Asked,
-  renew-reads.Learnt,
+  grown-reads.Asked,
+  grown-reads.Learnt,
+  put-reads.Asked,
+  put-reads.Learnt,
   halve-reads.Asked,
   halve-reads.Learnt,
 ) (insert-at t) insert.Post
@@ -285,19 +332,22 @@ insert-returns-2 : (t : ℕ) → insert-lts.Need-returns-2 (
   entry-at-reads.Learnt,
   insert-below t,
   insert.Post,
-  renew-reads.Asked,
-  renew-reads.Learnt,
+  grown-reads.Asked,
+  grown-reads.Learnt,
+  put-reads.Asked,
+  put-reads.Learnt,
   halve-reads.Asked,
   halve-reads.Learnt,
 ) (insert-at t) insert.Post
 insert-returns-2 t c =
-    let i = c .before .before .before .before .before .before .before .before in
+    let i = c .before .before .before .before .before .before .before .before .before in
     let f = i .before .before .before in
     let k = f .before .before in
     let z = k .before .before in
     let s = z .before .before in
     let rd = s .pre .1 .0 in
-    up-kept _ _ _ _ _ rd (z .if1 .left) (k .choose .ensures) (f .entry-at .ensures) _ _ _ (i .insert .ensures) _ (c .before .before .before .before .enum-told .given .1) (c .before .before .renew .ensures)
+    let g = c .before .before .before .before in
+    up-kept _ _ _ _ _ rd (z .if1 .left) (k .choose .ensures) (f .entry-at .ensures) _ _ _ (i .insert .ensures) _ _ (g .before .enum-told .given .1) (g .grown .ensures) (c .before .before .put .ensures)
 
 insert-same-length-3 : (t : ℕ) → insert-lts.Need-same-length-3 (
   put-in-reads.Asked,
@@ -308,8 +358,10 @@ insert-same-length-3 : (t : ℕ) → insert-lts.Need-same-length-3 (
   entry-at-reads.Learnt,
   insert-below t,
   insert.Post,
-  renew-reads.Asked,
-  renew-reads.Learnt,
+  grown-reads.Asked,
+  grown-reads.Learnt,
+  put-reads.Asked,
+  put-reads.Learnt,
   halve-reads.Asked,
   halve-reads.Learnt,
 ) (insert-at t) insert.Post
@@ -324,8 +376,10 @@ insert-returns-3 : (t : ℕ) → insert-lts.Need-returns-3 (
   entry-at-reads.Learnt,
   insert-below t,
   insert.Post,
-  renew-reads.Asked,
-  renew-reads.Learnt,
+  grown-reads.Asked,
+  grown-reads.Learnt,
+  put-reads.Asked,
+  put-reads.Learnt,
   halve-reads.Asked,
   halve-reads.Learnt,
 ) (insert-at t) insert.Post
@@ -348,8 +402,10 @@ pub +insert-spec : {M : Type 1} → statement M
   entry-at-reads.Learnt,
   insert-below t,
   insert.Post,
-  renew-reads.Asked,
-  renew-reads.Learnt,
+  grown-reads.Asked,
+  grown-reads.Learnt,
+  put-reads.Asked,
+  put-reads.Learnt,
   halve-reads.Asked,
   halve-reads.Learnt,
 )
@@ -364,7 +420,8 @@ pub +insert-spec : {M : Type 1} → statement M
     (insert-sub-insert t)
     (insert-insert-requires t)
     (insert-enum-told t)
-    (insert-renew-requires t)
+    (insert-grown-requires t)
+    (insert-put-requires t)
     (insert-enum-known-r t)
     (insert-sub-halve t)
     (insert-halve-requires t)
