@@ -1,18 +1,17 @@
 -- Laws of marks: one more is set, all are taken away, all are set.
 -- Assumes nothing.
-use mathlib.Core.Bool.{true, false}
 use mathlib.Core.List.{List}
 use mathlib.Core.Path.{_≡_, refl, ap, _∙_}
-use Prim.Native.Nat.{ℕ, _+_, _≤_, _<_}
+use Prim.Native.Nat.{ℕ, min, _+_, _≤_, _<_}
 use native.Mathlib.Decide.{ℕ-discrete}
 use native.Mathlib.Omega.{arith}
 use borrow.Author.Count.{below-more}
-use borrow.Author.Tests.{ne-eqb}
+use borrow.Author.Tests.{ltb-true, ltb-false, ne-eqb}
+use lib.Dec.{ltb}
 use lib.ListN.{length, getD, set, length-set}
 use lib.Seq.{getD-set-same, getD-set-other}
 use Rattle.node.specs.Tally.{hit}
 use Rattle.node.proofs.Counting.{hit-same}
-use Rattle.node.proofs.Telling.{told-yes, told-no}
 use Rattle.tree_check.specs.Marks.{markBytes, seenBytes, Blank, Full, Fresh, Marked, Bits, Prepared}
 use Rattle.tree_check.specs.Says.{Says}
 
@@ -123,18 +122,25 @@ unfolding Blank Bits
 blank-bits o z m lt = omega (arith, z m lt)
 
 -- the loop of `full`
-pub full-none : (o : List ℕ) → Full 0 o
-unfolding Full
-full-none o m l = absurd (omega arith)
+-- v is above 0 where each of the first i marks is set, and nowhere else
+pub record Least (o : List ℕ) (i v : ℕ) : Type 0 where
+  pub yes : 0 < v → Full i o
+  pub no : Full i o → 0 < v
 
-pub full-one : (o : List ℕ) (i : ℕ) → Full i o → (getD o i 0 ≡ 0 → ⊥) → Full (i + 1) o
+pub least-none : (o : List ℕ) → Least o 0 255
 unfolding Full
-full-one o i p ne = below-more (λ m. 0 < getD o m 0) i p (omega arith)
+least-none o = record { yes = λ z m l. absurd (omega arith); no = λ p. omega arith }
 
-pub full-not : (o : List ℕ) (l i : ℕ) → i < l → getD o i 0 ≡ 0 → Says false (Full l o)
+pub least-one : (o : List ℕ) (i v r : ℕ) → Least o i v → r ≡ min v (getD o i 0) → Least o (i + 1) r
 unfolding Full
-full-not o l i lt z = told-no (λ p. omega (arith, p i lt))
+least-one o i v r l q =
+    record {
+      yes = λ z. below-more (λ m. 0 < getD o m 0) i (l .yes (omega arith)) (omega arith);
+      no = λ p. omega (arith, l .no (λ m lt. p m (omega arith)), p i (omega arith));
+    }
 
-pub full-all : (o : List ℕ) (l i : ℕ) → l ≤ i → Full i o → Says true (Full l o)
-unfolding Full
-full-all o l i le p = told-yes (λ m lt. p m (omega arith)) tt
+pub least-told : (o : List ℕ) (l i v : ℕ) → l ≤ i → i ≤ l → Least o i v → Says (ltb 0 v) (Full l o)
+least-told o l i v ge le p =
+    let q : i ≡ l = omega arith in
+    let s : Least o l v = rw q at p in
+    record { yes = λ z. (s .yes (ltb-true 0 v z), tt); no = λ z f. omega (arith, ltb-false 0 v z, s .no f) }

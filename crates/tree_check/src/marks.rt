@@ -1,6 +1,6 @@
 // The marks of what a walk has met, in lent bytes.
 ghost use mathlib.Core.Path.{_≡_};
-ghost use Prim.Native.Nat.{_≤_, _<_};
+ghost use Prim.Native.Nat.{_≤_, _<_, min};
 ghost use lib.ListN.{length, getD, set};
 ghost use Rattle.node.specs.Told.{Told};
 ghost use Rattle.tree_check.specs.Marks.{markBytes, seenBytes, Blank, Full};
@@ -33,17 +33,22 @@ pub fn mark(seen: &mut [u8], m: usize) -> bool
     false
 }
 
-// Whether each of the first l marks is set.
+fn lesser(a: u8, b: u8) -> u8
+    ensures { λ r. ⌜ r ≡ min a b ⌝ }
+{
+    if a <= b { a } else { b }
+}
+
+// Whether each of the first l marks is set. All are read: the least of many bytes takes less time than a branch for each.
 pub fn full(seen: &[u8], l: usize) -> bool
     requires { ⌜ (length (now seen) ≡ seenBytes) × (l ≤ markBytes) ⌝ }
     ensures { λ r. ⌜ Says r (Full l (now (seen .entry))) ⌝ }
 {
+    let mut least: u8 = 255;
     let mut m = 0;
     while m < l {
-        if seen[m] == 0 {
-            return false;
-        }
+        least = lesser(least, seen[m]);
         m += 1;
     }
-    true
+    0 < least
 }

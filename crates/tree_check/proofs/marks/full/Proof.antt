@@ -1,24 +1,23 @@
 use Prim.Native.Nat.{_-_, _≤_}
 use borrow.Author.Needs.{needs}
-use Rattle.tree_check.specs.Marks.{Full}
-use Rattle.tree_check.proofs.Marking.{full-none, full-one, full-not, full-all}
+use Rattle.tree_check.proofs.Marking.{Least, least-none, least-one, least-told}
 use Rattle.tree_check.proofs.marks.full.Statement.{statement}
 use Rattle.tree_check.proofs.marks.full.Tie as tie
 
 abbrev Inv-loop : tie.InvT-loop
-Inv-loop seen l m₀ m = (m ≤ l) × Full m seen
+Inv-loop seen l least₀ m₀ least m = (m ≤ l) × Least seen m least
 
 abbrev μ-loop : tie.MeasureT-loop
-μ-loop seen l m₀ m = l - m
+μ-loop seen l least₀ m₀ least m = l - m
 
 loop-holds : tie.Need-loop-holds Inv-loop μ-loop
-loop-holds c = (search needs, search full-none)
+loop-holds c = (search needs, search least-none)
 
-shared-slice-read-if1 : tie.Need-shared-slice-read-if1 Inv-loop μ-loop
-shared-slice-read-if1 c = search needs
+shared-slice-read-lesser : tie.Need-shared-slice-read-lesser Inv-loop μ-loop
+shared-slice-read-lesser c = search needs
 
-returns : tie.Need-returns Inv-loop μ-loop
-returns c = search full-not
+lesser-requires : tie.Need-lesser-requires Inv-loop μ-loop
+lesser-requires c κs = search needs
 
 add-m : tie.Need-add-m Inv-loop μ-loop
 add-m c = search needs
@@ -27,10 +26,10 @@ loop-less : tie.Need-loop-less Inv-loop μ-loop
 loop-less c = search needs
 
 loop-again : tie.Need-loop-again Inv-loop μ-loop
-loop-again c = (search needs, search full-one)
+loop-again c = (search needs, search least-one)
 
-returns-2 : tie.Need-returns-2 Inv-loop μ-loop
-returns-2 c = search full-all
+returns : tie.Need-returns Inv-loop μ-loop
+returns c = search least-told
 
 pub full-spec : {M : Type 1} → statement M
 full-spec =
@@ -39,9 +38,9 @@ full-spec =
     Inv-loop
     μ-loop
     loop-holds
-    shared-slice-read-if1
-    returns
+    shared-slice-read-lesser
+    lesser-requires
     add-m
     loop-less
     loop-again
-    returns-2)
+    returns)
