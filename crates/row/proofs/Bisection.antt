@@ -1,4 +1,4 @@
--- Where a row is cut: the loop of `cut`.
+-- Where a row is cut: the loops of `cut`, `climb` and `fall`.
 -- Assumes nothing.
 use mathlib.Core.Path.{_≡_, subst}
 use mathlib.Core.List.{List}
@@ -6,16 +6,9 @@ use Prim.Native.Nat.{ℕ, _+_, _-_, _≤_, _<_}
 use native.Mathlib.Omega.{arith}
 use Rattle.grid.specs.declared.Leg.{Leg}
 use Rattle.row.specs.declared.Vertex.{Vertex}
-use Rattle.row.specs.Vertices.{IsVertex, placeAt, vertexIn, Held, Cut}
+use Rattle.row.specs.Vertices.{IsVertex, placeAt, vertexIn, Held, Cut, Narrowed}
 use Rattle.row.proofs.Reading.{a-of}
 use Rattle.row.proofs.Stacks.{rising}
-
--- lo and hi are still on their sides of the cut
-pub record Narrowed (l : Leg) (t r : List ℕ) (k a lo hi : ℕ) : Type 0 where
-  pub order : lo ≤ hi
-  pub within : hi ≤ k
-  pub left : 0 < lo → vertexIn l t r (lo - 1) .a ≤ a
-  pub right : hi < k → a < vertexIn l t r hi .a
 
 pub cut-begun : (l : Leg) (t r : List ℕ) (k a : ℕ) → Narrowed l t r k a 0 k
 cut-begun l t r k a = record { order = omega arith; within = omega arith; left = λ h. absurd (omega arith); right = λ h. absurd (omega arith) }
@@ -39,3 +32,22 @@ module _ {l : Leg} {t r : List ℕ} {k a lo hi : ℕ} (n : Narrowed l t r k a lo
         left = n .left;
         right = λ i p q. omega (arith, f (omega arith), rising l t r k lo i p q (hd .convex));
       }
+
+-- The steps and returns of `climb` and `fall`, and the first look of `cut_near`.
+module _ {l : Leg} {t r : List ℕ} {k a n : ℕ} {u : Vertex} where
+  pub climb-found : Narrowed l t r k a n k → IsVertex l t (placeAt r n) u → n < k → a < u .a → Held l t r k → Cut l t r k a n
+  climb-found w hu h g hd = cut-found (cut-down w hu (omega arith) h g) (omega arith) hd
+
+  pub fall-found : Narrowed l t r k a 0 n → IsVertex l t (placeAt r (n - 1)) u → 0 < n → u .a ≤ a → Held l t r k → Cut l t r k a n
+  fall-found w hu h g hd =
+      let e : (n - 1) + 1 ≡ n = omega arith in
+      cut-found (rw e at (cut-up w hu (omega arith) g)) (omega arith) hd
+
+  pub fall-less : Narrowed l t r k a 0 n → IsVertex l t (placeAt r (n - 1)) u → 0 < n → a < u .a → Narrowed l t r k a 0 (n - 1)
+  fall-less w hu h g = cut-down w hu (omega arith) (omega arith) g
+
+  pub climb-begun : IsVertex l t (placeAt r n) u → n < k → u .a ≤ a → Narrowed l t r k a (n + 1) k
+  climb-begun hu h g = cut-up (cut-begun l t r k a) hu h g
+
+  pub fall-begun : IsVertex l t (placeAt r n) u → n < k → a < u .a → Narrowed l t r k a 0 n
+  fall-begun hu h g = cut-down (cut-begun l t r k a) hu (omega arith) h g

@@ -75,3 +75,10 @@ pub record Cut (l : Leg) (t r : List ℕ) (k a n : ℕ) : Type 0 where
   pub within : n ≤ k
   pub left : 0 < n → vertexIn l t r (n - 1) .a ≤ a
   pub right : (i : ℕ) → n ≤ i → i < k → a < vertexIn l t r i .a
+
+-- lo and hi are on their sides of the cut at a
+pub record Narrowed (l : Leg) (t r : List ℕ) (k a lo hi : ℕ) : Type 0 where
+  pub order : lo ≤ hi
+  pub within : hi ≤ k
+  pub left : 0 < lo → vertexIn l t r (lo - 1) .a ≤ a
+  pub right : hi < k → a < vertexIn l t r hi .a

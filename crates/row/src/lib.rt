@@ -8,7 +8,7 @@ ghost use Prim.Native.Nat.{_+_, _*_, _^_, _<_, _≤_};
 ghost use lib.ListN.{length};
 ghost use Rattle.grid.specs.Position.{LegOnGrid};
 ghost use Rattle.row.specs.Places.{siteAt, HasSite};
-ghost use Rattle.row.specs.Vertices.{IsVertex, placeAt, Held, Cut};
+ghost use Rattle.row.specs.Vertices.{IsVertex, placeAt, Held, Cut, Narrowed};
 
 // The bytes of a row that holds every site.
 pub const ROW_BYTES: usize = 2 * limits::MAX_SITES;
@@ -103,4 +103,52 @@ pub fn cut(t: &[u8], row: &[u8], leg: Leg, k: usize, a: u32) -> usize
         hi = mid;
     }
     lo
+}
+
+// How many of the first k are not right of a: at least n, which then rises one by one.
+fn climb(t: &[u8], row: &[u8], leg: Leg, k: usize, a: u32, n: usize) -> usize
+    requires { ⌜ Held leg (now t) (now row) k × LegOnGrid leg × Narrowed leg (now t) (now row) k a n k ⌝ }
+    ensures { λ r. ⌜ Cut leg (now (t .entry)) (now (row .entry)) k a r ⌝ }
+{
+    let mut i = n;
+    while i < k {
+        let u = vertex_in(t, row, leg, k, i);
+        if a < u.a {
+            return i;
+        }
+        i += 1;
+    }
+    i
+}
+
+// How many of the first k are not right of a: at most n, which then falls one by one.
+fn fall(t: &[u8], row: &[u8], leg: Leg, k: usize, a: u32, n: usize) -> usize
+    requires { ⌜ Held leg (now t) (now row) k × LegOnGrid leg × Narrowed leg (now t) (now row) k a 0 n ⌝ }
+    ensures { λ r. ⌜ Cut leg (now (t .entry)) (now (row .entry)) k a r ⌝ }
+{
+    let mut i = n;
+    while 0 < i {
+        let u = vertex_in(t, row, leg, k, i - 1);
+        if u.a <= a {
+            return i;
+        }
+        i -= 1;
+    }
+    0
+}
+
+// How many of the first k are not right of a, where about `near` are: steps that are few and can be foreseen are quicker than a bisection.
+// From k on, near is no guess.
+pub fn cut_near(t: &[u8], row: &[u8], leg: Leg, k: usize, a: u32, near: usize) -> usize
+    requires { ⌜ Held leg (now t) (now row) k × LegOnGrid leg ⌝ }
+    ensures { λ r. ⌜ Cut leg (now (t .entry)) (now (row .entry)) k a r ⌝ }
+{
+    if k <= near {
+        return cut(t, row, leg, k, a);
+    }
+    let u = vertex_in(t, row, leg, k, near);
+    if u.a <= a {
+        return climb(t, row, leg, k, a, near + 1);
+    }
+    fall(t, row, leg, k, a, near)
 }

@@ -119,20 +119,33 @@ fn covered_by_edge(t: &[u8], row: &[u8], leg: Leg, k: usize, n: usize, corner: C
     above(u, v, corner)
 }
 
-// Whether the list shuts out all that is at or beyond the corner. Any edge that passes is a proof, so which one is tried needs none.
-pub fn covers(t: &[u8], row: &[u8], leg: Leg, k: usize, corner: Corner) -> bool
-    requires { ⌜ Held leg (now t) (now row) k × LegOnGrid leg × SmallCorner corner ⌝ }
-    ensures { λ r. ⌜ If r (Witness (stack leg (now (t .entry)) (now (row .entry)) k) (corner .a) (corner .c)) ⌝ }
-{
-    if covered_by_end(t, row, leg, k, corner) {
-        return true;
-    }
-    let n = row::cut(t, row, leg, k, corner.a);
-    covered_by_edge(t, row, leg, k, n, corner)
+// What a test of a corner found: whether the list shuts it out, and a guess for the cut of what lies in its box.
+pub struct Seen {
+    pub shut: bool,
+    pub near: usize,
 }
 
-// Deals with the site at p: the row that begins the work buffer becomes the list of one site more.
-pub fn deal(t: &[u8], leg: Leg, p: usize, work: &mut [u8], k: usize) -> usize
+// Whether the list shuts out all that is at or beyond the corner. Any edge that passes is a proof, so which one is tried needs none.
+pub fn covers(t: &[u8], row: &[u8], leg: Leg, k: usize, corner: Corner, near: usize) -> Seen
+    requires { ⌜ Held leg (now t) (now row) k × LegOnGrid leg × SmallCorner corner ⌝ }
+    ensures { λ (r : Seen). ⌜ If (r .shut) (Witness (stack leg (now (t .entry)) (now (row .entry)) k) (corner .a) (corner .c)) ⌝ }
+{
+    if covered_by_end(t, row, leg, k, corner) {
+        return Seen {
+            shut: true,
+            near: near,
+        };
+    }
+    let n = row::cut_near(t, row, leg, k, corner.a, near);
+    let shut = covered_by_edge(t, row, leg, k, n, corner);
+    Seen {
+        shut: shut,
+        near: n,
+    }
+}
+
+// Deals with the site at p, whose cut is about `near`: the row that begins the work buffer becomes the list of one site more.
+pub fn deal_near(t: &[u8], leg: Leg, p: usize, work: &mut [u8], k: usize, near: usize) -> usize
     requires { ⌜ Held leg (now t) (now work) k × LegOnGrid leg × HasSite (now t) p ⌝ }
     requires { ⌜ Space leg (now t) (now work) k p × (2 * rowBytes ≤ length (now work)) ⌝ }
     ensures { λ r. ⌜ Dealt leg (now (t .entry)) (now (work .entry)) k p (now (work .exit)) r ⌝ }
@@ -145,9 +158,18 @@ pub fn deal(t: &[u8], leg: Leg, p: usize, work: &mut [u8], k: usize) -> usize
     if covered_by_end(t, work, leg, k, corner) {
         return k;
     }
-    let n = row::cut(t, work, leg, k, x.a);
+    let n = row::cut_near(t, work, leg, k, x.a, near);
     if covered_by_edge(t, work, leg, k, n, corner) {
         return k;
     }
     row_insert::insert(t, work, leg, k, n, x)
+}
+
+// Deals with the site at p, of whose cut nothing is known.
+pub fn deal(t: &[u8], leg: Leg, p: usize, work: &mut [u8], k: usize) -> usize
+    requires { ⌜ Held leg (now t) (now work) k × LegOnGrid leg × HasSite (now t) p ⌝ }
+    requires { ⌜ Space leg (now t) (now work) k p × (2 * rowBytes ≤ length (now work)) ⌝ }
+    ensures { λ r. ⌜ Dealt leg (now (t .entry)) (now (work .entry)) k p (now (work .exit)) r ⌝ }
+{
+    deal_near(t, leg, p, work, k, limits::MAX_SITES)
 }

@@ -3,6 +3,7 @@ use grid::Area;
 use grid::Leg;
 use node::Entry;
 use row_skip::Corner;
+use row_skip::Seen;
 ghost use mathlib.Core.Path.{_≡_};
 ghost use Prim.Native.Nat.{_<_};
 ghost use lib.ListN.{length};
@@ -38,12 +39,12 @@ pub fn corner_at(t: &[u8], leg: Leg, n: usize, i: usize) -> Corner
     row_skip::corner_of(leg, area)
 }
 
-// Whether the list shuts out all that lies under entry i of node n.
-pub fn shuts(t: &[u8], row: &[u8], leg: Leg, k: usize, n: usize, i: usize) -> bool
+// Whether the list shuts out all that lies under entry i of node n, where the cuts are about `near`.
+pub fn shuts(t: &[u8], row: &[u8], leg: Leg, k: usize, n: usize, i: usize, near: usize) -> Seen
     requires { ⌜ (length (now t) ≡ tableBytes) × (n < maxNodes) × (i < length (entries (now t) n)) ⌝ }
     requires { ⌜ LegOnGrid leg × Placed (entryOf (now t) n i) × Held leg (now t) (now row) k ⌝ }
-    ensures { λ r. ⌜ If r (Skips leg (now (t .entry)) (now (row .entry)) k (entryOf (now (t .entry)) n i)) ⌝ }
+    ensures { λ (r : Seen). ⌜ If (r .shut) (Skips leg (now (t .entry)) (now (row .entry)) k (entryOf (now (t .entry)) n i)) ⌝ }
 {
     let corner = corner_at(t, leg, n, i);
-    row_skip::covers(t, row, leg, k, corner)
+    row_skip::covers(t, row, leg, k, corner, near)
 }

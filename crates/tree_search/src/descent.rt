@@ -1,4 +1,5 @@
 // The descent: two functions calling each other, the height falling at each child node.
+// The cut of an entry's box is the guess for the cuts of all that lies under it.
 use crate::boxes;
 use crate::nearest;
 use grid::Leg;
@@ -32,13 +33,21 @@ fn after(t: &[u8], n: usize, i: usize) -> usize
 }
 
 // Deals with the site of entry i of the leaf n.
-fn search_leaf(t: &[u8], leg: Leg, n: usize, i: usize, work: &mut [u8], k: usize) -> usize
+fn search_leaf(
+    t: &[u8],
+    leg: Leg,
+    n: usize,
+    i: usize,
+    work: &mut [u8],
+    k: usize,
+    near: usize,
+) -> usize
     requires { ⌜ Readable (now t) 0 n × (i < length (entries (now t) n)) ⌝ }
     requires { ⌜ Ahead leg (now t) (now work) k (leaves (entries (now t)) 0 (entryOf (now t) n i)) ⌝ }
     ensures { λ r. ⌜ Searched leg (now (t .entry)) (now (work .entry)) k (leaves (entries (now (t .entry))) 0 (entryOf (now (t .entry)) n i)) (now (work .exit)) r ⌝ }
 {
     let p = leaf_place(n, i);
-    row_skip::deal(t, leg, p, work, k)
+    row_skip::deal_near(t, leg, p, work, k, near)
 }
 
 // Deals with every site under entry i of node n, whose entries stand at height h.
@@ -50,22 +59,24 @@ fn search_entry(
     i: usize,
     work: &mut [u8],
     k: usize,
+    near: usize,
 ) -> usize
     requires { ⌜ Readable (now t) h n × (i < length (entries (now t) n)) ⌝ }
     requires { ⌜ Ahead leg (now t) (now work) k (leaves (entries (now t)) h (entryOf (now t) n i)) ⌝ }
     ensures { λ r. ⌜ Searched leg (now (t .entry)) (now (work .entry)) k (leaves (entries (now (t .entry))) h (entryOf (now (t .entry)) n i)) (now (work .exit)) r ⌝ }
 {
     if h == 0 {
-        return search_leaf(t, leg, n, i, work, k);
+        return search_leaf(t, leg, n, i, work, k, near);
     }
-    if boxes::shuts(t, work, leg, k, n, i) {
+    let seen = boxes::shuts(t, work, leg, k, n, i, near);
+    if seen.shut {
         return k;
     }
     let e = node::pool::entry_at(t, n, i);
     let c = e.reference as usize;
     let first = nearest::nearest(t, leg, c);
     let all = node::pool::count(t, c);
-    search_node(t, leg, h - 1, c, first, all, work, k)
+    search_node(t, leg, h - 1, c, first, all, work, k, seen.near)
 }
 
 // Deals with every site under so many entries of node n, which stand at height h: from the ith on, the first after the last.
@@ -78,6 +89,7 @@ pub fn search_node(
     left: usize,
     work: &mut [u8],
     k: usize,
+    near: usize,
 ) -> usize
     requires { ⌜ Readable (now t) h n × (i < length (entries (now t) n)) × (left ≤ length (entries (now t) n)) ⌝ }
     requires { ⌜ Ahead leg (now t) (now work) k (under (now t) h (around (entries (now t) n) i left)) ⌝ }
@@ -87,6 +99,6 @@ pub fn search_node(
         return k;
     }
     let next = after(t, n, i);
-    let dealt = search_entry(t, leg, h, n, i, work, k);
-    search_node(t, leg, h, n, next, left - 1, work, dealt)
+    let dealt = search_entry(t, leg, h, n, i, work, k, near);
+    search_node(t, leg, h, n, next, left - 1, work, dealt, near)
 }

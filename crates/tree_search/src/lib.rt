@@ -30,7 +30,7 @@ pub fn search(t: &[u8], leg: Leg, work: &mut [u8]) -> usize
         Root::Top(g, n) => {
             let first = nearest::nearest(t, leg, n);
             let all = node::pool::count(t, n);
-            descent::search_node(t, leg, g, n, first, all, work, 0)
+            descent::search_node(t, leg, g, n, first, all, work, 0, 0)
         }
     }
 }

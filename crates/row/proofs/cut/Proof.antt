@@ -2,7 +2,8 @@ use Rattle.row.proofs.cut.Statement.{statement}
 use borrow.Author.Needs.{needs}
 use native.Mathlib.Omega.{arith}
 use Prim.Native.Nat.{_-_}
-use Rattle.row.proofs.Bisection.{Narrowed, cut-begun, cut-up, cut-down, cut-found}
+use Rattle.row.specs.Vertices.{Narrowed}
+use Rattle.row.proofs.Bisection.{cut-begun, cut-up, cut-down, cut-found}
 use Rattle.row.proofs.cut.Tie as tie
 
 abbrev Inv-loop : tie.InvT-loop

@@ -9,8 +9,8 @@ covered-by-end-requires c κs = search needs
 returns : tie.Need-returns
 returns c = if-true (c .before .covered-by-end .result) (c .if1 .taken) (c .before .covered-by-end .ensures)
 
-cut-requires : tie.Need-cut-requires
-cut-requires c κs = search needs
+cut-near-requires : tie.Need-cut-near-requires
+cut-near-requires c κs = search needs
 
 covered-by-edge-requires : tie.Need-covered-by-edge-requires
 covered-by-edge-requires c κs = search needs
@@ -21,9 +21,4 @@ returns-2 c = search needs
 pub covers-spec : {M : Type 1} → statement M
 covers-spec =
     tie.close
-    (tie.spec
-    covered-by-end-requires
-    returns
-    cut-requires
-    covered-by-edge-requires
-    returns-2)
+    (tie.spec covered-by-end-requires returns cut-near-requires covered-by-edge-requires returns-2)

@@ -103,7 +103,7 @@ search-entry-same-length-2 t c = search needs
 search-entry-returns-2 : (t : ℕ) → search-entry-lts.Need-returns-2 (search-entry-claims t) (search-entry-at t) search-entry.Post
 search-entry-returns-2 t c =
     let s = c .before .before .before .before .before .before in
-    entry-skipped _ _ _ _ (s .pre .1 .0 .0) (s .pre .1 .0 .1) (s .pre .1 .1) (c .before .shuts .result) (c .if2 .taken) (c .before .shuts .ensures)
+    entry-skipped _ _ _ _ (s .pre .1 .0 .0) (s .pre .1 .0 .1) (s .pre .1 .1) (c .before .shuts .result .shut) (c .if2 .taken) (c .before .shuts .ensures)
 
 search-entry-entry-at-requires : (t : ℕ) → search-entry-lts.Need-entry-at-requires (search-entry-claims t) (search-entry-at t) search-entry.Post
 search-entry-entry-at-requires t c κs = search needs

@@ -7,8 +7,8 @@ use Rattle.tree_search.proofs.descent.search_leaf.Tie as tie
 leaf-place-requires : tie.Need-leaf-place-requires
 leaf-place-requires c κs = (search needs, search below-eight)
 
-deal-requires : tie.Need-deal-requires
-deal-requires c κs = ((search needs, search needs, search leaf-has), (search leaf-space, search needs))
+deal-near-requires : tie.Need-deal-near-requires
+deal-near-requires c κs = ((search needs, search needs, search leaf-has), (search leaf-space, search needs))
 
 same-length : tie.Need-same-length
 same-length c = search needs
@@ -17,4 +17,4 @@ returns : tie.Need-returns
 returns c = search leaf-searched
 
 pub search-leaf-spec : {M : Type 1} → statement M
-search-leaf-spec = tie.close (tie.spec leaf-place-requires deal-requires same-length returns)
+search-leaf-spec = tie.close (tie.spec leaf-place-requires deal-near-requires same-length returns)

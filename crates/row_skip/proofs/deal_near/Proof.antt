@@ -2,8 +2,8 @@ use borrow.Author.Needs.{needs}
 use native.Mathlib.Omega.{arith}
 use Rattle.row.proofs.Reading.{itself, itself-has}
 use Rattle.row_skip.proofs.Dealing.{deal-full, deal-skipped, deal-inserted}
-use Rattle.row_skip.proofs.deal.Statement.{statement}
-use Rattle.row_skip.proofs.deal.Tie as tie
+use Rattle.row_skip.proofs.deal_near.Statement.{statement}
+use Rattle.row_skip.proofs.deal_near.Tie as tie
 
 returns : tie.Need-returns
 returns c = search (needs, deal-full)
@@ -20,8 +20,8 @@ same-length c = search needs
 returns-2 : tie.Need-returns-2
 returns-2 c = search (needs, deal-skipped)
 
-cut-requires : tie.Need-cut-requires
-cut-requires c κs = search needs
+cut-near-requires : tie.Need-cut-near-requires
+cut-near-requires c κs = search needs
 
 covered-by-edge-requires : tie.Need-covered-by-edge-requires
 covered-by-edge-requires c κs = search needs
@@ -44,8 +44,8 @@ same-length-3 c = search needs
 returns-4 : tie.Need-returns-4
 returns-4 c = search (needs, deal-inserted)
 
-pub deal-spec : {M : Type 1} → statement M
-deal-spec =
+pub deal-near-spec : {M : Type 1} → statement M
+deal-near-spec =
     tie.close
     (tie.spec
     returns
@@ -53,7 +53,7 @@ deal-spec =
     covered-by-end-requires
     same-length
     returns-2
-    cut-requires
+    cut-near-requires
     covered-by-edge-requires
     same-length-2
     returns-3
