@@ -51,3 +51,11 @@ module _ {l : Leg} {t r : List ℕ} {k p : ℕ} (hd : Held l t r k) where
           lists = λ s d. members d (i′ .hull);
           only = only-wider (omega arith) (omega arith) (i .only);
         }
+
+-- The site at p, measured, is dealt with at its own place.
+module _ {l : Leg} {t : List ℕ} {p : ℕ} {x : Vertex} (hx : IsVertex l t p x) (r : List ℕ) (k : ℕ) where
+  pub place-space : Space l t r k p → Space l t r k (x .place)
+  place-space f = subst (λ (q : ℕ). Space l t r k q) (sym (hx .place-is)) f
+
+  pub place-dealt : {r′ : List ℕ} {n : ℕ} → Dealt l t r k (x .place) r′ n → Dealt l t r k p r′ n
+  place-dealt {r′} {n} d = subst (λ (q : ℕ). Dealt l t r k q r′ n) (hx .place-is) d

@@ -1,34 +1,22 @@
 // Skipping what cannot enter the list in a row, and dealing with a site: skipping it or inserting it.
-// One witness is enough for a skip: the last vertex, the first one, or the one edge found by bisection. Ties are no skip (document 01,
+// One witness is enough for a skip: the last vertex, the first one, or the one edge at the cut. Ties are no skip (document 01,
 // "Where a list goes astray"; heuristic 2 of document 002 skips them).
-use grid::Area;
 use grid::Leg;
 use row::Vertex;
 ghost use mathlib.Core.Path.{_≡_};
 ghost use Prim.Native.Nat.{_+_, _*_, _^_, _<_, _≤_};
 ghost use lib.ListN.{length};
-ghost use Rattle.grid.specs.Area.{AreaOnGrid};
 ghost use Rattle.grid.specs.Position.{LegOnGrid};
 ghost use Rattle.grid.specs.Says.{If};
 ghost use Rattle.split.specs.Skip.{Shut, Witness};
 ghost use Rattle.row.specs.Places.{HasSite};
-ghost use Rattle.row.specs.Vertices.{bare, Small, rowBytes, stack, Held};
-ghost use Rattle.row_skip.specs.Skipping.{SmallCorner, IsCorner, Space, Dealt};
+ghost use Rattle.row.specs.Vertices.{bare, Small, IsVertex, rowBytes, stack, Held};
+ghost use Rattle.row_skip.specs.Skipping.{SmallCorner, Space, Dealt};
 
 // The least squared distances from S and from E of what lies in a box.
 pub struct Corner {
     pub a: u32,
     pub c: u32,
-}
-
-// The corner of a box.
-pub fn corner_of(leg: Leg, b: Area) -> Corner
-    requires { ⌜ LegOnGrid leg × AreaOnGrid b ⌝ }
-    ensures { λ r. ⌜ IsCorner leg b r ⌝ }
-{
-    let a = grid::distance::from_area(b, leg.s) as u32;
-    let c = grid::distance::from_area(b, leg.e) as u32;
-    Corner { a: a, c: c }
 }
 
 // Whether v is as low as the corner in both, and lower in one.
@@ -144,16 +132,15 @@ pub fn covers(t: &[u8], row: &[u8], leg: Leg, k: usize, corner: Corner, near: us
     }
 }
 
-// Deals with the site at p, whose cut is about `near`: the row that begins the work buffer becomes the list of one site more.
-pub fn deal_near(t: &[u8], leg: Leg, p: usize, work: &mut [u8], k: usize, near: usize) -> usize
-    requires { ⌜ Held leg (now t) (now work) k × LegOnGrid leg × HasSite (now t) p ⌝ }
-    requires { ⌜ Space leg (now t) (now work) k p × (2 * rowBytes ≤ length (now work)) ⌝ }
-    ensures { λ r. ⌜ Dealt leg (now (t .entry)) (now (work .entry)) k p (now (work .exit)) r ⌝ }
+// Deals with the site x, whose cut is about `near`: the row that begins the work buffer becomes the list of one site more.
+pub fn deal_vertex(t: &[u8], leg: Leg, x: Vertex, work: &mut [u8], k: usize, near: usize) -> usize
+    requires { ⌜ Held leg (now t) (now work) k × LegOnGrid leg × HasSite (now t) (x .place) × IsVertex leg (now t) (x .place) x ⌝ }
+    requires { ⌜ Space leg (now t) (now work) k (x .place) × (2 * rowBytes ≤ length (now work)) ⌝ }
+    ensures { λ r. ⌜ Dealt leg (now (t .entry)) (now (work .entry)) k (x .place) (now (work .exit)) r ⌝ }
 {
     if k == limits::MAX_SITES {
         return k;
     }
-    let x = row::vertex_at(t, leg, p);
     let corner = Corner { a: x.a, c: x.c };
     if covered_by_end(t, work, leg, k, corner) {
         return k;
@@ -171,5 +158,6 @@ pub fn deal(t: &[u8], leg: Leg, p: usize, work: &mut [u8], k: usize) -> usize
     requires { ⌜ Space leg (now t) (now work) k p × (2 * rowBytes ≤ length (now work)) ⌝ }
     ensures { λ r. ⌜ Dealt leg (now (t .entry)) (now (work .entry)) k p (now (work .exit)) r ⌝ }
 {
-    deal_near(t, leg, p, work, k, limits::MAX_SITES)
+    let x = row::vertex_at(t, leg, p);
+    deal_vertex(t, leg, x, work, k, limits::MAX_SITES)
 }

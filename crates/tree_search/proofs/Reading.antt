@@ -3,16 +3,22 @@
 use mathlib.Core.Path.{_≡_, refl, sym, ap, subst, subst⁻¹, _∙_}
 use mathlib.Core.Bool.{Bool, true}
 use mathlib.Core.List.{List, _++_}
-use Prim.Native.Nat.{ℕ, suc, _*_, _-_, _≤_, _<_}
+use Prim.Native.Nat.{ℕ, suc, _+_, _*_, _-_, _≤_, _<_}
 use native.Mathlib.Omega.{arith}
 use lib.ListN.{length}
 use Rattle.limits.specs.Limits.{maxSites}
+use Rattle.grid.specs.declared.Position.{Position}
 use Rattle.grid.specs.declared.Site.{Site}
 use Rattle.grid.specs.declared.Leg.{Leg}
-use Rattle.grid.specs.Position.{OnGrid}
+use Rattle.grid.specs.Position.{OnGrid, squaredDifference, distance}
+use Rattle.grid.specs.Area.{outside, areaDistance}
 use Rattle.grid.specs.Says.{If}
+use Rattle.split.specs.SplitList.{rank}
+use Rattle.split.specs.Skip.{Witness}
+use Rattle.row.specs.Vertices.{IsVertex, stack}
 use Rattle.row.specs.Places.{siteAtByte, siteAt, HasSite}
-use Rattle.row_skip.specs.Skipping.{Space, Dealt}
+use Rattle.row_skip.specs.declared.Corner.{Corner}
+use Rattle.row_skip.specs.Skipping.{IsCorner, Space, Dealt}
 use Rattle.row_skip.proofs.Witnesses.{if-true}
 use Rattle.node.specs.declared.Entry.{Entry}
 use Rattle.node.specs.Layout.{place}
@@ -23,10 +29,11 @@ use Rattle.rtree.specs.Perm.{Perm}
 use Rattle.rtree.proofs.Every.{each-at}
 use Rattle.rtree.proofs.Totals.{leaves-under}
 use Rattle.rtree.proofs.Perms.{perm-sym}
-use Rattle.tree_search.specs.Sites.{siteOf, LeafPoint, Placed}
-use Rattle.tree_search.specs.Searching.{entryOf, under, around, Follows, Skips, Readable, Ahead, Searched}
+use Rattle.tree_search.specs.Sites.{siteOf, LeafPoint, areaOf, Placed}
+use Rattle.tree_search.specs.Searching.{entryOf, under, around, Follows, Readable, Ahead, Searched}
 use Rattle.tree_search.proofs.Orders.{perm-joined}
 use Rattle.tree_search.proofs.OnGrid.{placed, each-placed}
+use Rattle.tree_search.proofs.Corners.{corner-skips}
 use Rattle.tree_search.proofs.Around.{around-none, around-step, around-all}
 use Rattle.tree_search.proofs.Searching.{searched-none, searched-leaf, searched-skip, searched-perm, searched-then, ahead-first, ahead-rest, ahead-perm}
 
@@ -39,12 +46,19 @@ module _ (t : List ℕ) (h n i : ℕ) (rd : Readable t h n) (lt : i < length (en
     pub entry-placed : Placed (entryOf t n i)
     entry-placed = placed (entries t) h (entryOf t n i) entry-sound (ah .points)
 
-    pub entry-skipped : (b : Bool) → b ≡ true → If b (Skips l t r k (entryOf t n i)) → Searched l t r k (leaves (entries t) h (entryOf t n i)) r k
-    entry-skipped b e w = searched-skip (entries t) h (entryOf t n i) entry-sound (ah .points) (ah .held) (if-true b e w)
+    pub entry-skipped : {w : Corner} → IsCorner l (areaOf (entryOf t n i)) w → (b : Bool) → b ≡ true → If b (Witness (stack l t r k) (w .a) (w .c))
+        → Searched l t r k (leaves (entries t) h (entryOf t n i)) r k
+    entry-skipped {w} q b e f =
+        searched-skip (entries t) h (entryOf t n i) entry-sound (ah .points) (ah .held) (corner-skips l t r k (entryOf t n i) w q (if-true b e f))
 
 byte-site : (t : List ℕ) (x : ℕ) → siteAtByte t x ≡ siteOf (entryAt t x)
 unfolding siteAtByte entryAt
 byte-site t x = refl
+
+-- the box of a leaf entry is a point
+point-distance : (e : Entry) (q : Position) → LeafPoint e → areaDistance (areaOf e) q ≡ distance (siteOf e .position) q
+unfolding areaDistance distance outside squaredDifference
+point-distance e q p = rw (p .east, p .north)
 
 -- entry i of the leaf n begins with a site record, at the place p
 module _ (t : List ℕ) (n i p : ℕ) (lt : i < length (entries t n)) (at : 2 * p ≡ place n i) where
@@ -66,6 +80,27 @@ module _ (t : List ℕ) (n i p : ℕ) (lt : i < length (entries t n)) (at : 2 * 
           small = omega (arith, eight t n, rd .id);
           inside = omega (arith, eight t n, rd .id, rd .len);
           on-grid = subst⁻¹ (λ (s : Site). OnGrid (s .position)) leaf-site (leaf-point ah .on-grid);
+        }
+
+    pub leaf-small : p < 65536
+    leaf-small = leaf-has .small
+
+    pub leaf-inside : 2 * p + 6 ≤ length t
+    leaf-inside = leaf-has .inside
+
+    leaf-far : (q : Position) → areaDistance (areaOf (entryOf t n i)) q ≡ distance (siteAt t p .position) q
+    leaf-far q =
+        point-distance (entryOf t n i) q (leaf-point ah) ∙ ap (λ (s : Site). distance (s .position) q) (sym leaf-site)
+
+    -- the corner of its box has the site's distances
+    pub leaf-vertex : {w : Corner} {s : Site} → IsCorner l (areaOf (entryOf t n i)) w → s ≡ siteAt t p
+        → IsVertex l t p (record { place = p; a = w .a; c = w .c; number = s .number })
+    unfolding rank
+    leaf-vertex k e =
+        record {
+          place-is = refl;
+          is = λ j. record { a = (k .a-is ∙ leaf-far (l .s)) j; c = (k .c-is ∙ leaf-far (l .e)) j; order = e j .number; site = siteAt t p };
+          small = record { small-a = k .small .small-a; small-c = k .small .small-c };
         }
 
     pub leaf-space : Space l t r k p

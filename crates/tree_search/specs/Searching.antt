@@ -3,11 +3,12 @@
 -- Assumes nothing.
 use mathlib.Core.Path.{_≡_}
 use mathlib.Core.List.{List, _++_}
-use Prim.Native.Nat.{ℕ, _+_, _*_, _≤_, _<_}
+use Prim.Native.Nat.{ℕ, _+_, _*_, _^_, _≤_, _<_}
 use lib.ListN.{length, getD, take, drop}
 use Rattle.limits.specs.Limits.{maxSites, maxNodes, tableBytes}
 use Rattle.words.specs.Words.{Only}
 use Rattle.grid.specs.declared.Site.{Site}
+use Rattle.grid.specs.declared.Position.{Position}
 use Rattle.grid.specs.declared.Leg.{Leg}
 use Rattle.grid.specs.Position.{LegOnGrid}
 use Rattle.grid.specs.Area.{areaDistance}
@@ -35,6 +36,11 @@ around l i left = take left (drop i (l ++ l))
 pub record Follows (m i j : ℕ) : Type 0 where
   pub inner : i + 1 < m → j ≡ i + 1
   pub last : m ≤ i + 1 → j ≡ 0
+
+-- the first m numbers of far are how far q is from the boxes of node n's entries, squared
+pub record Measured (q : Position) (t : List ℕ) (n m : ℕ) (far : List ℕ) : Type 0 where
+  pub is : (i : ℕ) → i < m → getD far i 0 ≡ areaDistance (areaOf (entryOf t n i)) q
+  pub small : (i : ℕ) → i < m → getD far i 0 < 2 ^ 31
 
 -- two vertices of the row shut out all that lies in e's box
 abbrev pub Skips : Leg → List ℕ → List ℕ → ℕ → Entry → Type 0

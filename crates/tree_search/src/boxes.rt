@@ -1,20 +1,17 @@
-// The boxes of a node's entries, seen from the leg.
+// The boxes of a node's entries, seen from an end of the leg: measured once, for the choice of the first entry and for the tests.
 use grid::Area;
-use grid::Leg;
+use grid::Position;
 use node::Entry;
-use row_skip::Corner;
-use row_skip::Seen;
 ghost use mathlib.Core.Path.{_≡_};
-ghost use Prim.Native.Nat.{_<_};
+ghost use Prim.Native.Nat.{_^_, _<_};
 ghost use lib.ListN.{length};
 ghost use Rattle.limits.specs.Limits.{maxNodes, tableBytes};
-ghost use Rattle.grid.specs.Position.{LegOnGrid};
-ghost use Rattle.grid.specs.Says.{If};
-ghost use Rattle.row.specs.Vertices.{Held};
-ghost use Rattle.row_skip.specs.Skipping.{IsCorner};
+ghost use Rattle.grid.specs.Position.{OnGrid};
+ghost use Rattle.grid.specs.Area.{areaDistance};
 ghost use Rattle.node.specs.Node.{entries};
+ghost use Rattle.rtree.specs.Tree.{Each};
 ghost use Rattle.tree_search.specs.Sites.{areaOf, Placed};
-ghost use Rattle.tree_search.specs.Searching.{entryOf, Skips};
+ghost use Rattle.tree_search.specs.Searching.{entryOf, Measured};
 
 // The box of an entry.
 fn area_of(e: Entry) -> Area
@@ -28,23 +25,29 @@ fn area_of(e: Entry) -> Area
     }
 }
 
-// The corner of the box of entry i of node n.
-pub fn corner_at(t: &[u8], leg: Leg, n: usize, i: usize) -> Corner
+// How far q is from the box of entry i of node n, squared.
+fn distance_at(t: &[u8], q: Position, n: usize, i: usize) -> u32
     requires { ⌜ (length (now t) ≡ tableBytes) × (n < maxNodes) × (i < length (entries (now t) n)) ⌝ }
-    requires { ⌜ LegOnGrid leg × Placed (entryOf (now t) n i) ⌝ }
-    ensures { λ r. ⌜ IsCorner leg (areaOf (entryOf (now (t .entry)) n i)) r ⌝ }
+    requires { ⌜ OnGrid q × Each Placed (entries (now t) n) ⌝ }
+    ensures { λ r. ⌜ (r ≡ areaDistance (areaOf (entryOf (now (t .entry)) n i)) q) × (r < 2 ^ 31) ⌝ }
 {
     let e = node::pool::entry_at(t, n, i);
     let area = area_of(e);
-    row_skip::corner_of(leg, area)
+    grid::distance::from_area(area, q) as u32
 }
 
-// Whether the list shuts out all that lies under entry i of node n, where the cuts are about `near`.
-pub fn shuts(t: &[u8], row: &[u8], leg: Leg, k: usize, n: usize, i: usize, near: usize) -> Seen
-    requires { ⌜ (length (now t) ≡ tableBytes) × (n < maxNodes) × (i < length (entries (now t) n)) ⌝ }
-    requires { ⌜ LegOnGrid leg × Placed (entryOf (now t) n i) × Held leg (now t) (now row) k ⌝ }
-    ensures { λ (r : Seen). ⌜ If (r .shut) (Skips leg (now (t .entry)) (now (row .entry)) k (entryOf (now (t .entry)) n i)) ⌝ }
+// How far q is from the boxes of node n, squared.
+pub fn distances(t: &[u8], q: Position, n: usize) -> [u32; 8]
+    requires { ⌜ (length (now t) ≡ tableBytes) × (n < maxNodes) ⌝ }
+    requires { ⌜ OnGrid q × Each Placed (entries (now t) n) ⌝ }
+    ensures { λ r. ⌜ Measured q (now (t .entry)) n (length (entries (now (t .entry)) n)) r ⌝ }
 {
-    let corner = corner_at(t, leg, n, i);
-    row_skip::covers(t, row, leg, k, corner, near)
+    let m = node::pool::count(t, n);
+    let mut far: [u32; 8] = [0; 8];
+    let mut i: usize = 0;
+    while i < m {
+        far[i] = distance_at(t, q, n, i);
+        i += 1;
+    }
+    far
 }

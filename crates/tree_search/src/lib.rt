@@ -28,9 +28,11 @@ pub fn search(t: &[u8], leg: Leg, work: &mut [u8]) -> usize
     match root {
         Root::Empty => 0,
         Root::Top(g, n) => {
-            let first = nearest::nearest(t, leg, n);
+            let a = boxes::distances(t, leg.s, n);
+            let c = boxes::distances(t, leg.e, n);
             let all = node::pool::count(t, n);
-            descent::search_node(t, leg, g, n, first, all, work, 0, 0)
+            let first = nearest::nearest(&a, &c, all);
+            descent::search_node(t, leg, g, n, first, all, &a, &c, work, 0, 0)
         }
     }
 }

@@ -4,13 +4,10 @@ use Rattle.tree_search.proofs.nearest.nearest.Statement.{statement}
 use Rattle.tree_search.proofs.nearest.nearest.Tie as tie
 
 abbrev Inv-loop : tie.InvT-loop
-Inv-loop t leg n m best₀ least₀ i₀ best least i = best < m
+Inv-loop a c m best₀ least₀ i₀ best least i = best < m
 
 abbrev μ-loop : tie.MeasureT-loop
-μ-loop t leg n m best₀ least₀ i₀ best least i = m - i
-
-count-requires : tie.Need-count-requires Inv-loop μ-loop
-count-requires c κs = search needs
+μ-loop a c m best₀ least₀ i₀ best least i = m - i
 
 reach-requires : tie.Need-reach-requires Inv-loop μ-loop
 reach-requires c κs = search needs
@@ -48,7 +45,6 @@ nearest-spec =
     (tie.spec
     Inv-loop
     μ-loop
-    count-requires
     reach-requires
     loop-holds
     reach-requires-2

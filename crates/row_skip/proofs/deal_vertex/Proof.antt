@@ -1,15 +1,11 @@
 use borrow.Author.Needs.{needs}
 use native.Mathlib.Omega.{arith}
-use Rattle.row.proofs.Reading.{itself, itself-has}
 use Rattle.row_skip.proofs.Dealing.{deal-full, deal-skipped, deal-inserted}
-use Rattle.row_skip.proofs.deal_near.Statement.{statement}
-use Rattle.row_skip.proofs.deal_near.Tie as tie
+use Rattle.row_skip.proofs.deal_vertex.Statement.{statement}
+use Rattle.row_skip.proofs.deal_vertex.Tie as tie
 
 returns : tie.Need-returns
 returns c = search (needs, deal-full)
-
-vertex-at-requires : tie.Need-vertex-at-requires
-vertex-at-requires c κs = search needs
 
 covered-by-end-requires : tie.Need-covered-by-end-requires
 covered-by-end-requires c κs = search needs
@@ -33,10 +29,7 @@ returns-3 : tie.Need-returns-3
 returns-3 c = search (needs, deal-skipped)
 
 insert-requires : tie.Need-insert-requires
-insert-requires c κs =
-    let s = c .before .before .before .before .before .before .before .before .before .before .before .before .before in
-    let v = c .before .before .before .before .before .before .before .before .before .vertex-at .ensures in
-    ((s .pre .0 .0, s .pre .0 .1, record { few = omega arith; row = omega arith }, search needs), (itself v, itself-has v (s .pre .0 .2)))
+insert-requires c κs = ((search needs, search needs, record { few = omega arith; row = omega arith }, search needs), (search needs, search needs))
 
 same-length-3 : tie.Need-same-length-3
 same-length-3 c = search needs
@@ -44,12 +37,11 @@ same-length-3 c = search needs
 returns-4 : tie.Need-returns-4
 returns-4 c = search (needs, deal-inserted)
 
-pub deal-near-spec : {M : Type 1} → statement M
-deal-near-spec =
+pub deal-vertex-spec : {M : Type 1} → statement M
+deal-vertex-spec =
     tie.close
     (tie.spec
     returns
-    vertex-at-requires
     covered-by-end-requires
     same-length
     returns-2
