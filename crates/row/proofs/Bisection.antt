@@ -1,6 +1,7 @@
 -- Where a row is cut: the loops of `cut`, `climb` and `fall`.
 -- Assumes nothing.
 use mathlib.Core.Path.{_≡_, subst}
+use mathlib.Core.Logic.{_≢_}
 use mathlib.Core.List.{List}
 use Prim.Native.Nat.{ℕ, _+_, _-_, _≤_, _<_}
 use native.Mathlib.Omega.{arith}
@@ -34,20 +35,30 @@ module _ {l : Leg} {t r : List ℕ} {k a lo hi : ℕ} (n : Narrowed l t r k a lo
       }
 
 -- The steps and returns of `climb` and `fall`, and the first look of `cut_near`.
-module _ {l : Leg} {t r : List ℕ} {k a n : ℕ} {u : Vertex} where
-  pub climb-found : Narrowed l t r k a n k → IsVertex l t (placeAt r n) u → n < k → a < u .a → Held l t r k → Cut l t r k a n
-  climb-found w hu h g hd = cut-found (cut-down w hu (omega arith) h g) (omega arith) hd
+module _ {l : Leg} {t r : List ℕ} {k a n : ℕ} where
+  pub climb-end : Narrowed l t r k a n k → n ≡ k → Held l t r k → Cut l t r k a k
+  climb-end w e hd = rw e at (cut-found w (omega arith) hd)
 
-  pub fall-found : Narrowed l t r k a 0 n → IsVertex l t (placeAt r (n - 1)) u → 0 < n → u .a ≤ a → Held l t r k → Cut l t r k a n
-  fall-found w hu h g hd =
-      let e : (n - 1) + 1 ≡ n = omega arith in
-      cut-found (rw e at (cut-up w hu (omega arith) g)) (omega arith) hd
+  pub fall-end : Narrowed l t r k a 0 n → n ≡ 0 → Held l t r k → Cut l t r k a 0
+  fall-end w e hd = cut-found w (omega arith) hd
 
-  pub fall-less : Narrowed l t r k a 0 n → IsVertex l t (placeAt r (n - 1)) u → 0 < n → a < u .a → Narrowed l t r k a 0 (n - 1)
-  fall-less w hu h g = cut-down w hu (omega arith) (omega arith) g
+  module _ {u : Vertex} where
+    pub climb-found : Narrowed l t r k a n k → n ≢ k → IsVertex l t (placeAt r n) u → a < u .a → Held l t r k → Cut l t r k a n
+    climb-found w h hu g hd = let o = w .order in cut-found (cut-down w hu (omega arith) (omega arith) g) (omega arith) hd
 
-  pub climb-begun : IsVertex l t (placeAt r n) u → n < k → u .a ≤ a → Narrowed l t r k a (n + 1) k
-  climb-begun hu h g = cut-up (cut-begun l t r k a) hu h g
+    pub climb-more : Narrowed l t r k a n k → n ≢ k → IsVertex l t (placeAt r n) u → u .a ≤ a → Narrowed l t r k a (n + 1) k
+    climb-more w h hu g = let o = w .order in cut-up w hu (omega arith) g
 
-  pub fall-begun : IsVertex l t (placeAt r n) u → n < k → a < u .a → Narrowed l t r k a 0 n
-  fall-begun hu h g = cut-down (cut-begun l t r k a) hu (omega arith) h g
+    pub fall-found : Narrowed l t r k a 0 n → n ≢ 0 → IsVertex l t (placeAt r (n - 1)) u → u .a ≤ a → Held l t r k → Cut l t r k a n
+    fall-found w h hu g hd =
+        let e : (n - 1) + 1 ≡ n = omega arith in
+        cut-found (rw e at (cut-up w hu (omega arith) g)) (omega arith) hd
+
+    pub fall-less : Narrowed l t r k a 0 n → n ≢ 0 → IsVertex l t (placeAt r (n - 1)) u → a < u .a → Narrowed l t r k a 0 (n - 1)
+    fall-less w h hu g = cut-down w hu (omega arith) (omega arith) g
+
+    pub climb-begun : IsVertex l t (placeAt r n) u → n < k → u .a ≤ a → Narrowed l t r k a (n + 1) k
+    climb-begun hu h g = cut-up (cut-begun l t r k a) hu h g
+
+    pub fall-begun : IsVertex l t (placeAt r n) u → n < k → a < u .a → Narrowed l t r k a 0 n
+    fall-begun hu h g = cut-down (cut-begun l t r k a) hu (omega arith) h g

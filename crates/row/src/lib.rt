@@ -86,13 +86,13 @@ fn probe(lo: usize, hi: usize, k: usize) -> usize
     lo + (hi - lo) / 2
 }
 
-// How many of the first k are not right of a, by bisection.
-pub fn cut(t: &[u8], row: &[u8], leg: Leg, k: usize, a: u32) -> usize
-    requires { ⌜ Held leg (now t) (now row) k × LegOnGrid leg ⌝ }
+// How many of the first k are not right of a, by bisection from lo to hi.
+fn bisect(t: &[u8], row: &[u8], leg: Leg, k: usize, a: u32, from: usize, to: usize) -> usize
+    requires { ⌜ Held leg (now t) (now row) k × LegOnGrid leg × Narrowed leg (now t) (now row) k a from to ⌝ }
     ensures { λ r. ⌜ Cut leg (now (t .entry)) (now (row .entry)) k a r ⌝ }
 {
-    let mut lo = 0;
-    let mut hi = k;
+    let mut lo = from;
+    let mut hi = to;
     while lo < hi {
         let mid = probe(lo, hi, k);
         let u = vertex_in(t, row, leg, k, mid);
@@ -105,36 +105,57 @@ pub fn cut(t: &[u8], row: &[u8], leg: Leg, k: usize, a: u32) -> usize
     lo
 }
 
-// How many of the first k are not right of a: at least n, which then rises one by one.
+// How many of the first k are not right of a.
+pub fn cut(t: &[u8], row: &[u8], leg: Leg, k: usize, a: u32) -> usize
+    requires { ⌜ Held leg (now t) (now row) k × LegOnGrid leg ⌝ }
+    ensures { λ r. ⌜ Cut leg (now (t .entry)) (now (row .entry)) k a r ⌝ }
+{
+    bisect(t, row, leg, k, a, 0, k)
+}
+
+// So many steps from a guess; then a bisection is quicker, however wrong the guess is.
+const STEPS: usize = 8;
+
+// How many of the first k are not right of a: at least n, which rises one by one.
 fn climb(t: &[u8], row: &[u8], leg: Leg, k: usize, a: u32, n: usize) -> usize
     requires { ⌜ Held leg (now t) (now row) k × LegOnGrid leg × Narrowed leg (now t) (now row) k a n k ⌝ }
     ensures { λ r. ⌜ Cut leg (now (t .entry)) (now (row .entry)) k a r ⌝ }
 {
     let mut i = n;
-    while i < k {
+    let mut left = STEPS;
+    while 0 < left {
+        if i == k {
+            return k;
+        }
         let u = vertex_in(t, row, leg, k, i);
         if a < u.a {
             return i;
         }
         i += 1;
+        left -= 1;
     }
-    i
+    bisect(t, row, leg, k, a, i, k)
 }
 
-// How many of the first k are not right of a: at most n, which then falls one by one.
+// How many of the first k are not right of a: at most n, which falls one by one.
 fn fall(t: &[u8], row: &[u8], leg: Leg, k: usize, a: u32, n: usize) -> usize
     requires { ⌜ Held leg (now t) (now row) k × LegOnGrid leg × Narrowed leg (now t) (now row) k a 0 n ⌝ }
     ensures { λ r. ⌜ Cut leg (now (t .entry)) (now (row .entry)) k a r ⌝ }
 {
     let mut i = n;
-    while 0 < i {
+    let mut left = STEPS;
+    while 0 < left {
+        if i == 0 {
+            return 0;
+        }
         let u = vertex_in(t, row, leg, k, i - 1);
         if u.a <= a {
             return i;
         }
         i -= 1;
+        left -= 1;
     }
-    0
+    bisect(t, row, leg, k, a, 0, i)
 }
 
 // How many of the first k are not right of a, where about `near` are: steps that are few and can be foreseen are quicker than a bisection.

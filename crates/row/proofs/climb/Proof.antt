@@ -1,37 +1,45 @@
 use borrow.Author.Needs.{needs}
 use native.Mathlib.Omega.{arith}
-use Prim.Native.Nat.{_-_}
 use Rattle.row.specs.Vertices.{Narrowed}
-use Rattle.row.proofs.Bisection.{cut-up, cut-found, climb-found}
+use Rattle.row.proofs.Bisection.{climb-end, climb-found, climb-more}
 use Rattle.row.proofs.climb.Statement.{statement}
 use Rattle.row.proofs.climb.Tie as tie
 
 abbrev Inv-loop : tie.InvT-loop
-Inv-loop t row leg k a n i₀ i = Narrowed leg t row k a i k
+Inv-loop t row leg k a n i₀ left₀ i left = Narrowed leg t row k a i k
 
 abbrev μ-loop : tie.MeasureT-loop
-μ-loop t row leg k a n i₀ i = k - i
+μ-loop t row leg k a n i₀ left₀ i left = left
 
 loop-holds : tie.Need-loop-holds Inv-loop μ-loop
 loop-holds c = search needs
 
-vertex-in-requires : tie.Need-vertex-in-requires Inv-loop μ-loop
-vertex-in-requires c κs = search needs
-
 returns : tie.Need-returns Inv-loop μ-loop
-returns c = search (needs, climb-found)
+returns c = search (needs, climb-end)
+
+vertex-in-requires : tie.Need-vertex-in-requires Inv-loop μ-loop
+vertex-in-requires c κs = (search needs, search needs, search needs)
+
+returns-2 : tie.Need-returns-2 Inv-loop μ-loop
+returns-2 c = search (needs, climb-found)
 
 add-i : tie.Need-add-i Inv-loop μ-loop
 add-i c = omega arith
+
+sub-left : tie.Need-sub-left Inv-loop μ-loop
+sub-left c = omega arith
 
 loop-less : tie.Need-loop-less Inv-loop μ-loop
 loop-less c = omega arith
 
 loop-again : tie.Need-loop-again Inv-loop μ-loop
-loop-again c = search (needs, cut-up)
+loop-again c = climb-more (c .before .before .before .before .before .loop .inv) (search needs) (c .before .before .vertex-in .ensures) (omega arith)
 
-returns-2 : tie.Need-returns-2 Inv-loop μ-loop
-returns-2 c = search (needs, cut-found)
+bisect-requires : tie.Need-bisect-requires Inv-loop μ-loop
+bisect-requires c κs = search needs
+
+returns-3 : tie.Need-returns-3 Inv-loop μ-loop
+returns-3 c = search needs
 
 pub climb-spec : {M : Type 1} → statement M
 climb-spec =
@@ -40,9 +48,12 @@ climb-spec =
     Inv-loop
     μ-loop
     loop-holds
-    vertex-in-requires
     returns
+    vertex-in-requires
+    returns-2
     add-i
+    sub-left
     loop-less
     loop-again
-    returns-2)
+    bisect-requires
+    returns-3)

@@ -1,39 +1,48 @@
 use borrow.Author.Needs.{needs}
 use native.Mathlib.Omega.{arith}
 use Rattle.row.specs.Vertices.{Narrowed}
-use Rattle.row.proofs.Bisection.{cut-found, fall-found, fall-less}
+use Rattle.row.proofs.Bisection.{fall-end, fall-found, fall-less}
 use Rattle.row.proofs.fall.Statement.{statement}
 use Rattle.row.proofs.fall.Tie as tie
 
 abbrev Inv-loop : tie.InvT-loop
-Inv-loop t row leg k a n i₀ i = Narrowed leg t row k a 0 i
+Inv-loop t row leg k a n i₀ left₀ i left = Narrowed leg t row k a 0 i
 
 abbrev μ-loop : tie.MeasureT-loop
-μ-loop t row leg k a n i₀ i = i
+μ-loop t row leg k a n i₀ left₀ i left = left
 
 loop-holds : tie.Need-loop-holds Inv-loop μ-loop
 loop-holds c = search needs
+
+returns : tie.Need-returns Inv-loop μ-loop
+returns c = search (needs, fall-end)
 
 sub-vertex-in : tie.Need-sub-vertex-in Inv-loop μ-loop
 sub-vertex-in c = omega arith
 
 vertex-in-requires : tie.Need-vertex-in-requires Inv-loop μ-loop
-vertex-in-requires c κs = search needs
+vertex-in-requires c κs = (search needs, search needs, search needs)
 
-returns : tie.Need-returns Inv-loop μ-loop
-returns c = search (needs, fall-found)
+returns-2 : tie.Need-returns-2 Inv-loop μ-loop
+returns-2 c = search (needs, fall-found)
 
 sub-i : tie.Need-sub-i Inv-loop μ-loop
 sub-i c = omega arith
+
+sub-left : tie.Need-sub-left Inv-loop μ-loop
+sub-left c = omega arith
 
 loop-less : tie.Need-loop-less Inv-loop μ-loop
 loop-less c = omega arith
 
 loop-again : tie.Need-loop-again Inv-loop μ-loop
-loop-again c = search (needs, fall-less)
+loop-again c = fall-less (c .before .before .before .before .before .loop .inv) (search needs) (c .before .before .vertex-in .ensures) (omega arith)
 
-returns-2 : tie.Need-returns-2 Inv-loop μ-loop
-returns-2 c = search (needs, cut-found)
+bisect-requires : tie.Need-bisect-requires Inv-loop μ-loop
+bisect-requires c κs = search needs
+
+returns-3 : tie.Need-returns-3 Inv-loop μ-loop
+returns-3 c = search needs
 
 pub fall-spec : {M : Type 1} → statement M
 fall-spec =
@@ -42,10 +51,13 @@ fall-spec =
     Inv-loop
     μ-loop
     loop-holds
+    returns
     sub-vertex-in
     vertex-in-requires
-    returns
+    returns-2
     sub-i
+    sub-left
     loop-less
     loop-again
-    returns-2)
+    bisect-requires
+    returns-3)

@@ -1,19 +1,19 @@
-use Rattle.row.proofs.cut.Statement.{statement}
+use Rattle.row.proofs.bisect.Statement.{statement}
 use borrow.Author.Needs.{needs}
 use native.Mathlib.Omega.{arith}
 use Prim.Native.Nat.{_-_}
 use Rattle.row.specs.Vertices.{Narrowed}
-use Rattle.row.proofs.Bisection.{cut-begun, cut-up, cut-down, cut-found}
-use Rattle.row.proofs.cut.Tie as tie
+use Rattle.row.proofs.Bisection.{cut-up, cut-down, cut-found}
+use Rattle.row.proofs.bisect.Tie as tie
 
 abbrev Inv-loop : tie.InvT-loop
-Inv-loop t row leg k a lo₀ hi₀ lo hi = Narrowed leg t row k a lo hi
+Inv-loop t row leg k a from to lo₀ hi₀ lo hi = Narrowed leg t row k a lo hi
 
 abbrev μ-loop : tie.MeasureT-loop
-μ-loop t row leg k a lo₀ hi₀ lo hi = hi - lo
+μ-loop t row leg k a from to lo₀ hi₀ lo hi = hi - lo
 
 loop-holds : tie.Need-loop-holds Inv-loop μ-loop
-loop-holds c = search (needs, cut-begun)
+loop-holds c = search needs
 
 probe-requires : tie.Need-probe-requires Inv-loop μ-loop
 probe-requires c κs = search needs
@@ -41,8 +41,8 @@ loop-again-2 c =
 returns : tie.Need-returns Inv-loop μ-loop
 returns c = search (needs, cut-found)
 
-pub cut-spec : {M : Type 1} → statement M
-cut-spec =
+pub bisect-spec : {M : Type 1} → statement M
+bisect-spec =
     tie.close
     (tie.spec
     Inv-loop
