@@ -1,13 +1,12 @@
 -- DEMAND 1, proved over the record of the batch call's contract alone.
 -- Assumes nothing.
-use mathlib.Core.Path.{_≡_, refl, sym, ap, _∙_, subst}
+use mathlib.Core.Path.{_≡_, refl, sym, ap, _∙_}
 use mathlib.Core.Logic.{_≢_, _⊎_}
-use mathlib.Core.List.{List, [], _∷_}
+use mathlib.Core.List.{List}
 use Prim.Native.Nat.{ℕ, _≤_}
 use lib.ListN.{length, drop}
 use lib.Seq.{drop-append-seam}
 use Rattle.book.specs.declared.Command.{Command}
-use Rattle.book.specs.declared.Reason.{Reason}
 use Rattle.book.specs.declared.Reason.the-variants.{AllUsed, UnknownCommand, CutShort, NoRoom}
 use Rattle.book.specs.declared.BatchResult.{BatchResult}
 use Rattle.book.specs.Reply.{Reply, done, refused, listed}

@@ -1,15 +1,14 @@
 -- DEMAND 2, proved over the record of the batch call's contract alone.
 -- Assumes nothing.
-use mathlib.Core.Path.{_≡_, refl, sym, ap, _∙_, subst}
+use mathlib.Core.Path.{_≡_, sym, ap, _∙_, subst}
 use mathlib.Core.List.{List, [], _∷_, _++_, map, append-assoc}
 use Prim.Native.Nat.{ℕ, _+_, _≤_}
 use lib.ListN.{length}
 use Rattle.grid.specs.declared.Leg.{Leg}
-use Rattle.split.specs.SplitList.{Entry, IsSplitList}
+use Rattle.split.specs.SplitList.{IsSplitList}
 use Rattle.split.specs.SplitOf.{splitOf}
 use Rattle.records.specs.ListRecord.{recordBytes}
 use Rattle.records.specs.Decode.{listedOf, readRecord}
-use Rattle.book.specs.declared.Command.{Command}
 use Rattle.book.specs.declared.Command.the-variants.{List as ListOf}
 use Rattle.book.specs.declared.Reason.the-variants.{AllUsed}
 use Rattle.book.specs.Book.{Book}
@@ -22,11 +21,11 @@ use Rattle.book.proofs.ProperBooks.{proper-numbered}
 use Rattle.book.proofs.Runs.{turnOf, afterAll, records-append, records-one, call-right, run-book}
 use Rattle.book.proofs.Prefixes.{Grown, comes-to}
 use Rattle.book.proofs.Lists.{answer-read}
-use Rattle.table.specs.Table.{Sound, bookOf}
+use Rattle.table.specs.Table.{bookOf}
 use Rattle.table.proofs.Books.{sound-proper}
 use Rattle.demands.specs.Step.{Holds, Chain}
 use Rattle.demands.specs.Step.Chain.{none, next}
-use Rattle.demands.specs.Whole.{Call, Said, said, asked, taken, saidBy}
+use Rattle.demands.specs.Whole.{Call, Said}
 use Rattle.demands.specs.Demands.{AllNearest, ComesTo, Printed, Demand2}
 use Rattle.demands.proofs.Chains.{chain-holds}
 use Rattle.demands.proofs.WholeRun.{served-call, one-call}

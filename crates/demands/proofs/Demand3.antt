@@ -5,29 +5,26 @@ use mathlib.Core.Logic.{_≢_, _⊎_, inl, inr, ⊎-map}
 use mathlib.Core.Option.{Option, none, some}
 use mathlib.Core.List.{List, [], _∷_, _++_, map, List·Memᴰ, List·Memᴰ·cases-cons, List·Memᴰ·not-nil}
 use mathlib.Core.Bool.{Bool, true, false, cond}
-use Prim.Native.Nat.{ℕ, _≤_, _<_}
+use Prim.Native.Nat.{ℕ, _≤_}
 use native.Mathlib.Omega.{arith}
 use lib.ListN.{length}
 use lib.Dec.{eqb}
 use Rattle.limits.specs.Limits.{workBytes}
-use Rattle.grid.specs.declared.Position.{Position}
 use Rattle.grid.specs.declared.Site.{Site}
 use Rattle.grid.specs.declared.Leg.{Leg}
 use Rattle.grid.specs.declared.Fraction.{Fraction}
 use Rattle.grid.specs.Position.{OnGrid, LegOnGrid}
 use Rattle.grid.specs.Fraction.{IsFraction}
-use Rattle.split.specs.SplitList.{Entry, IsSplitList, Stretches, Numbered, SameSites, CoversAt, NearestAt, nameAt}
+use Rattle.split.specs.SplitList.{Entry, IsSplitList, Numbered, SameSites, nameAt}
 use Rattle.split.specs.SplitOf.{splitOf}
-use Rattle.split.proofs.Closed.{closed}
 use Rattle.split.proofs.Unique.{order-free}
 use Rattle.split.proofs.Exists.{split-is}
-use Rattle.split.proofs.Dealing.{no-site, order-free-of}
+use Rattle.split.proofs.Dealing.{no-site}
 use Rattle.split.proofs.Names as names
 use Rattle.records.specs.ListRecord.{recordBytes}
 use Rattle.book.specs.declared.Command.{Command}
 use Rattle.book.specs.declared.Command.the-variants.{Add, Remove, List as ListOf, Print}
 use Rattle.book.specs.declared.Cause.the-variants.{NoSite, NoLeg}
-use Rattle.book.specs.declared.Reason.{Reason}
 use Rattle.book.specs.declared.Reason.the-variants.{AllUsed, WrongLength, Broken}
 use Rattle.book.specs.Numbers.{reasonNumber}
 use Rattle.book.specs.Book.{Book, emptyBook, change, writeLine, strikeLine, listOf, standingList}
@@ -38,18 +35,17 @@ use Rattle.book.specs.Reply.{Reply, done, refused, listed, recordOf}
 use Rattle.book.specs.Answer.{answer, after}
 use Rattle.book.specs.Run.{Outcome, ends, run, call}
 use Rattle.book.proofs.Lines.{write-sites, strike-sites}
-use Rattle.book.proofs.Answers.{answer-list-done, answer-print-legless, answer-print-empty, answer-print-done, add-accepted}
+use Rattle.book.proofs.Answers.{answer-print-legless, answer-print-empty, answer-print-done}
 use Rattle.book.proofs.ProperBooks.{proper-numbered}
 use Rattle.book.proofs.Runs.{call-right, run-not-broken}
-use Rattle.book.proofs.ReadBack.{PositionSmall, Encodable}
-use Rattle.book.proofs.Refill.{refill, allSites, Roomy, afterCalls, legFree}
+use Rattle.book.proofs.ReadBack.{Encodable}
+use Rattle.book.proofs.Refill.{refill, allSites, Roomy, afterCalls}
 use Rattle.book.proofs.Refill as refills
-use Rattle.table.specs.Table.{Sound, bookOf}
 use Rattle.table.proofs.Books.{sound-proper}
 use Rattle.demands.specs.Step.{Holds}
 use Rattle.demands.specs.Whole.Made.{none as no-call, next}
 use Rattle.demands.specs.Whole.Filled.{none as no-ask, next as more-asks}
-use Rattle.demands.specs.Whole.{Call, MadeOn, Made, Ran, Said, said, Ask, asked, taken, saidBy, replies, bookAfter, bookOfRun, Filled, Asks, Room, Wrote}
+use Rattle.demands.specs.Whole.{Call, Made, Ran, Said, said, Ask, asked, taken, bookAfter, bookOfRun, Filled, Asks, Room, Wrote}
 use Rattle.demands.specs.Demands.{list4C, print50, listRecord, AllNearest, FreshOf, Demand3}
 use Rattle.demands.proofs.WholeRun.{Answered, one-on, ran-holds, ran-answers, laid-holds}
 use Rattle.demands.proofs.Legs.{small, list-encodable, held-some, list-answer, list-right}

@@ -17,14 +17,14 @@ use Rattle.book.specs.Book.{Book}
 use Rattle.book.specs.Encode.{commandBytes}
 use Rattle.book.specs.Reply.{Reply, done, refused, listed, recordOf}
 use Rattle.book.specs.Answer.{answer, after}
-use Rattle.book.specs.Run.{Turn, Outcome, records, ends, run}
+use Rattle.book.specs.Run.{Turn, Outcome, ends, run}
 use Rattle.book.proofs.Runs.{turnOf, records-one, call-right}
 use Rattle.book.proofs.ReadBack.{Encodable, run-one, run-one-full}
-use Rattle.table.specs.Table.{Sound, bookOf}
+use Rattle.table.specs.Table.{bookOf}
 use Rattle.table.proofs.Books.{sound-len}
 use Rattle.demands.specs.Step.{Holds, Step, Chain}
 use Rattle.demands.specs.Step.Chain.{none, next}
-use Rattle.demands.specs.Batch.{lengthsOk, Served}
+use Rattle.demands.specs.Batch.{lengthsOk}
 use Rattle.demands.specs.Whole.{Call, Said, said, asked, taken, saidBy, Asks, Room, Wrote}
 use Rattle.demands.proofs.WholeRun.{Answered, one-on}
 

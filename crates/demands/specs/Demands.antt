@@ -63,9 +63,9 @@ abbrev pub NoneDone : List Turn → Type 0
 NoneDone [] = Unit {0}
 NoneDone (u ∷ us) = (u .reply ≢ done) × NoneDone us
 
--- DEMAND 1, "No call brings it down", of the calls that take commands: their ends, and what they leave.
+-- DEMAND 1, that no call brings it down, of the calls that take commands: their ends, and what they leave.
 pub record Demand1 : Type 0 where
-  -- "the reason is 0, 66, 67 or 68"
+  -- it ends with 0, 66, 67 or 68
   pub reason : (t t′ : List ℕ) (c : Call) → IsServed t c t′
       → (c .result .reason ≡ AllUsed) ⊎ (c .result .reason ≡ UnknownCommand) ⊎ (c .result .reason ≡ CutShort) ⊎ (c .result .reason ≡ NoRoom)
   -- 0 exactly when all command bytes are used
@@ -98,9 +98,9 @@ pub record Printed (c : Call) (past bytes : List ℕ) : Type 0 where
   pub rest : List ℕ
   pub written : said c .bytes ≡ (past ++ bytes) ++ rest
 
--- DEMAND 2, "Every list is right", wherever in a batch and on whatever sound table it is asked for.
+-- DEMAND 2, that every list is right, wherever in a batch and on whatever sound table it is asked for.
 pub record Demand2 : Type 0 where
-  -- "a leg on the grid gets its list whenever a site is held and the report has room"
+  -- a leg on the grid gets its list whenever a site is held and the report has room
   pub printed : (t t′ : List ℕ) (c : Call) (l : Leg) (o : Outcome) → ComesTo t c t′ l o → Printed c (records (o .turns)) (recordBytes (splitOf l (o .book .lines)))
   -- the list is document 01's, and each entry's site is nearest at every fraction that it covers
   pub right : (t t′ : List ℕ) (c : Call) (l : Leg) (o : Outcome) → ComesTo t c t′ l o

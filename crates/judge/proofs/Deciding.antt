@@ -4,9 +4,8 @@ use mathlib.Core.Path.{_≡_, sym, ap, subst, _∙_}
 use mathlib.Core.Logic.{_≢_}
 use mathlib.Core.Bool.{Bool, true, false}
 use mathlib.Core.List.{List}
-use mathlib.Core.Option.{Option, none, some}
+use mathlib.Core.Option.{some}
 use Prim.Native.Nat.{ℕ}
-use lib.ListN.{length}
 use Rattle.limits.specs.Limits.{maxSites}
 use Rattle.grid.specs.declared.Position.{Position}
 use Rattle.grid.specs.declared.Leg.{Leg}
@@ -18,7 +17,7 @@ use Rattle.book.specs.declared.Cause.the-variants.{NumberZero, OffGrid, Held, N
 use Rattle.book.specs.declared.Command.{Command}
 use Rattle.book.specs.declared.Command.the-variants.{Add, Remove, Move, List as ListOf, Stand, Print}
 use Rattle.book.specs.Proper.{LegOk}
-use Rattle.book.specs.Reply.{Reply, done, refused, listed}
+use Rattle.book.specs.Reply.{done, refused, listed}
 use Rattle.book.specs.Answer.{answer}
 use Rattle.book.proofs.Answers.{answer-add-zero, answer-add-off, answer-add-held, answer-add-full, answer-add-done, answer-remove-zero, answer-remove-absent, answer-remove-done, answer-move-zero, answer-move-off, answer-move-absent, answer-move-done, answer-list-off, answer-list-empty, answer-list-done, answer-stand-off, answer-stand-done, answer-print-legless, answer-print-empty, answer-print-done}
 use Rattle.sites.specs.declared.Found.{Found}

@@ -1,20 +1,19 @@
 -- The theorem, cited for three calls.
 -- Assumes nothing.
-use mathlib.Core.Path.{_≡_, refl, sym, ap, subst, _∙_}
-use mathlib.Core.List.{List, [], _∷_, map}
+use mathlib.Core.Path.{_≡_, ap, subst, _∙_}
+use mathlib.Core.List.{List, [], _∷_}
 use Prim.Native.Nat.{ℕ}
 use lib.ListN.{length, getD}
 use borrow.Author.Tests.{eq-eqb}
 use Rattle.limits.specs.Limits.{tableBytes}
 use Rattle.book.specs.declared.Reason.{Reason}
-use Rattle.book.specs.declared.Reason.the-variants.{AllUsed}
 use Rattle.book.specs.declared.BatchResult.{BatchResult}
-use Rattle.book.specs.Book.{Book, emptyBook}
+use Rattle.book.specs.Book.{emptyBook}
 use Rattle.demands.specs.Batch.{Batch, LaidOut}
-use Rattle.demands.specs.Whole.{Call, Made, Ran, Said, Ask, said, asked, taken, saidBy, replies}
+use Rattle.demands.specs.Whole.{Call, Ran, Said, said, asked, taken, saidBy, replies}
 use Rattle.demands.specs.Whole.Made.{none, next}
 use Rattle.demands.proofs.Demand3.{demand3}
-use Rattle.replay.specs.Replayed.{ask, saidWith, Replayed}
+use Rattle.replay.specs.Replayed.{ask, Replayed}
 
 module _ (t t₁ t₂ t₃ w w₂ w₃ cs₁ rep₁ rep₁′ cs₂ rep₂ rep₂′ : List ℕ) (laid : Reason) (r₁ r₂ : BatchResult) (l : LaidOut t laid t₁)
     (b₁ : Batch t₁ w cs₁ rep₁ r₁ t₂ w₂ rep₁′) (b₂ : Batch t₂ w₂ cs₂ rep₂ r₂ t₃ w₃ rep₂′) (kept : length w₂ ≡ length w) where

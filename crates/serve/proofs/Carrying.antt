@@ -10,7 +10,7 @@ use Rattle.grid.proofs.Says.{says-yes, says-no}
 use Rattle.records.specs.Bytes.{write}
 use Rattle.book.specs.declared.Command.{Command}
 use Rattle.book.specs.declared.Command.the-variants.{List as ListOf, Print}
-use Rattle.book.specs.Book.{Book, change}
+use Rattle.book.specs.Book.{change}
 use Rattle.book.specs.Reply.{Reply, done, recordOf}
 use Rattle.book.specs.Answer.{answer}
 use Rattle.book.proofs.Answers.{list-not-done, print-not-done}

@@ -2,9 +2,9 @@
 -- Assumes nothing.
 use mathlib.Core.Path.{_≡_, refl, sym, ap, subst, _∙_}
 use mathlib.Core.List.{List, [], _∷_, _++_, append-assoc}
-use Prim.Native.Nat.{ℕ, _+_, _-_, _*_, _≤_, _<_}
+use Prim.Native.Nat.{ℕ, _+_, _-_, _≤_, _<_}
 use native.Mathlib.Omega.{arith}
-use lib.ListN.{length, take, drop, length-append, length-drop}
+use lib.ListN.{length, drop, length-append, length-drop}
 use lib.Seq.{take-append-seam, drop-append-add, drop-drop}
 use Rattle.records.specs.Bytes.{write}
 use Rattle.records.proofs.Writing.{write-is}
@@ -15,13 +15,12 @@ use Rattle.book.specs.declared.Reason.{Reason}
 use Rattle.book.specs.declared.Reason.the-variants.{AllUsed, UnknownCommand, CutShort, NoRoom}
 use Rattle.book.specs.declared.BatchResult.{BatchResult}
 use Rattle.book.specs.Command.{parseAt}
-use Rattle.book.specs.Book.{Book}
-use Rattle.book.specs.Reply.{Reply, recordOf}
+use Rattle.book.specs.Reply.{recordOf}
 use Rattle.book.specs.Answer.{answer, after}
 use Rattle.book.specs.Run.{Turn, Outcome, records, ends, run}
 use Rattle.book.proofs.Runs.{records-append, records-one, records-more, turnOf, Steps, steps-none, ends-all, ends-unknown, ends-cut, ends-full, steps-less, steps-one}
 use Rattle.table.specs.Table.{bookOf, Sound}
-use Rattle.demands.specs.Step.{Holds, Step, Chain}
+use Rattle.demands.specs.Step.{Step, Chain}
 use Rattle.demands.specs.Step.Chain.{none, next}
 use Rattle.demands.specs.Batch.{result}
 use Rattle.demands.proofs.Chains.{chain-holds}

@@ -1,7 +1,6 @@
 use borrow.Author.Needs.{needs}
 use mathlib.Core.Path.{_≡_}
 use Prim.Native.Nat.{_-_}
-use native.Mathlib.Omega.{arith}
 use lib.ListN.{length}
 use Rattle.serve.proofs.Recording.{judged-few}
 use Rattle.serve.proofs.Turns.{Serving, serving-none, serving-sound, serving-fits, turn-fits, turn-room, ended-all, ended-unknown, ended-cut, ended-full, fewer-left, serving-one}
