@@ -33,27 +33,21 @@ impl Sites<'_> {
         low
     }
 
-    /// Whether the row's last vertex or its first shows that x cannot be listed.
-    fn covered_by_end(self, row: &[u16], x: Vertex) -> bool {
-        let (Some(first), Some(last)) = (row.first(), row.last()) else {
+    /// Whether the vertex before n or the edge there shows that x, whose cut is n, cannot be listed.
+    fn covers(self, row: &[u16], n: usize, x: Vertex) -> bool {
+        let Some(end) = row.len().checked_sub(1) else {
             return false;
         };
-        lower(self.vertex(*last), x) || lower(self.vertex(*first), x)
-    }
-
-    /// Whether the edge to the vertex at n does.
-    fn covered_by_edge(self, row: &[u16], n: usize, x: Vertex) -> bool {
-        0 < n && n < row.len() && above(self.vertex(row[n - 1]), self.vertex(row[n]), x)
+        let left = self.vertex(row[n.saturating_sub(1)]);
+        let right = self.vertex(row[n.min(end)]);
+        lower(left, x) || above(left, right, x)
     }
 
     /// Skips x or inserts it into the list in the first k.
     fn deal(self, row: &mut Row, k: usize, place: u16) -> usize {
         let x = self.vertex(place);
-        if self.covered_by_end(&row[..k], x) {
-            return k;
-        }
         let n = self.cut(&row[..k], x.a);
-        if self.covered_by_edge(&row[..k], n, x) {
+        if self.covers(&row[..k], n, x) {
             return k;
         }
         self.insert(row, k, n, place, x)

@@ -55,6 +55,20 @@ impl Vertex {
     }
 }
 
+/// Two sites that were listed when they were looked at.
+#[derive(Clone, Copy)]
+pub struct Edge {
+    left: Corner,
+    right: Corner,
+}
+
+impl Edge {
+    /// Whether its left end or the edge itself shuts the corner out.
+    pub fn shuts(self, x: Corner) -> bool {
+        lower(self.left, x) || above(self.left, self.right, x)
+    }
+}
+
 /// The vertices of a list, the one nearest to S first.
 #[derive(Default)]
 pub struct Row(Vec<Vertex>);
@@ -79,23 +93,24 @@ impl Row {
         self.0.partition_point(|vertex| vertex.corner.a <= a)
     }
 
-    /// Whether the list shuts out the corner: by its last vertex, its first, or one edge.
-    pub fn covers(&self, x: Corner) -> bool {
-        let (Some(first), Some(last)) = (self.0.first(), self.0.last()) else {
-            return false;
-        };
-        if lower(last.corner, x) || lower(first.corner, x) {
-            return true;
-        }
+    /// The vertices about the cut of x: the last that is not right of it and the first that is; at
+    /// an end of the row, that end twice.
+    pub fn edge(&self, x: Corner) -> Option<Edge> {
+        let end = self.0.len().checked_sub(1)?;
         let n = self.cut(x.a);
-        0 < n && n < self.0.len() && above(self.0[n - 1].corner, self.0[n].corner, x)
+        Some(Edge {
+            left: self.0[n.saturating_sub(1)].corner,
+            right: self.0[n.min(end)].corner,
+        })
     }
 
-    /// Skips the site or inserts it.
-    pub fn deal(&mut self, x: Vertex) {
-        if self.covers(x.corner) {
-            return;
-        }
+    /// Whether the list shuts out the corner.
+    pub fn covers(&self, x: Corner) -> bool {
+        self.edge(x).is_some_and(|edge| edge.shuts(x))
+    }
+
+    /// Inserts a site that the list does not shut out.
+    pub fn insert(&mut self, x: Vertex) {
         let n = self.cut(x.corner.a);
         let right = self.0.split_off(n);
         self.push(x);

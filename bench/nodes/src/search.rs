@@ -1,6 +1,6 @@
 //! The proved search in plain Rust (crate tree_search), over the same bytes.
 
-use crate::row::{Corner, Leg, Row, Vertex};
+use crate::row::{Corner, Edge, Leg, Row, Vertex};
 use service::bytes::{Entry, LEVELS, ROOT, node_at, number};
 
 /// The ids of nodes, in reading order.
@@ -33,26 +33,37 @@ impl<'t> Search<'t> {
             read: Vec::new(),
         };
         let (height, root) = root(table);
-        search.node(height, root);
+        search.node(height, root, None);
         search
     }
 
-    /// The entry nearest to S and E together first, then the others round.
-    fn node(&mut self, height: usize, node: usize) {
+    /// The entry nearest to S and E together first, then the others round. What the edge looked
+    /// at last shuts out is skipped with no look at the list.
+    fn node(&mut self, height: usize, node: usize, mut edge: Option<Edge>) {
         self.read.push(node);
         let all = count(self.table, node);
         let first = self.nearest(node, all);
         for i in (first..all).chain(0..first) {
-            self.entry(height, Entry::read(self.table, node, i));
+            edge = self.entry(height, Entry::read(self.table, node, i), edge);
         }
     }
 
-    fn entry(&mut self, height: usize, entry: Entry) {
-        if height == 0 {
-            self.row.deal(Vertex::of(self.leg, entry));
-        } else if !self.row.covers(Corner::of(self.leg, entry)) {
-            self.node(height - 1, usize::from(entry.reference));
+    fn entry(&mut self, height: usize, entry: Entry, known: Option<Edge>) -> Option<Edge> {
+        let corner = Corner::of(self.leg, entry);
+        let shut = |edge: Option<Edge>| edge.is_some_and(|edge| edge.shuts(corner));
+        if shut(known) {
+            return known;
         }
+        let edge = self.row.edge(corner);
+        if shut(edge) {
+            return edge;
+        }
+        if height == 0 {
+            self.row.insert(Vertex::of(self.leg, entry));
+        } else {
+            self.node(height - 1, usize::from(entry.reference), edge);
+        }
+        edge
     }
 
     /// The first of the entries with the least a + c.

@@ -1,10 +1,11 @@
 -- Common factors: what Euclid's rule keeps, and that it ends in the greatest one.
 -- Assumes nothing.
 use mathlib.Core.Path.{_≡_, refl, ap}
-use Prim.Native.Nat.{ℕ, zero, suc, _+_, _*_, _-_, _/_, _%_, _≤_}
+use mathlib.Core.Logic.{_⊎_, inl, inr}
+use Prim.Native.Nat.{ℕ, zero, suc, _+_, _*_, _-_, _/_, _%_, _≤_, _<_}
 use native.Mathlib.Omega.{arith}
 use native.Mathlib.Nat.{div-add-mod, mod-lt}
-use Rattle.grid.specs.Fraction.{Divides, IsGcd, gcdBy, gcdOf}
+use Rattle.grid.specs.Fraction.{Divides, IsGcd, NearestRest, gcdBy, gcdOf}
 use Rattle.grid.proofs.Order.{cancel-le}
 
 -- k a factor of n and of n + d is one of d
@@ -56,6 +57,31 @@ step a b x y h =
       back = λ k p q. h .back k (rw (div-add-mod x y) at (sum k (y * (x / y)) (x % y) (times-more k y (x / y) p) q)) p;
     }
 
+-- what is missing to y instead of the rest
+missing : (a b y r : ℕ) → r < y → SameFactors a b y r → SameFactors a b y (y - r)
+missing a b y r h s =
+    let e : r + (y - r) ≡ y = omega arith in
+    let f : (y - r) + r ≡ y = omega arith in
+    record {
+      to = λ k p q. let d = s .to k p q in (d .0, rest k r (y - r) (d .1) (rw e (d .0)));
+      back = λ k p q. s .back k p (rest k (y - r) r q (rw f p));
+    }
+
+pub step-near : (a b x y r : ℕ) → 0 < y → NearestRest x y r → SameFactors a b x y → SameFactors a b y r
+step-near a b x y r h q s = go (q .either) (step a b x y s)
+  where
+    go : (r ≡ x % y) ⊎ (r ≡ y - x % y) → SameFactors a b y (x % y) → SameFactors a b y r
+    go (inl e) f = rw e f
+    go (inr e) f = rw e (missing a b y (x % y) (mod-lt x {m = y} h) f)
+
+-- the returns of `nearest_rest`
+module _ (x y : ℕ) (h : 0 < y) where
+  pub rest-near : NearestRest x y (x % y)
+  rest-near = record { below = mod-lt x {m = y} h; either = inl refl }
+
+  pub missing-near : y - x % y < x % y → NearestRest x y (y - x % y)
+  missing-near l = record { below = omega (arith, mod-lt x {m = y} h); either = inr refl }
+
 pub done : (a b x : ℕ) → SameFactors a b x 0 → IsGcd a b x
 done a b x h =
     let d = h .back x (itself x) (nothing x) in
@@ -70,3 +96,22 @@ gcd-by (suc k) a b x (suc y) h s = gcd-by k a b (suc y) (x % suc y) (omega (arit
 pub gcd-is : (a b : ℕ) → IsGcd a b (gcdOf a b)
 unfolding gcdOf
 gcd-is a b = gcd-by b a b a b (omega arith) (same a b)
+
+antisym : (g h s t : ℕ) → h ≡ g * s → g ≡ h * t → g ≡ h
+antisym g h zero t e f = let z : h ≡ 0 = omega arith in omega (arith, rw z at f)
+antisym g h (suc s) zero e f = let z : g ≡ 0 = omega arith in omega (arith, rw z at e)
+antisym g h (suc s) (suc t) e f = omega arith
+
+-- there is one greatest common factor
+pub gcd-one : (a b g : ℕ) → IsGcd a b g → g ≡ gcdOf a b
+gcd-one a b g h =
+    let k = gcd-is a b in
+    let to = k .greatest g (h .left) (h .right) in
+    let back = h .greatest (gcdOf a b) (k .left) (k .right) in
+    antisym g (gcdOf a b) (to .times) (back .times) (to .is) (back .is)
+
+-- in either order
+pub gcd-flip : (a b : ℕ) → gcdOf b a ≡ gcdOf a b
+gcd-flip a b =
+    let k = gcd-is b a in
+    gcd-one a b (gcdOf b a) (record { left = k .right; right = k .left; greatest = λ d p q. k .greatest d q p })

@@ -1,13 +1,13 @@
 -- A fraction divided by the greatest common factor has none left; and the loop of `gcd`.
 -- Assumes nothing.
-use mathlib.Core.Path.{_≡_, refl, ap, sym, _∙_}
-use Prim.Native.Nat.{ℕ, zero, suc, _*_, _/_, _%_, _≤_, _<_}
+use mathlib.Core.Path.{_≡_, ap, sym, _∙_}
+use Prim.Native.Nat.{ℕ, zero, suc, _*_, _/_, _≤_, _<_}
 use native.Mathlib.Omega.{arith}
-use native.Mathlib.Nat.{mul-div-cancel-left, mod-lt}
+use native.Mathlib.Nat.{mul-div-cancel-left}
 use Rattle.grid.specs.declared.Fraction.{Fraction}
-use Rattle.grid.specs.Fraction.{Reduced, Divides, IsGcd, IsLowest, gcdBy, gcdOf, lowest}
+use Rattle.grid.specs.Fraction.{Reduced, Divides, IsGcd, IsLowest, gcdOf, lowest}
 use Rattle.grid.proofs.Order.{cancel-eq}
-use Rattle.grid.proofs.Factors.{factor-one, gcd-is}
+use Rattle.grid.proofs.Factors.{SameFactors, factor-one, done, gcd-is, gcd-one, gcd-flip}
 
 -- divided by it, a fraction has no common factor
 pub divided : (n d g : ℕ) (t : Fraction) → 1 ≤ d → IsGcd n d g → n ≡ g * t .num → d ≡ g * t .den → Reduced t
@@ -42,31 +42,13 @@ lowest-is n d p =
       reduced = divided n d (gcdOf n d) (record { num = n / gcdOf n d; den = d / gcdOf n d }) p g en ed;
     }
 
--- Euclid's rule: enough steps are enough.
-gcd-steps : (k j x y : ℕ) → y ≤ k → y ≤ j → gcdBy k x y ≡ gcdBy j x y
-unfolding gcdBy
-gcd-steps zero zero x y h g = refl
-gcd-steps zero (suc j) x zero h g = refl
-gcd-steps zero (suc j) x (suc y) h g = absurd (omega arith)
-gcd-steps (suc k) zero x zero h g = refl
-gcd-steps (suc k) zero x (suc y) h g = absurd (omega arith)
-gcd-steps (suc k) (suc j) x zero h g = refl
-gcd-steps (suc k) (suc j) x (suc y) h g =
-    gcd-steps k j (suc y) (x % suc y) (omega (arith, mod-lt x {m = suc y} (omega arith))) (omega (arith, mod-lt x {m = suc y} (omega arith)))
+-- the loop's end
+pub gcd-done : (a b x y : ℕ) → y ≡ 0 → SameFactors a b x y → x ≡ gcdOf a b
+gcd-done a b x y h s = gcd-one a b x (done a b x (rw h at s))
 
-pub gcd-next : (a b x y : ℕ) → 0 < y → gcdOf x y ≡ gcdOf a b → gcdOf y (x % y) ≡ gcdOf a b
-unfolding gcdOf gcdBy
-gcd-next a b x zero h e = absurd (omega arith)
-gcd-next a b x (suc y) h e =
-    gcd-steps (x % suc y) y (suc y) (x % suc y) (omega arith) (omega (arith, mod-lt x {m = suc y} (omega arith))) ∙ e
+pub gcd-positive : (n d f : ℕ) → 0 < d → f ≡ gcdOf d n → 0 < f
+gcd-positive n d f h e = omega (arith, gcd-flip n d, gcd-pos n d (gcdOf n d) h (gcd-is n d))
 
-pub gcd-done : (a b x y : ℕ) → y ≡ 0 → gcdOf x y ≡ gcdOf a b → x ≡ gcdOf a b
-unfolding gcdOf gcdBy
-gcd-done a b x y h e = rw h at e
-
-pub gcd-positive : (n d f : ℕ) → 0 < d → f ≡ gcdOf n d → 0 < f
-gcd-positive n d f h e = omega (arith, gcd-pos n d (gcdOf n d) h (gcd-is n d))
-
-pub lowest-by : (n d f : ℕ) → f ≡ gcdOf n d → _≡_ {A = Fraction} (record { num = n / f; den = d / f }) (lowest n d)
+pub lowest-by : (n d f : ℕ) → f ≡ gcdOf d n → _≡_ {A = Fraction} (record { num = n / f; den = d / f }) (lowest n d)
 unfolding lowest
-lowest-by n d f e = λ i. record { num = n / e i; den = d / e i }
+lowest-by n d f e = let q : f ≡ gcdOf n d = e ∙ gcd-flip n d in λ i. record { num = n / q i; den = d / q i }

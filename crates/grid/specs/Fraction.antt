@@ -2,7 +2,8 @@
 -- "A start is a numerator and a denominator without common factor". `Fraction` is the code's own struct (src/lib.rt).
 -- Assumes nothing.
 use mathlib.Core.Path.{_≡_}
-use Prim.Native.Nat.{ℕ, zero, suc, _*_, _/_, _%_, _≤_, _<_}
+use mathlib.Core.Logic.{_⊎_}
+use Prim.Native.Nat.{ℕ, zero, suc, _*_, _-_, _/_, _%_, _≤_, _<_}
 use Rattle.grid.specs.declared.Fraction.{Fraction}
 
 -- a fraction from 0 to 1
@@ -58,6 +59,11 @@ gcdBy (suc k) a (suc b) = gcdBy k (suc b) (a % suc b)
 -- the greatest common factor
 unfoldable pub gcdOf : ℕ → ℕ → ℕ
 gcdOf a b = gcdBy b a b
+
+-- r is the distance of x from a multiple of y: the rest, or what is missing to y
+pub record NearestRest (x y r : ℕ) : Type 0 where
+  pub below : r < y
+  pub either : (r ≡ x % y) ⊎ (r ≡ y - x % y)
 
 -- n / d without common factor, computed
 unfoldable pub lowest : ℕ → ℕ → Fraction

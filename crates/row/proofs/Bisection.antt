@@ -8,6 +8,7 @@ use native.Mathlib.Omega.{arith}
 use Rattle.grid.specs.declared.Leg.{Leg}
 use Rattle.row.specs.declared.Vertex.{Vertex}
 use Rattle.row.specs.Vertices.{IsVertex, placeAt, vertexIn, Held, Cut, Narrowed}
+use Rattle.row.specs.Gaps.{Stands, About}
 use Rattle.row.proofs.Reading.{a-of}
 use Rattle.row.proofs.Stacks.{rising}
 
@@ -34,28 +35,46 @@ module _ {l : Leg} {t r : List ℕ} {k a lo hi : ℕ} (n : Narrowed l t r k a lo
         right = λ i p q. omega (arith, f (omega arith), rising l t r k lo i p q (hd .convex));
       }
 
+pub stands-at : {l : Leg} {t r : List ℕ} {k n : ℕ} {u : Vertex} → IsVertex l t (placeAt r n) u → n < k → Stands l t r k u
+stands-at {n = n} hu h = record { at = n; within = h; is = hu }
+
 -- The steps and returns of `climb` and `fall`, and the first look of `cut_near`.
 module _ {l : Leg} {t r : List ℕ} {k a n : ℕ} where
-  pub climb-end : Narrowed l t r k a n k → n ≡ k → Held l t r k → Cut l t r k a k
-  climb-end w e hd = rw e at (cut-found w (omega arith) hd)
+  pub climb-end : {u : Vertex} → Narrowed l t r k a n k → n ≡ k → Held l t r k → Stands l t r k u → About l t r k a (record { n = k; left = u; right = u })
+  climb-end w e hd su = record { cut = rw e at (cut-found w (omega arith) hd); left = su; right = su }
 
-  pub fall-end : Narrowed l t r k a 0 n → n ≡ 0 → Held l t r k → Cut l t r k a 0
-  fall-end w e hd = cut-found w (omega arith) hd
+  pub fall-end : {v : Vertex} → Narrowed l t r k a 0 n → n ≡ 0 → Held l t r k → Stands l t r k v → About l t r k a (record { n = 0; left = v; right = v })
+  fall-end w e hd sv = record { cut = cut-found w (omega arith) hd; left = sv; right = sv }
 
   module _ {u : Vertex} where
-    pub climb-found : Narrowed l t r k a n k → n ≢ k → IsVertex l t (placeAt r n) u → a < u .a → Held l t r k → Cut l t r k a n
-    climb-found w h hu g hd = let o = w .order in cut-found (cut-down w hu (omega arith) (omega arith) g) (omega arith) hd
+    pub climb-found : {s : Vertex} → Narrowed l t r k a n k → n ≢ k → Stands l t r k s → IsVertex l t (placeAt r n) u → a < u .a → Held l t r k
+        → About l t r k a (record { n = n; left = s; right = u })
+    climb-found w h ss hu g hd =
+        let o = w .order in
+        record {
+          cut = cut-found (cut-down w hu (omega arith) (omega arith) g) (omega arith) hd;
+          left = ss;
+          right = record { at = n; within = omega arith; is = hu };
+        }
 
-    pub climb-more : Narrowed l t r k a n k → n ≢ k → IsVertex l t (placeAt r n) u → u .a ≤ a → Narrowed l t r k a (n + 1) k
-    climb-more w h hu g = let o = w .order in cut-up w hu (omega arith) g
+    pub climb-more : Narrowed l t r k a n k → n ≢ k → IsVertex l t (placeAt r n) u → u .a ≤ a → Narrowed l t r k a (n + 1) k × Stands l t r k u
+    climb-more w h hu g =
+        let o = w .order in
+        (cut-up w hu (omega arith) g, record { at = n; within = omega arith; is = hu })
 
-    pub fall-found : Narrowed l t r k a 0 n → n ≢ 0 → IsVertex l t (placeAt r (n - 1)) u → u .a ≤ a → Held l t r k → Cut l t r k a n
-    fall-found w h hu g hd =
+    pub fall-found : {v : Vertex} → Narrowed l t r k a 0 n → n ≢ 0 → Stands l t r k v → IsVertex l t (placeAt r (n - 1)) u → u .a ≤ a → Held l t r k
+        → About l t r k a (record { n = n; left = u; right = v })
+    fall-found w h sv hu g hd =
         let e : (n - 1) + 1 ≡ n = omega arith in
-        cut-found (rw e at (cut-up w hu (omega arith) g)) (omega arith) hd
+        record {
+          cut = cut-found (rw e at (cut-up w hu (omega arith) g)) (omega arith) hd;
+          left = record { at = n - 1; within = omega (arith, w .within); is = hu };
+          right = sv;
+        }
 
-    pub fall-less : Narrowed l t r k a 0 n → n ≢ 0 → IsVertex l t (placeAt r (n - 1)) u → a < u .a → Narrowed l t r k a 0 (n - 1)
-    fall-less w h hu g = cut-down w hu (omega arith) (omega arith) g
+    pub fall-less : Narrowed l t r k a 0 n → n ≢ 0 → IsVertex l t (placeAt r (n - 1)) u → a < u .a → Narrowed l t r k a 0 (n - 1) × Stands l t r k u
+    fall-less w h hu g =
+        (cut-down w hu (omega arith) (omega arith) g, record { at = n - 1; within = omega (arith, w .within); is = hu })
 
     pub climb-begun : IsVertex l t (placeAt r n) u → n < k → u .a ≤ a → Narrowed l t r k a (n + 1) k
     climb-begun hu h g = cut-up (cut-begun l t r k a) hu h g

@@ -8,7 +8,7 @@ use Rattle.grid.specs.declared.Leg.{Leg}
 use Rattle.split.specs.SplitList.{IsSplitList, Numbered, SameSites}
 use Rattle.split.specs.Hull.{pointOf}
 use Rattle.split.specs.SplitOf.{splitOf}
-use Rattle.split.specs.Skip.{Witness}
+use Rattle.split.specs.Skip.{ShutOut}
 use Rattle.split.proofs.Exists.{hull-is}
 use Rattle.split.proofs.Dealing.{none-dealt, skipped, hull-list}
 use Rattle.row.specs.Vertices.{stack, Lists, entriesIn}
@@ -25,7 +25,7 @@ module _ (l : Leg) (t r : List ℕ) where
   pub lists-is : (k : ℕ) (s u : List Site) → Numbered s → Numbered u → SameSites u s → Lists l t r k s → entriesIn l t r k ≡ splitOf l u
   lists-is k s u n m same d = hull-list l s u n m same (stack l t r k) d
 
-  -- SKIPPED: sites at or beyond a corner that two vertices shut out
-  pub lists-skipped : (k a c : ℕ) → Witness (stack l t r k) a c → (q : List Site)
+  -- SKIPPED: sites at or beyond a corner that the list shuts out
+  pub lists-skipped : (k a c : ℕ) → ShutOut (stack l t r k) a c → (q : List Site)
       → ((p : Site) → List·Memᴰ p q → (a ≤ pointOf l p .a) × (c ≤ pointOf l p .c)) → (s : List Site) → Lists l t r k s → Lists l t r k (q ++ s)
   lists-skipped k a c w q far s d = skipped l (stack l t r k) a c w q far s d

@@ -9,6 +9,7 @@ ghost use lib.ListN.{length};
 ghost use Rattle.grid.specs.Position.{LegOnGrid};
 ghost use Rattle.row.specs.Places.{siteAt, HasSite};
 ghost use Rattle.row.specs.Vertices.{IsVertex, placeAt, Held, Cut, Narrowed};
+ghost use Rattle.row.specs.Gaps.{Stands, About};
 
 // The bytes of a row that holds every site.
 pub const ROW_BYTES: usize = 2 * limits::MAX_SITES;
@@ -105,71 +106,134 @@ fn bisect(t: &[u8], row: &[u8], leg: Leg, k: usize, a: u32, from: usize, to: usi
     lo
 }
 
-// How many of the first k are not right of a.
-pub fn cut(t: &[u8], row: &[u8], leg: Leg, k: usize, a: u32) -> usize
-    requires { ⌜ Held leg (now t) (now row) k × LegOnGrid leg ⌝ }
-    ensures { λ r. ⌜ Cut leg (now (t .entry)) (now (row .entry)) k a r ⌝ }
+// A cut, and two vertices of the row about it: the last that is not right of the cut and the first that is; at an end of the row, that end twice.
+pub struct Gap {
+    pub n: usize,
+    pub left: Vertex,
+    pub right: Vertex,
+}
+
+// The index before n; 0 before 0.
+fn before(n: usize, k: usize) -> usize
+    requires { ⌜ (n ≤ k) × (0 < k) ⌝ }
+    ensures { λ r. ⌜ r < k ⌝ }
 {
-    bisect(t, row, leg, k, a, 0, k)
+    if n == 0 {
+        return 0;
+    }
+    n - 1
+}
+
+// The index n; the last of k behind the end.
+fn upto(n: usize, k: usize) -> usize
+    requires { ⌜ 0 < k ⌝ }
+    ensures { λ r. ⌜ r < k ⌝ }
+{
+    if n < k {
+        return n;
+    }
+    k - 1
+}
+
+// The cut at a, by bisection from lo to hi.
+fn bisected(t: &[u8], row: &[u8], leg: Leg, k: usize, a: u32, lo: usize, hi: usize) -> Gap
+    requires { ⌜ Held leg (now t) (now row) k × LegOnGrid leg × (0 < k) × Narrowed leg (now t) (now row) k a lo hi ⌝ }
+    ensures { λ r. ⌜ About leg (now (t .entry)) (now (row .entry)) k a r ⌝ }
+{
+    let n = bisect(t, row, leg, k, a, lo, hi);
+    let u = vertex_in(t, row, leg, k, before(n, k));
+    let v = vertex_in(t, row, leg, k, upto(n, k));
+    Gap {
+        n: n,
+        left: u,
+        right: v,
+    }
+}
+
+// The cut at a.
+pub fn cut(t: &[u8], row: &[u8], leg: Leg, k: usize, a: u32) -> Gap
+    requires { ⌜ Held leg (now t) (now row) k × LegOnGrid leg × (0 < k) ⌝ }
+    ensures { λ r. ⌜ About leg (now (t .entry)) (now (row .entry)) k a r ⌝ }
+{
+    bisected(t, row, leg, k, a, 0, k)
 }
 
 // So many steps from a guess; then a bisection is quicker, however wrong the guess is.
 const STEPS: usize = 8;
 
-// How many of the first k are not right of a: at least n, which rises one by one.
-fn climb(t: &[u8], row: &[u8], leg: Leg, k: usize, a: u32, n: usize) -> usize
-    requires { ⌜ Held leg (now t) (now row) k × LegOnGrid leg × Narrowed leg (now t) (now row) k a n k ⌝ }
-    ensures { λ r. ⌜ Cut leg (now (t .entry)) (now (row .entry)) k a r ⌝ }
+// The cut at a: at least n, before which u stands, and rising one by one.
+fn climb(t: &[u8], row: &[u8], leg: Leg, k: usize, a: u32, n: usize, u: Vertex) -> Gap
+    requires { ⌜ Held leg (now t) (now row) k × LegOnGrid leg × (0 < k) × Narrowed leg (now t) (now row) k a n k × Stands leg (now t) (now row) k u ⌝ }
+    ensures { λ r. ⌜ About leg (now (t .entry)) (now (row .entry)) k a r ⌝ }
 {
     let mut i = n;
+    let mut last = u;
     let mut left = STEPS;
     while 0 < left {
         if i == k {
-            return k;
+            return Gap {
+                n: k,
+                left: last,
+                right: last,
+            };
         }
-        let u = vertex_in(t, row, leg, k, i);
-        if a < u.a {
-            return i;
+        let v = vertex_in(t, row, leg, k, i);
+        if a < v.a {
+            return Gap {
+                n: i,
+                left: last,
+                right: v,
+            };
         }
+        last = v;
         i += 1;
         left -= 1;
     }
-    bisect(t, row, leg, k, a, i, k)
+    bisected(t, row, leg, k, a, i, k)
 }
 
-// How many of the first k are not right of a: at most n, which falls one by one.
-fn fall(t: &[u8], row: &[u8], leg: Leg, k: usize, a: u32, n: usize) -> usize
-    requires { ⌜ Held leg (now t) (now row) k × LegOnGrid leg × Narrowed leg (now t) (now row) k a 0 n ⌝ }
-    ensures { λ r. ⌜ Cut leg (now (t .entry)) (now (row .entry)) k a r ⌝ }
+// The cut at a: at most n, where v stands, and falling one by one.
+fn fall(t: &[u8], row: &[u8], leg: Leg, k: usize, a: u32, n: usize, v: Vertex) -> Gap
+    requires { ⌜ Held leg (now t) (now row) k × LegOnGrid leg × (0 < k) × Narrowed leg (now t) (now row) k a 0 n × Stands leg (now t) (now row) k v ⌝ }
+    ensures { λ r. ⌜ About leg (now (t .entry)) (now (row .entry)) k a r ⌝ }
 {
     let mut i = n;
+    let mut first = v;
     let mut left = STEPS;
     while 0 < left {
         if i == 0 {
-            return 0;
+            return Gap {
+                n: 0,
+                left: first,
+                right: first,
+            };
         }
         let u = vertex_in(t, row, leg, k, i - 1);
         if u.a <= a {
-            return i;
+            return Gap {
+                n: i,
+                left: u,
+                right: first,
+            };
         }
+        first = u;
         i -= 1;
         left -= 1;
     }
-    bisect(t, row, leg, k, a, 0, i)
+    bisected(t, row, leg, k, a, 0, i)
 }
 
-// How many of the first k are not right of a, where about `near` are: steps that are few and can be foreseen are quicker than a bisection.
-// From k on, near is no guess.
-pub fn cut_near(t: &[u8], row: &[u8], leg: Leg, k: usize, a: u32, near: usize) -> usize
-    requires { ⌜ Held leg (now t) (now row) k × LegOnGrid leg ⌝ }
-    ensures { λ r. ⌜ Cut leg (now (t .entry)) (now (row .entry)) k a r ⌝ }
+// The cut at a, which is about `near`: steps that are few and can be foreseen are quicker than a bisection. From k on, near is no guess.
+pub fn cut_near(t: &[u8], row: &[u8], leg: Leg, k: usize, a: u32, near: usize) -> Gap
+    requires { ⌜ Held leg (now t) (now row) k × LegOnGrid leg × (0 < k) ⌝ }
+    ensures { λ r. ⌜ About leg (now (t .entry)) (now (row .entry)) k a r ⌝ }
 {
     if k <= near {
         return cut(t, row, leg, k, a);
     }
     let u = vertex_in(t, row, leg, k, near);
     if u.a <= a {
-        return climb(t, row, leg, k, a, near + 1);
+        return climb(t, row, leg, k, a, near + 1, u);
     }
-    fall(t, row, leg, k, a, near)
+    fall(t, row, leg, k, a, near, u)
 }

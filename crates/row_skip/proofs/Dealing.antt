@@ -10,7 +10,7 @@ use Rattle.words.proofs.Frame.{only-refl, only-wider}
 use Rattle.grid.specs.declared.Leg.{Leg}
 use Rattle.grid.specs.Says.{If}
 use Rattle.split.specs.Hull.{Point, In, IsHull}
-use Rattle.split.specs.Skip.{Witness}
+use Rattle.split.specs.Skip.{ShutOut}
 use Rattle.split.proofs.HullLaws.{grow, covers-cons, self, members}
 use Rattle.split.proofs.Skipping.{skip-hull}
 use Rattle.row.specs.declared.Vertex.{Vertex}
@@ -33,7 +33,7 @@ module _ {l : Leg} {t r : List ℕ} {k p : ℕ} (hd : Held l t r k) where
       record { within = omega arith; held = hd; lists = λ s d. again (f (omega arith)) d; only = only-refl }
 
   module _ {x : Vertex} (hx : IsVertex l t p x) where
-    pub deal-skipped : (b : Bool) → b ≡ true → If b (Witness (stack l t r k) (x .a) (x .c)) → Dealt l t r k p r k
+    pub deal-skipped : (b : Bool) → b ≡ true → If b (ShutOut (stack l t r k) (x .a) (x .c)) → Dealt l t r k p r k
     deal-skipped b e w =
         record {
           within = omega arith;

@@ -1,4 +1,4 @@
-pub mod Corners
 pub mod Witnesses
 pub mod Dealing
 pub mod Spaces
+pub mod Knowing

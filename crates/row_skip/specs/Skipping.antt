@@ -2,6 +2,7 @@
 -- Document 01, "The tree": "Which subtrees a search skips is the team's choice."
 -- Assumes nothing.
 use mathlib.Core.Path.{_≡_}
+use mathlib.Core.Logic.{_⊎_}
 use mathlib.Core.List.{List, _∷_}
 use Prim.Native.Nat.{ℕ, _+_, _*_, _^_, _≤_, _<_}
 use Rattle.limits.specs.Limits.{maxSites}
@@ -10,15 +11,58 @@ use Rattle.grid.specs.declared.Site.{Site}
 use Rattle.grid.specs.declared.Leg.{Leg}
 use Rattle.grid.specs.declared.Area.{Area}
 use Rattle.grid.specs.Area.{areaDistance}
-use Rattle.split.specs.Hull.{In}
+use Rattle.grid.specs.Says.{If}
+use Rattle.split.specs.Hull.{Point, In}
+use Rattle.split.specs.Skip.{Shut, ShutOut}
+use Rattle.row.specs.declared.Gap.{Gap}
 use Rattle.row.specs.Places.{siteAt}
-use Rattle.row.specs.Vertices.{pointAt, rowBytes, stack, Held, Lists}
+use Rattle.row.specs.Vertices.{bare, pointAt, rowBytes, stack, Held, Lists, Cut}
 use Rattle.row_skip.specs.declared.Corner.{Corner}
+use Rattle.row_skip.specs.declared.Edge.{Edge}
+use Rattle.row_skip.specs.declared.Seen.{Seen}
 
 -- squared distances that 31 bits hold
 pub record SmallCorner (k : Corner) : Type 0 where
   pub small-a : k .a < 2 ^ 31
   pub small-c : k .c < 2 ^ 31
+
+-- the left end of an edge as a point, where its site is not asked for
+abbrev pub leftOf : Edge → Point
+leftOf e = bare (record { place = 0; a = e .left .a; c = e .left .c; number = 0 })
+
+-- the right end
+abbrev pub rightOf : Edge → Point
+rightOf e = bare (record { place = 0; a = e .right .a; c = e .right .c; number = 0 })
+
+-- squared distances that 31 bits hold
+pub record SmallEdge (e : Edge) : Type 0 where
+  pub left : SmallCorner (e .left)
+  pub right : SmallCorner (e .right)
+
+-- the left end or the whole edge shuts the corner (a, c) out
+abbrev pub EdgeShuts : Edge → ℕ → ℕ → Type 0
+EdgeShuts e a c = Shut (leftOf e) (leftOf e) a c ⊎ Shut (leftOf e) (rightOf e) a c
+
+-- what the edge shuts out, the list l shuts out
+pub record Knows (e : Edge) (l : List Point) : Type 0 where
+  pub small : SmallEdge e
+  pub shuts : (k : Corner) → SmallCorner k → EdgeShuts e (k .a) (k .c) → ShutOut l (k .a) (k .c)
+
+-- what the edge shuts out, every list shuts out: nothing
+abbrev pub KnowsNothing : Edge → Type 0
+KnowsNothing e = (l : List Point) → Knows e l
+
+-- s has the cut of g, the edge of its two vertices, and says "shut" only if that edge shuts the corner k out
+pub record SeenAbout (g : Gap) (k : Corner) (s : Seen) : Type 0 where
+  pub cut : s .cut ≡ g .n
+  pub edge : s .edge ≡ record { left = record { a = g .left .a; c = g .left .c }; right = record { a = g .right .a; c = g .right .c } }
+  pub shut : If (s .shut) (EdgeShuts (s .edge) (k .a) (k .c))
+
+-- what s says of the corner k is true of the first n of the row r: "shut" only if the list shuts it out, its cut, and an edge of the list
+pub record Looked (l : Leg) (t r : List ℕ) (n : ℕ) (k : Corner) (s : Seen) : Type 0 where
+  pub shut : If (s .shut) (ShutOut (stack l t r n) (k .a) (k .c))
+  pub cut : Cut l t r n (k .a) (s .cut)
+  pub knows : Knows (s .edge) (stack l t r n)
 
 -- k has the squared distances of S and of E from the box: no site in it is nearer
 pub record IsCorner (l : Leg) (b : Area) (k : Corner) : Type 0 where

@@ -1,19 +1,20 @@
 // Skipping what cannot enter the list in a row, and dealing with a site: skipping it or inserting it.
-// One witness is enough for a skip: the last vertex, the first one, or the one edge at the cut. Ties are no skip (document 01,
-// "Where a list goes astray"; heuristic 2 of document 002 skips them).
+// One witness is enough for a skip: the vertex before the cut, or the one edge at the cut. Ties are no skip (document 01,
+// "Where a list goes astray"; heuristic 2 of document 002 skips them). A list only falls as sites are added, so what was a witness stays one.
 use grid::Leg;
+use row::Gap;
 use row::Vertex;
 ghost use mathlib.Core.Path.{_≡_};
 ghost use Prim.Native.Nat.{_+_, _*_, _^_, _<_, _≤_};
 ghost use lib.ListN.{length};
 ghost use Rattle.grid.specs.Position.{LegOnGrid};
 ghost use Rattle.grid.specs.Says.{If};
-ghost use Rattle.split.specs.Skip.{Shut, Witness};
+ghost use Rattle.split.specs.Skip.{Shut};
 ghost use Rattle.row.specs.Places.{HasSite};
-ghost use Rattle.row.specs.Vertices.{bare, Small, IsVertex, rowBytes, stack, Held};
-ghost use Rattle.row_skip.specs.Skipping.{SmallCorner, Space, Dealt};
+ghost use Rattle.row.specs.Vertices.{bare, Small, IsVertex, rowBytes, Held, Cut};
+ghost use Rattle.row_skip.specs.Skipping.{SmallCorner, SmallEdge, EdgeShuts, KnowsNothing, SeenAbout, Looked, Space, Dealt};
 
-// The least squared distances from S and from E of what lies in a box.
+// Squared distances from S and from E: the least ones of what lies in a box, or those of a site.
 pub struct Corner {
     pub a: u32,
     pub c: u32,
@@ -72,92 +73,133 @@ fn above(u: Vertex, v: Vertex, corner: Corner) -> bool
     false
 }
 
-// Whether the last vertex or the first one shuts the corner out.
-fn covered_by_end(t: &[u8], row: &[u8], leg: Leg, k: usize, corner: Corner) -> bool
-    requires { ⌜ Held leg (now t) (now row) k × LegOnGrid leg × SmallCorner corner ⌝ }
-    ensures { λ r. ⌜ If r (Witness (stack leg (now (t .entry)) (now (row .entry)) k) (corner .a) (corner .c)) ⌝ }
-{
-    if k == 0 {
-        return false;
-    }
-    let last = row::vertex_in(t, row, leg, k, k - 1);
-    if lower(last, corner) {
-        return true;
-    }
-    let first = row::vertex_in(t, row, leg, k, 0);
-    if lower(first, corner) {
-        return true;
-    }
-    false
+// Two sites that were listed when they were looked at, by their squared distances: what is known of a list without reading it.
+pub struct Edge {
+    pub left: Corner,
+    pub right: Corner,
 }
 
-// Whether the edge from n - 1 to n shuts the corner out.
-fn covered_by_edge(t: &[u8], row: &[u8], leg: Leg, k: usize, n: usize, corner: Corner) -> bool
-    requires { ⌜ Held leg (now t) (now row) k × LegOnGrid leg × SmallCorner corner ⌝ }
-    ensures { λ r. ⌜ If r (Witness (stack leg (now (t .entry)) (now (row .entry)) k) (corner .a) (corner .c)) ⌝ }
+// More than any squared distance.
+const FAR: u32 = 2147483647;
+
+// The edge that shuts nothing out.
+pub fn no_edge() -> Edge
+    ensures { λ r. ⌜ KnowsNothing r ⌝ }
 {
-    if n == 0 {
-        return false;
+    Edge {
+        left: Corner { a: FAR, c: FAR },
+        right: Corner { a: FAR, c: FAR },
     }
-    if k <= n {
-        return false;
+}
+
+// Whether the edge's left end or the edge itself shuts the corner out. No memory is read.
+pub fn shuts(edge: Edge, corner: Corner) -> bool
+    requires { ⌜ SmallEdge edge × SmallCorner corner ⌝ }
+    ensures { λ r. ⌜ If r (EdgeShuts edge (corner .a) (corner .c)) ⌝ }
+{
+    let u = Vertex {
+        place: 0,
+        a: edge.left.a,
+        c: edge.left.c,
+        number: 0,
+    };
+    if lower(u, corner) {
+        return true;
     }
-    let u = row::vertex_in(t, row, leg, k, n - 1);
-    let v = row::vertex_in(t, row, leg, k, n);
+    let v = Vertex {
+        place: 0,
+        a: edge.right.a,
+        c: edge.right.c,
+        number: 0,
+    };
     above(u, v, corner)
 }
 
-// What a test of a corner found: whether the list shuts it out, and a guess for the cut of what lies in its box.
+// What a look at a corner found: whether the list shuts it out, its cut, and the edge there.
 pub struct Seen {
     pub shut: bool,
-    pub near: usize,
+    pub cut: usize,
+    pub edge: Edge,
 }
 
-// Whether the list shuts out all that is at or beyond the corner. Any edge that passes is a proof, so which one is tried needs none.
-pub fn covers(t: &[u8], row: &[u8], leg: Leg, k: usize, corner: Corner, near: usize) -> Seen
-    requires { ⌜ Held leg (now t) (now row) k × LegOnGrid leg × SmallCorner corner ⌝ }
-    ensures { λ (r : Seen). ⌜ If (r .shut) (Witness (stack leg (now (t .entry)) (now (row .entry)) k) (corner .a) (corner .c)) ⌝ }
+// What the vertices about the cut of a corner tell.
+fn tell(gap: Gap, corner: Corner) -> Seen
+    requires { ⌜ Small (gap .left) × Small (gap .right) × SmallCorner corner ⌝ }
+    ensures { λ r. ⌜ SeenAbout gap corner r ⌝ }
 {
-    if covered_by_end(t, row, leg, k, corner) {
-        return Seen {
-            shut: true,
-            near: near,
-        };
-    }
-    let n = row::cut_near(t, row, leg, k, corner.a, near);
-    let shut = covered_by_edge(t, row, leg, k, n, corner);
+    let edge = Edge {
+        left: Corner {
+            a: gap.left.a,
+            c: gap.left.c,
+        },
+        right: Corner {
+            a: gap.right.a,
+            c: gap.right.c,
+        },
+    };
+    let shut = shuts(edge, corner);
     Seen {
         shut: shut,
-        near: n,
+        cut: gap.n,
+        edge: edge,
     }
 }
 
-// Deals with the site x, whose cut is about `near`: the row that begins the work buffer becomes the list of one site more.
-pub fn deal_vertex(t: &[u8], leg: Leg, x: Vertex, work: &mut [u8], k: usize, near: usize) -> usize
+// Looks whether the list shuts out all that is at or beyond the corner, whose cut is about `near`.
+pub fn covers(t: &[u8], row: &[u8], leg: Leg, k: usize, corner: Corner, near: usize) -> Seen
+    requires { ⌜ Held leg (now t) (now row) k × LegOnGrid leg × SmallCorner corner ⌝ }
+    ensures { λ r. ⌜ Looked leg (now (t .entry)) (now (row .entry)) k corner r ⌝ }
+{
+    if k == 0 {
+        return Seen {
+            shut: false,
+            cut: 0,
+            edge: no_edge(),
+        };
+    }
+    let gap = row::cut_near(t, row, leg, k, corner.a, near);
+    tell(gap, corner)
+}
+
+// Deals with the site x, of whose cut so many are not right: the row that begins the work buffer becomes the list of one site more.
+pub fn deal_vertex(t: &[u8], leg: Leg, x: Vertex, work: &mut [u8], k: usize, n: usize) -> usize
     requires { ⌜ Held leg (now t) (now work) k × LegOnGrid leg × HasSite (now t) (x .place) × IsVertex leg (now t) (x .place) x ⌝ }
-    requires { ⌜ Space leg (now t) (now work) k (x .place) × (2 * rowBytes ≤ length (now work)) ⌝ }
+    requires { ⌜ Space leg (now t) (now work) k (x .place) × (2 * rowBytes ≤ length (now work)) × Cut leg (now t) (now work) k (x .a) n ⌝ }
     ensures { λ r. ⌜ Dealt leg (now (t .entry)) (now (work .entry)) k (x .place) (now (work .exit)) r ⌝ }
 {
     if k == limits::MAX_SITES {
         return k;
     }
-    let corner = Corner { a: x.a, c: x.c };
-    if covered_by_end(t, work, leg, k, corner) {
-        return k;
-    }
-    let n = row::cut_near(t, work, leg, k, x.a, near);
-    if covered_by_edge(t, work, leg, k, n, corner) {
-        return k;
-    }
     row_insert::insert(t, work, leg, k, n, x)
 }
 
-// Deals with the site at p, of whose cut nothing is known.
+// Looks at the corner by bisection: of its cut nothing is known.
+fn look(t: &[u8], row: &[u8], leg: Leg, k: usize, corner: Corner) -> Seen
+    requires { ⌜ Held leg (now t) (now row) k × LegOnGrid leg × SmallCorner corner ⌝ }
+    ensures { λ r. ⌜ Looked leg (now (t .entry)) (now (row .entry)) k corner r ⌝ }
+{
+    if k == 0 {
+        return Seen {
+            shut: false,
+            cut: 0,
+            edge: no_edge(),
+        };
+    }
+    let gap = row::cut(t, row, leg, k, corner.a);
+    tell(gap, corner)
+}
+
+// Deals with the site at p, skipping it or inserting it. Not by `covers`: with one caller that one is compiled into the search.
 pub fn deal(t: &[u8], leg: Leg, p: usize, work: &mut [u8], k: usize) -> usize
     requires { ⌜ Held leg (now t) (now work) k × LegOnGrid leg × HasSite (now t) p ⌝ }
     requires { ⌜ Space leg (now t) (now work) k p × (2 * rowBytes ≤ length (now work)) ⌝ }
     ensures { λ r. ⌜ Dealt leg (now (t .entry)) (now (work .entry)) k p (now (work .exit)) r ⌝ }
 {
     let x = row::vertex_at(t, leg, p);
-    deal_vertex(t, leg, x, work, k, limits::MAX_SITES)
+    let corner = Corner { a: x.a, c: x.c };
+    let found = look(t, work, leg, k, corner);
+    if found.shut {
+        return k;
+    }
+    deal_vertex(t, leg, x, work, k, found.cut)
 }

@@ -13,7 +13,7 @@ use Rattle.grid.proofs.Nearest.{no-nearer}
 use Rattle.split.specs.SplitList.{IsSplitList, Numbered, SameSites}
 use Rattle.split.specs.Hull.{Point, pointOf, points, In, IsHull}
 use Rattle.split.specs.SplitOf.{push, insert, build, entriesOf, splitOf}
-use Rattle.split.specs.Skip.{Witness}
+use Rattle.split.specs.Skip.{ShutOut}
 use Rattle.split.proofs.HullLaws.{own}
 use Rattle.split.proofs.Insertion.{push-hull, insert-hull}
 use Rattle.split.proofs.Skipping.{skip-hull}
@@ -61,7 +61,7 @@ inserted-twice l p s n m h k =
     (inserted-list l p s (numbered-again p s m n) h k))
 
 -- sites at or beyond a corner that is shut out
-pub skipped : (l : Leg) (h : List Point) (a c : ℕ) → Witness h a c → (q : List Site)
+pub skipped : (l : Leg) (h : List Point) (a c : ℕ) → ShutOut h a c → (q : List Site)
     → ((p : Site) → List·Memᴰ p q → (a ≤ pointOf l p .a) × (c ≤ pointOf l p .c)) → (s : List Site) → IsHull (points l s) h → IsHull (points l (q ++ s)) h
 skipped l h a c w [] far s k = k
 skipped l h a c w (p ∷ q) far s k =
@@ -69,7 +69,7 @@ skipped l h a c w (p ∷ q) far s k =
     skip-hull w (pointOf l p) (f .0) (f .1) (skipped l h a c w q (λ x i. far x (List·Memᴰ·tail i)) s k)
 
 -- SKIPPED: the sites of a box whose corner is shut out change nothing
-pub skipped-list : (l : Leg) (b : Area) (h : List Point) → Witness h (areaDistance b (l .s)) (areaDistance b (l .e)) → (q : List Site)
+pub skipped-list : (l : Leg) (b : Area) (h : List Point) → ShutOut h (areaDistance b (l .s)) (areaDistance b (l .e)) → (q : List Site)
     → ((p : Site) → List·Memᴰ p q → Inside b (p .position)) → (s : List Site) → Numbered (q ++ s) → IsHull (points l s) h
     → IsSplitList l (q ++ s) (entriesOf h)
 skipped-list l b h w q inside s n k =

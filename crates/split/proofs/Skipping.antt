@@ -6,8 +6,8 @@ use Prim.Native.Nat.{ℕ, _+_, _*_, _-_, _≤_, _<_}
 use native.Mathlib.Nat.{mul-le-mul-left, mul-le-mul-right, mul-lt-mul-of-pos-left, lt-of-mul-lt-mul-left}
 use native.Mathlib.Decide.{decLe}
 use native.Mathlib.Omega.{arith}
-use Rattle.split.specs.Hull.{Point, value, rise, fall, Step, Beats, In, IsHull}
-use Rattle.split.specs.Skip.{Shut, Witness}
+use Rattle.split.specs.Hull.{Point, value, rise, fall, Step, Beats, In, Sub, IsHull}
+use Rattle.split.specs.Skip.{Shut, ShutOut, Witness}
 use Rattle.split.proofs.HullLaws.{grow, covers-one, covers-cons, self}
 use Rattle.split.proofs.Points.{mul-gap, gap, beats-less}
 
@@ -25,24 +25,35 @@ nearby : (m n x y : ℕ) (v : Point) (a c : ℕ) → 0 < n → v .a ≤ a → n 
 nearby m n x y v a c pn h k f =
     lt-of-mul-lt-mul-left y (omega (arith, mul-lt-mul-of-pos-left {k = n} f pn, rearranged (n * x) (y * m) (v .a) a k h))
 
-module _ {l : List Point} {a c : ℕ} (w : Witness l a c) where
-  pub found : (m n : ℕ) → 0 < m → 0 < n → (x : Point) × In x l × (value m n x < m * a + n * c)
-  found m n pm pn = go (decLe (w .shut .n * m) (n * w .shut .m))
-    where
-      s : Shut (w .u) (w .v) a c
-      s = w .shut
+-- TWO POINTS SHUT THE CORNER OUT
+pub witness-shuts : {l : List Point} {a c : ℕ} → Witness l a c → ShutOut l a c
+witness-shuts {l} {a} {c} w = record { below = λ m n pm pn. go m n pm pn (decLe (w .shut .n * m) (n * w .shut .m)) }
+  where
+    s : Shut (w .u) (w .v) a c
+    s = w .shut
 
-      go : Dec (w .shut .n * m ≤ n * w .shut .m) → (x : Point) × In x l × (value m n x < m * a + n * c)
-      go (yes k) = (w .v, w .has-v, further m n (s .m) (s .n) (w .v) a c pm (s .low) k (s .under-v))
-      go (no k) = (w .u, w .has-u, nearby m n (s .m) (s .n) (w .u) a c pn (s .left) (omega arith) (s .under-u))
+    go : (m n : ℕ) → 0 < m → 0 < n → Dec (w .shut .n * m ≤ n * w .shut .m) → (x : Point) × In x l × (value m n x < m * a + n * c)
+    go m n pm pn (yes k) = (w .v, w .has-v, further m n (s .m) (s .n) (w .v) a c pm (s .low) k (s .under-v))
+    go m n pm pn (no k) = (w .u, w .has-u, nearby m n (s .m) (s .n) (w .u) a c pn (s .left) (omega arith) (s .under-u))
 
+-- what a list shuts out stays shut out as points are added
+pub shut-kept : {l l′ Q Q′ : List Point} {a c : ℕ} → IsHull Q l → IsHull Q′ l′ → Sub Q Q′ → ShutOut l a c → ShutOut l′ a c
+shut-kept {l′ = l′} {a = a} {c = c} h h′ more w = record { below = go }
+  where
+    go : (m n : ℕ) → 0 < m → 0 < n → (v : Point) × In v l′ × (value m n v < m * a + n * c)
+    go m n pm pn =
+        let (x, i, f) = w .below m n pm pn in
+        let (v, j, b) = h′ .covers m n pm pn x (more x (h .sub x i)) in
+        (v, j, omega (arith, b .low))
+
+module _ {l : List Point} {a c : ℕ} (w : ShutOut l a c) where
   -- THE SKIP: nothing that is at least the corner in both changes the list
   pub skip-hull : (p : Point) → a ≤ p .a → c ≤ p .c → {Q : List Point} → IsHull Q l → IsHull (p ∷ Q) l
   skip-hull p ha hc {Q} h = grow (λ q i. List·Memᴰ·tail i) (covers-cons (covers-one below) (self λ q i. i)) h
     where
       below : (m n : ℕ) → 0 < m → 0 < n → (x : Point) × In x Q × Beats m n x p
       below m n pm pn =
-          let (x, i, f) = found m n pm pn in
+          let (x, i, f) = w .below m n pm pn in
           (x, h .sub x i, beats-less (omega (arith, mul-le-mul-left m ha, mul-le-mul-left n hc)))
 
   -- a whole box of points

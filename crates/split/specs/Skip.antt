@@ -1,4 +1,4 @@
--- When all that lies no nearer than a corner (a, c) may be skipped: two listed points of which one is below the corner at every weight.
+-- When all that lies no nearer than a corner (a, c) may be skipped: at every weight a listed point is below the corner, which two points show.
 -- Ties are no skip: a site at the corner itself might have the lower number.
 -- Assumes nothing.
 use mathlib.Core.List.{List}
@@ -13,6 +13,10 @@ pub record Shut (u v : Point) (a c : ℕ) : Type 0 where
   pub low : v .c ≤ c
   pub under-u : value m n u < m * a + n * c
   pub under-v : value m n v < m * a + n * c
+
+-- at every weight strictly inside the leg a point of the list is below the corner
+pub record ShutOut (l : List Point) (a c : ℕ) : Type 0 where
+  pub below : (m n : ℕ) → 0 < m → 0 < n → (x : Point) × In x l × (value m n x < m * a + n * c)
 
 -- two points of the list shut the corner out
 pub record Witness (l : List Point) (a c : ℕ) : Type 0 where

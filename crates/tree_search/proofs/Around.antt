@@ -19,6 +19,14 @@ pub follows-in : {m i j : ℕ} → i < m → Follows m i j → j < m
 follows-in {m} {i} {j} lt f =
     ⊎-elim (λ (h : m ≤ i + 1). omega (arith, f .last h)) (λ (h : i + 1 < m). omega (arith, f .inner h)) (le-or-lt m (i + 1))
 
+-- some entry follows
+pub follow : (m i : ℕ) → (j : ℕ) × Follows m i j
+follow m i =
+    ⊎-elim
+    (λ (h : m ≤ i + 1). (0, record { inner = λ g. absurd (omega arith); last = λ g. refl }))
+    (λ (h : i + 1 < m). (i + 1, record { inner = λ g. refl; last = λ g. absurd (omega arith) }))
+    (le-or-lt m (i + 1))
+
 module _ (l : List Entry) where
   pub around-none : (i : ℕ) → around l i 0 ≡ []
   unfolding around

@@ -11,7 +11,7 @@ use Rattle.grid.specs.declared.Position.{Position}
 use Rattle.grid.specs.declared.Leg.{Leg}
 use Rattle.grid.specs.declared.Area.{Area}
 use Rattle.grid.specs.Area.{AreaOnGrid, areaDistance}
-use Rattle.split.specs.Skip.{Witness}
+use Rattle.split.specs.Skip.{ShutOut}
 use Rattle.row.specs.Vertices.{stack}
 use Rattle.row_skip.specs.declared.Corner.{Corner}
 use Rattle.row_skip.specs.Skipping.{IsCorner}
@@ -35,14 +35,14 @@ pub placed-at : (t : List ℕ) (n i : ℕ) → Each Placed (entries t n) → i <
 placed-at t n i p lt = each-at Placed (entries t n) i noEntry p lt
 
 -- a list that shuts out the corner of e's box shuts out the box
-pub corner-skips : (l : Leg) (t r : List ℕ) (n : ℕ) (e : Entry) (k : Corner) → IsCorner l (areaOf e) k → Witness (stack l t r n) (k .a) (k .c) → Skips l t r n e
+pub corner-skips : (l : Leg) (t r : List ℕ) (n : ℕ) (e : Entry) (k : Corner) → IsCorner l (areaOf e) k → ShutOut (stack l t r n) (k .a) (k .c) → Skips l t r n e
 corner-skips l t r n e k c w =
     subst
-    (λ (x : ℕ). Witness (stack l t r n) (areaDistance (areaOf e) (l .s)) x)
+    (λ (x : ℕ). ShutOut (stack l t r n) (areaDistance (areaOf e) (l .s)) x)
     (c .c-is)
-    (subst (λ (x : ℕ). Witness (stack l t r n) x (k .c)) (c .a-is) w)
+    (subst (λ (x : ℕ). ShutOut (stack l t r n) x (k .c)) (c .a-is) w)
 
--- The loop of `distances`.
+-- The loop of `measure`.
 module _ {q : Position} {t : List ℕ} {n : ℕ} where
   pub measured-none : (far : List ℕ) → Measured q t n 0 far
   measured-none far = record { is = λ i h. absurd (omega arith); small = λ i h. absurd (omega arith) }

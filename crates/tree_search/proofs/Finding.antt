@@ -1,6 +1,6 @@
 -- The whole tree searched: its root node is read like any other, and the list found is that of all its sites.
 -- Assumes nothing.
-use mathlib.Core.Path.{_≡_, ap, subst}
+use mathlib.Core.Path.{_≡_, ap, subst, subst⁻¹}
 use mathlib.Core.List.{List, [], append-nil}
 use Prim.Native.Nat.{ℕ, _*_, _≤_, _<_}
 use native.Mathlib.Omega.{arith}
@@ -14,19 +14,15 @@ use Rattle.split.specs.SplitList.{Numbered, SameSites}
 use Rattle.split.specs.SplitOf.{splitOf}
 use Rattle.row.specs.Vertices.{rowBytes, Held, Lists, entriesIn}
 use Rattle.row.proofs.Listing.{lists-none, lists-is}
+use Rattle.node.specs.declared.Entry.{Entry}
 use Rattle.node.specs.declared.Root.{Root}
 use Rattle.node.specs.Node.{entries}
 use Rattle.node.specs.Header.{rootIn}
 use Rattle.rtree.specs.Tree.{leavesAt, Each}
 use Rattle.rtree.specs.Rooted.{treeLeaves, RootNode, Rooted, leavesIn}
-use Rattle.rtree.specs.Perm.{Perm}
-use Rattle.rtree.proofs.Perms.{perm-sym}
 use Rattle.rtree.proofs.Roots.{root-node}
-use Rattle.tree_search.specs.Sites.{LeafPoint, sites, Placed}
-use Rattle.tree_search.specs.Searching.{under, around, Readable, Ahead, Searched, Found}
-use Rattle.tree_search.proofs.OnGrid.{each-placed}
-use Rattle.tree_search.proofs.Reading.{node-order}
-use Rattle.tree_search.proofs.Searching.{searched-perm, ahead-perm}
+use Rattle.tree_search.specs.Sites.{LeafPoint, sites}
+use Rattle.tree_search.specs.Searching.{under, Readable, Ahead, Searched, Found}
 
 held-none : (l : Leg) (t r : List ℕ) → Held l t r 0
 held-none l t r = record { inside = omega arith; few = omega arith; sites = λ i h. absurd (omega arith); convex = tt }
@@ -60,23 +56,18 @@ module _ (t : List ℕ) (g n : ℕ) (rt : Rooted (rootIn t) t) (q : rootIn t ≡
   unfolding leavesIn treeLeaves leavesAt
   top-leaves = ap (treeLeaves (entries t)) q
 
-  pub top-placed : Each LeafPoint (leavesIn t) → Each Placed (entries t n)
-  top-placed p = each-placed (entries t) g (entries t n) (top .below) (subst (Each LeafPoint) top-leaves p)
-
-  top-order : (first all : ℕ) → first < length (entries t n) → all ≡ length (entries t n) → Perm (under t g (around (entries t n) first all)) (leavesIn t)
-  top-order first all f e = rw top-leaves (node-order t g n first all f e)
-
-  module _ (first all : ℕ) (f : first < length (entries t n)) (e : all ≡ length (entries t n)) (l : Leg) (r : List ℕ) where
+  module _ (l : Leg) (r : List ℕ) where
     pub top-ahead : Each LeafPoint (leavesIn t) → length (leavesIn t) ≤ maxSites → LegOnGrid l → 2 * rowBytes ≤ length r
-        → Ahead l t r 0 (under t g (around (entries t n) first all))
+        → Ahead l t r 0 (under t g (entries t n))
     top-ahead p few leg rows =
-        ahead-perm
-        (perm-sym (top-order first all f e))
+        subst
+        (Ahead l t r 0)
+        top-leaves
         (record { leg = leg; held = held-none l t r; rows = rows; points = p; room = omega arith })
 
-    pub top-found : (r′ : List ℕ) (m : ℕ) → Searched l t r 0 (under t g (around (entries t n) first all)) r′ m → Found l t r r′ m
+    pub top-found : (r′ : List ℕ) (m : ℕ) → Searched l t r 0 (under t g (entries t n)) r′ m → Found l t r r′ m
     top-found r′ m h =
-        let s : Searched l t r 0 (leavesIn t) r′ m = searched-perm (top-order first all f e) h in
+        let s : Searched l t r 0 (leavesIn t) r′ m = subst⁻¹ (λ (q : List Entry). Searched l t r 0 q r′ m) top-leaves h in
         record {
           within = omega (arith, s .within);
           held = s .held;

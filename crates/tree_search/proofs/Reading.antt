@@ -14,12 +14,15 @@ use Rattle.grid.specs.Position.{OnGrid, squaredDifference, distance}
 use Rattle.grid.specs.Area.{outside, areaDistance}
 use Rattle.grid.specs.Says.{If}
 use Rattle.split.specs.SplitList.{rank}
-use Rattle.split.specs.Skip.{Witness}
+use Rattle.split.specs.Skip.{ShutOut}
 use Rattle.row.specs.Vertices.{IsVertex, stack}
 use Rattle.row.specs.Places.{siteAtByte, siteAt, HasSite}
 use Rattle.row_skip.specs.declared.Corner.{Corner}
-use Rattle.row_skip.specs.Skipping.{IsCorner, Space, Dealt}
+use Rattle.row_skip.specs.declared.Edge.{Edge}
+use Rattle.row_skip.specs.declared.Seen.{Seen}
+use Rattle.row_skip.specs.Skipping.{EdgeShuts, Knows, Looked, IsCorner, Space, Dealt}
 use Rattle.row_skip.proofs.Witnesses.{if-true}
+use Rattle.row_skip.proofs.Knowing.{knows-kept}
 use Rattle.node.specs.declared.Entry.{Entry}
 use Rattle.node.specs.Layout.{place}
 use Rattle.node.specs.Node.{entryAt, entries, noEntry}
@@ -29,12 +32,13 @@ use Rattle.rtree.specs.Perm.{Perm}
 use Rattle.rtree.proofs.Every.{each-at}
 use Rattle.rtree.proofs.Totals.{leaves-under}
 use Rattle.rtree.proofs.Perms.{perm-sym}
-use Rattle.tree_search.specs.Sites.{siteOf, LeafPoint, areaOf, Placed}
-use Rattle.tree_search.specs.Searching.{entryOf, under, around, Follows, Readable, Ahead, Searched}
+use Rattle.tree_search.specs.declared.descent.Step.{Step}
+use Rattle.tree_search.specs.Sites.{siteOf, LeafPoint, sites, areaOf, Placed}
+use Rattle.tree_search.specs.Searching.{entryOf, under, around, Follows, Readable, Ahead, Searched, Stepped, Left}
 use Rattle.tree_search.proofs.Orders.{perm-joined}
 use Rattle.tree_search.proofs.OnGrid.{placed, each-placed}
 use Rattle.tree_search.proofs.Corners.{corner-skips}
-use Rattle.tree_search.proofs.Around.{around-none, around-step, around-all}
+use Rattle.tree_search.proofs.Around.{follows-in, follow, around-none, around-step, around-all}
 use Rattle.tree_search.proofs.Searching.{searched-none, searched-leaf, searched-skip, searched-perm, searched-then, ahead-first, ahead-rest, ahead-perm}
 
 -- entry i of node n, at height h
@@ -46,10 +50,30 @@ module _ (t : List ℕ) (h n i : ℕ) (rd : Readable t h n) (lt : i < length (en
     pub entry-placed : Placed (entryOf t n i)
     entry-placed = placed (entries t) h (entryOf t n i) entry-sound (ah .points)
 
-    pub entry-skipped : {w : Corner} → IsCorner l (areaOf (entryOf t n i)) w → (b : Bool) → b ≡ true → If b (Witness (stack l t r k) (w .a) (w .c))
+    pub entry-skipped : {w : Corner} → IsCorner l (areaOf (entryOf t n i)) w → (b : Bool) → b ≡ true → If b (ShutOut (stack l t r k) (w .a) (w .c))
         → Searched l t r k (leaves (entries t) h (entryOf t n i)) r k
     entry-skipped {w} q b e f =
         searched-skip (entries t) h (entryOf t n i) entry-sound (ah .points) (ah .held) (corner-skips l t r k (entryOf t n i) w q (if-true b e f))
+
+-- The returns of `search_entry`: the list has sites more, and the edge that was looked at is still known.
+pub step-on : {l : Leg} {t r r′ : List ℕ} {k m : ℕ} {q : List Entry} {e : Edge} → Ahead l t r k q → Knows e (stack l t r k) → Searched l t r k q r′ m
+    → Stepped l t r k q r′ (record { k = m; edge = e })
+step-on {r′ = r′} {m = m} {q = q} ah kn s = record { searched = s; knows = knows-kept r′ m (sites q) (ah .held) (s .lists) kn }
+
+pub step-leaf : {l : Leg} {t r r′ : List ℕ} {k m : ℕ} {e : Edge} (d : Entry) (h : ℕ) → h ≡ 0 → Ahead l t r k (leaves (entries t) h d) → Knows e (stack l t r k)
+    → Searched l t r k (leaves (entries t) 0 d) r′ m → Stepped l t r k (leaves (entries t) h d) r′ (record { k = m; edge = e })
+step-leaf {l} {t} {r} {r′} {k} {m} d h z ah kn s =
+    let f : Searched l t r k (leaves (entries t) h d) r′ m = rw z s in
+    step-on ah kn f
+
+module _ (t : List ℕ) (h n i : ℕ) (rd : Readable t h n) (lt : i < length (entries t n)) {l : Leg} {r : List ℕ} {k : ℕ} (ah : Ahead l t r k (leaves (entries t) h (entryOf t n i)))
+    {w : Corner} (c : IsCorner l (areaOf (entryOf t n i)) w) where
+  pub step-known : {e : Edge} → Knows e (stack l t r k) → (b : Bool) → b ≡ true → If b (EdgeShuts e (w .a) (w .c))
+      → Stepped l t r k (leaves (entries t) h (entryOf t n i)) r (record { k = k; edge = e })
+  step-known kn b q f = step-on ah kn (entry-skipped t h n i rd lt ah c true refl (kn .shuts w (c .small) (if-true b q f)))
+
+  pub step-shut : {s : Seen} → Looked l t r k w s → s .shut ≡ true → Stepped l t r k (leaves (entries t) h (entryOf t n i)) r (record { k = k; edge = s .edge })
+  step-shut {s} o q = step-on ah (o .knows) (entry-skipped t h n i rd lt ah c (s .shut) q (o .shut))
 
 byte-site : (t : List ℕ) (x : ℕ) → siteAtByte t x ≡ siteOf (entryAt t x)
 unfolding siteAtByte entryAt
@@ -142,23 +166,13 @@ module _ (t : List ℕ) (h n i : ℕ) (e : Entry) (rd : Readable t h n) (lt : i 
       ∙ leaves-under (entries t) (h - 1) e
       ∙ at-node
 
-  child-order : (first all : ℕ) → first < length (entries t (e .reference)) → all ≡ length (entries t (e .reference))
-      → Perm (under t (h - 1) (around (entries t (e .reference)) first all)) (leaves (entries t) h (entryOf t n i))
-  child-order first all f q = rw child-leaves (node-order t (h - 1) (e .reference) first all f q)
-
   module _ {l : Leg} {r : List ℕ} {k : ℕ} (ah : Ahead l t r k (leaves (entries t) h (entryOf t n i))) where
-    pub child-placed : Each Placed (entries t (e .reference))
-    child-placed =
-        each-placed (entries t) (h - 1) (entries t (e .reference)) (kid .below) (subst (Each LeafPoint) child-leaves (ah .points))
+    pub child-ahead : Ahead l t r k (under t (h - 1) (entries t (e .reference)))
+    child-ahead = subst (Ahead l t r k) child-leaves ah
 
-    pub child-ahead : (first all : ℕ) → first < length (entries t (e .reference)) → all ≡ length (entries t (e .reference))
-        → Ahead l t r k (under t (h - 1) (around (entries t (e .reference)) first all))
-    child-ahead first all f q = ahead-perm (perm-sym (child-order first all f q)) ah
-
-  pub child-searched : {l : Leg} {r r′ : List ℕ} {k m : ℕ} (first all : ℕ) → first < length (entries t (e .reference)) → all ≡ length (entries t (e .reference))
-      → Searched l t r k (under t (h - 1) (around (entries t (e .reference)) first all)) r′ m
+  pub child-searched : {l : Leg} {r r′ : List ℕ} {k m : ℕ} → Searched l t r k (under t (h - 1) (entries t (e .reference))) r′ m
       → Searched l t r k (leaves (entries t) h (entryOf t n i)) r′ m
-  child-searched first all f q s = searched-perm (child-order first all f q) s
+  child-searched {l} {r} {r′} {k} {m} s = subst⁻¹ (λ (q : List Entry). Searched l t r k q r′ m) child-leaves s
 
 -- so many entries of node n from the ith on: none
 pub node-none : {l : Leg} {t r : List ℕ} {k : ℕ} (h n i left : ℕ) → left ≡ 0 → Ahead l t r k (under t h (around (entries t n) i left))
@@ -192,3 +206,34 @@ module _ (t : List ℕ) (h n i j left : ℕ) (lt : i < length (entries t n)) (so
   pub node-searched : {l : Leg} {r r₁ r₂ : List ℕ} {k m₁ m₂ : ℕ} → Searched l t r k (leaves (entries t) h (entryOf t n i)) r₁ m₁
       → Searched l t r₁ m₁ (under t h (around (entries t n) j (left - 1))) r₂ m₂ → Searched l t r k (under t h (around (entries t n) i left)) r₂ m₂
   node-searched {l} {r} {r₁} {r₂} {k} {m₁} {m₂} a b = subst⁻¹ (λ (q : List Entry). Searched l t r k q r₂ m₂) parted (searched-then first rest a b)
+
+-- the boxes of a node under which all is on the grid
+pub node-placed : {l : Leg} {t r : List ℕ} {k h n : ℕ} → Readable t h n → Ahead l t r k (under t h (entries t n)) → Each Placed (entries t n)
+node-placed {t = t} {h = h} {n = n} rd ah = each-placed (entries t) h (entries t n) (rd .sound) (ah .points)
+
+-- The loop of `search_node`: at its beginning, from one entry to the next, and at its end.
+module _ {l : Leg} {t r₀ : List ℕ} {k₀ h n : ℕ} where
+  pub left-all : (first all : ℕ) {e : Edge} → first < length (entries t n) → all ≡ length (entries t n) → Ahead l t r₀ k₀ (under t h (entries t n))
+      → Knows e (stack l t r₀ k₀) → Left l t r₀ k₀ h n first all r₀ k₀ e
+  left-all first all f q ah kn =
+      let o = node-order t h n first all f q in
+      record { here = f; few = omega arith; ahead = ahead-perm (perm-sym o) ah; rest = λ r′ m s. searched-perm o s; knows = kn }
+
+  module _ {i left k : ℕ} {r : List ℕ} {e : Edge} (w : Left l t r₀ k₀ h n i left r k e) (some : 0 < left) where
+    pub left-first : Ahead l t r k (leaves (entries t) h (entryOf t n i))
+    left-first = let (j, f) = follow (length (entries t n)) i in node-first t h n i j left (w .here) some (w .few) f (w .ahead)
+
+    pub left-next : (all j : ℕ) (r₁ : List ℕ) (s : Step) → all ≡ length (entries t n) → Follows all i j → Stepped l t r k (leaves (entries t) h (entryOf t n i)) r₁ s
+        → Left l t r₀ k₀ h n j (left - 1) r₁ (s .k) (s .edge)
+    left-next all j r₁ s q f′ d =
+        let f : Follows (length (entries t n)) i j = subst (λ (x : ℕ). Follows x i j) q f′ in
+        record {
+          here = follows-in (w .here) f;
+          few = omega (arith, w .few);
+          ahead = node-rest t h n i j left (w .here) some (w .few) f (w .ahead) (d .searched);
+          rest = λ r′ m z. w .rest r′ m (node-searched t h n i j left (w .here) some (w .few) f (d .searched) z);
+          knows = d .knows;
+        }
+
+  pub left-none : {i left k : ℕ} {r : List ℕ} {e : Edge} → Left l t r₀ k₀ h n i left r k e → left ≤ 0 → Searched l t r₀ k₀ (under t h (entries t n)) r k
+  left-none {i} {left} {k} {r} w q = w .rest r k (node-none h n i left (omega arith) (w .ahead))

@@ -12,12 +12,15 @@ use Rattle.grid.specs.declared.Position.{Position}
 use Rattle.grid.specs.declared.Leg.{Leg}
 use Rattle.grid.specs.Position.{LegOnGrid}
 use Rattle.grid.specs.Area.{areaDistance}
-use Rattle.split.specs.Skip.{Witness}
+use Rattle.split.specs.Skip.{ShutOut}
 use Rattle.row.specs.Vertices.{rowBytes, stack, Held, Lists}
+use Rattle.row_skip.specs.declared.Edge.{Edge}
+use Rattle.row_skip.specs.Skipping.{Knows}
 use Rattle.node.specs.declared.Entry.{Entry}
 use Rattle.node.specs.Node.{entries, noEntry}
 use Rattle.rtree.specs.Tree.{joined, leaves, Each, Sound}
 use Rattle.rtree.specs.Rooted.{leavesIn}
+use Rattle.tree_search.specs.declared.descent.Step.{Step}
 use Rattle.tree_search.specs.Sites.{LeafPoint, sites, areaOf}
 
 -- entry i of node n
@@ -42,9 +45,9 @@ pub record Measured (q : Position) (t : List ℕ) (n m : ℕ) (far : List ℕ) :
   pub is : (i : ℕ) → i < m → getD far i 0 ≡ areaDistance (areaOf (entryOf t n i)) q
   pub small : (i : ℕ) → i < m → getD far i 0 < 2 ^ 31
 
--- two vertices of the row shut out all that lies in e's box
+-- the row shuts out all that lies in e's box
 abbrev pub Skips : Leg → List ℕ → List ℕ → ℕ → Entry → Type 0
-Skips l t r k e = Witness (stack l t r k) (areaDistance (areaOf e) (l .s)) (areaDistance (areaOf e) (l .e))
+Skips l t r k e = ShutOut (stack l t r k) (areaDistance (areaOf e) (l .s)) (areaDistance (areaOf e) (l .e))
 
 -- node n, whose entries stand at height h, may be read
 pub record Readable (t : List ℕ) (h n : ℕ) : Type 0 where
@@ -66,6 +69,19 @@ pub record Searched (l : Leg) (t r : List ℕ) (k : ℕ) (q : List Entry) (r′ 
   pub held : Held l t r′ n
   pub lists : (s : List Site) → Lists l t r k s → Lists l t r′ n (sites q ++ s)
   pub only : Only 0 (2 * rowBytes) r r′
+
+-- one entry after the other: the row r′ has the list of the sites q as well, and the edge in s is known to it
+pub record Stepped (l : Leg) (t r : List ℕ) (k : ℕ) (q : List Entry) (r′ : List ℕ) (s : Step) : Type 0 where
+  pub searched : Searched l t r k q r′ (s .k)
+  pub knows : Knows (s .edge) (stack l t r′ (s .k))
+
+-- The loop over a node's entries: so many are left from the ith on, and whoever deals with them has dealt with the node.
+pub record Left (l : Leg) (t r₀ : List ℕ) (k₀ h n i left : ℕ) (r : List ℕ) (k : ℕ) (e : Edge) : Type 0 where
+  pub here : i < length (entries t n)
+  pub few : left ≤ length (entries t n)
+  pub ahead : Ahead l t r k (under t h (around (entries t n) i left))
+  pub rest : (r′ : List ℕ) (m : ℕ) → Searched l t r k (under t h (around (entries t n) i left)) r′ m → Searched l t r₀ k₀ (under t h (entries t n)) r′ m
+  pub knows : Knows e (stack l t r k)
 
 -- the row r′ has the list of all the tree's sites
 pub record Found (l : Leg) (t r r′ : List ℕ) (n : ℕ) : Type 0 where

@@ -3,7 +3,6 @@
 // What the list shuts out is skipped, a whole subtree at a time; ties are no skip. Each entry is read at most once, so a row of 512 is enough.
 pub mod boxes;
 pub mod descent;
-pub mod nearest;
 
 use grid::Leg;
 use node::Root;
@@ -28,11 +27,8 @@ pub fn search(t: &[u8], leg: Leg, work: &mut [u8]) -> usize
     match root {
         Root::Empty => 0,
         Root::Top(g, n) => {
-            let a = boxes::distances(t, leg.s, n);
-            let c = boxes::distances(t, leg.e, n);
-            let all = node::pool::count(t, n);
-            let first = nearest::nearest(&a, &c, all);
-            descent::search_node(t, leg, g, n, first, all, &a, &c, work, 0, 0)
+            let edge = row_skip::no_edge();
+            descent::search_node(t, leg, g, n, work, 0, 0, edge)
         }
     }
 }

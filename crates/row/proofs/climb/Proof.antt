@@ -1,21 +1,22 @@
 use borrow.Author.Needs.{needs}
 use native.Mathlib.Omega.{arith}
 use Rattle.row.specs.Vertices.{Narrowed}
+use Rattle.row.specs.Gaps.{Stands}
 use Rattle.row.proofs.Bisection.{climb-end, climb-found, climb-more}
 use Rattle.row.proofs.climb.Statement.{statement}
 use Rattle.row.proofs.climb.Tie as tie
 
 abbrev Inv-loop : tie.InvT-loop
-Inv-loop t row leg k a n i₀ left₀ i left = Narrowed leg t row k a i k
+Inv-loop t row leg k a n i₀ last₀ left₀ i last left = Narrowed leg t row k a i k × Stands leg t row k last
 
 abbrev μ-loop : tie.MeasureT-loop
-μ-loop t row leg k a n i₀ left₀ i left = left
+μ-loop t row leg k a n i₀ last₀ left₀ i last left = left
 
 loop-holds : tie.Need-loop-holds Inv-loop μ-loop
 loop-holds c = search needs
 
 returns : tie.Need-returns Inv-loop μ-loop
-returns c = search (needs, climb-end)
+returns c = climb-end (c .before .before .loop .inv .0) (omega arith) (search needs) (c .before .before .loop .inv .1)
 
 vertex-in-requires : tie.Need-vertex-in-requires Inv-loop μ-loop
 vertex-in-requires c κs = (search needs, search needs, search needs)
@@ -33,10 +34,10 @@ loop-less : tie.Need-loop-less Inv-loop μ-loop
 loop-less c = omega arith
 
 loop-again : tie.Need-loop-again Inv-loop μ-loop
-loop-again c = climb-more (c .before .before .before .before .before .loop .inv) (search needs) (c .before .before .vertex-in .ensures) (omega arith)
+loop-again c = climb-more (c .before .before .before .before .before .loop .inv .0) (search needs) (c .before .before .vertex-in .ensures) (omega arith)
 
-bisect-requires : tie.Need-bisect-requires Inv-loop μ-loop
-bisect-requires c κs = search needs
+bisected-requires : tie.Need-bisected-requires Inv-loop μ-loop
+bisected-requires c κs = search needs
 
 returns-3 : tie.Need-returns-3 Inv-loop μ-loop
 returns-3 c = search needs
@@ -55,5 +56,5 @@ climb-spec =
     sub-left
     loop-less
     loop-again
-    bisect-requires
+    bisected-requires
     returns-3)

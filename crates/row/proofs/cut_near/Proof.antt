@@ -1,5 +1,5 @@
 use borrow.Author.Needs.{needs}
-use Rattle.row.proofs.Bisection.{climb-begun, fall-begun}
+use Rattle.row.proofs.Bisection.{stands-at, climb-begun, fall-begun}
 use Rattle.row.proofs.cut_near.Statement.{statement}
 use Rattle.row.proofs.cut_near.Tie as tie
 
@@ -16,13 +16,13 @@ add-climb : tie.Need-add-climb
 add-climb c = search needs
 
 climb-requires : tie.Need-climb-requires
-climb-requires c κs = (search needs, search needs, search (needs, climb-begun))
+climb-requires c κs = (search needs, search needs, search needs, search (needs, climb-begun), search (needs, stands-at))
 
 returns-2 : tie.Need-returns-2
 returns-2 c = search needs
 
 fall-requires : tie.Need-fall-requires
-fall-requires c κs = (search needs, search needs, search (needs, fall-begun))
+fall-requires c κs = (search needs, search needs, search needs, search (needs, fall-begun), search (needs, stands-at))
 
 returns-3 : tie.Need-returns-3
 returns-3 c = search needs

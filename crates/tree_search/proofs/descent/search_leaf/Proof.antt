@@ -11,7 +11,7 @@ site-at-requires : tie.Need-site-at-requires
 site-at-requires c κs = (search leaf-small, search leaf-inside)
 
 deal-vertex-requires : tie.Need-deal-vertex-requires
-deal-vertex-requires c κs = ((search needs, search needs, search leaf-has, search leaf-vertex), (search leaf-space, search needs))
+deal-vertex-requires c κs = ((search needs, search needs, search leaf-has, search leaf-vertex), (search leaf-space, search needs, search needs))
 
 same-length : tie.Need-same-length
 same-length c = search needs
