@@ -12,15 +12,20 @@ use Rattle.words.specs.Words.{wordAt}
 use Rattle.grid.specs.declared.Site.{Site}
 use Rattle.grid.specs.declared.Leg.{Leg}
 use Rattle.grid.specs.Position.{LegOnGrid}
-use Rattle.grid.specs.Says.{Says}
+use Rattle.grid.specs.Says.{Says, If}
 use Rattle.split.specs.SplitList.{Entry, IsSplitList, Numbered, SameSites}
-use Rattle.split.specs.SplitOf.{splitOf}
+use Rattle.split.specs.Hull.{points}
+use Rattle.split.specs.SplitOf.{build, splitOf}
 use Rattle.split.proofs.Exists.{split-is, split-only}
-use Rattle.split.proofs.Dealing.{order-free-of}
+use Rattle.split.proofs.Insertion.{build-hull}
+use Rattle.split.proofs.Skipping.{skip-hull}
+use Rattle.split.proofs.Dealing.{order-free-of, hull-list}
 use Rattle.split.proofs.Once.{few}
 use Rattle.split.proofs.Unlisted.{unlisted}
 use Rattle.row.specs.Places.{siteAt}
-use Rattle.row.specs.Vertices.{rowBytes, Held, entriesIn}
+use Rattle.row.specs.declared.Vertex.{Vertex}
+use Rattle.row.specs.Vertices.{pointAt, IsVertex, rowBytes, Held, entriesIn}
+use Rattle.row.proofs.Reading.{a-of, c-of}
 use Rattle.row.proofs.Listing.{lists-is}
 use Rattle.row_skip.specs.Skipping.{Space, Dealt}
 use Rattle.book.specs.Book.{strikeLine, holds, listOf}
@@ -35,8 +40,9 @@ use Rattle.standing.specs.Layout.{lengthStart}
 use Rattle.standing.specs.Standing.{legIn, standingIn, numbersOf, asOption, ListStored}
 use Rattle.table.specs.Table.{bookOf, Whole, Sound}
 use Rattle.demands.specs.Step.{Holds}
-use Rattle.stored_list.specs.Loading.{PlaceOf, NumbersHeld, PlacesOf}
+use Rattle.stored_list.specs.Loading.{PlaceOf, NumbersHeld, PlacesOf, ShutOut}
 use Rattle.stored_list.proofs.Rows.{standing-length, numbers-length, Stored, stored-few, stored-held, places-held, places-list}
+use Rattle.stored_list.proofs.Ends.{shut-true, shut-witness}
 use Rattle.list_change.specs.Patching.{ListsOthers, Patchable}
 use Rattle.list_change.proofs.Restanding.{whole-numbered, stored-holds}
 
@@ -182,6 +188,19 @@ module _ (b : List ℕ) (n : ℕ) (l : Leg) (w : Whole b) (leg : LegOk (legIn b)
 
   pub others-leg : LegOnGrid l
   others-leg = subst LegOk set leg
+
+  -- KEPT OUT by an entry: the list of the others is that of all
+  pub shut-holds : (p : ℕ) (x : Vertex) → PlaceOf b n p → IsVertex l b p x → (c : Bool) → c ≡ true → If c (ShutOut l b (x .a) (x .c)) → Holds b (bookOf b)
+  unfolding splitOf
+  shut-holds p x q v c e h =
+      let same : SameSites (linesIn b) (siteAt b p ∷ strikeLine n (linesIn b)) = strike-sites n (linesIn b) (siteAt b p) (w .sites .rising) (q .line) (q .number) in
+      let num = whole-numbered b w in
+      let wit = shut-witness l (strikeLine n (linesIn b)) b others (x .a) (x .c) (shut-true l b (x .a) (x .c) c e h) in
+      let hull = skip-hull wit (pointAt l b p) (omega (arith, a-of v)) (omega (arith, c-of v)) (build-hull (points l (strikeLine n (linesIn b)))) in
+      let list = hull-list l (siteAt b p ∷ strikeLine n (linesIn b)) (linesIn b)
+      (numbered-same (siteAt b p ∷ strikeLine n (linesIn b)) (linesIn b) same num) num same
+      (build (points l (strikeLine n (linesIn b)))) hull in
+      same-holds b w leg (others .list ∙ ap numbersOf list ∙ sym (ap (λ (x : Option Leg). numbersOf (listOf x (linesIn b))) set))
 
   module _ (k : ℕ) (r r′ : List ℕ) (room : 2 * rowBytes ≤ length r) (m : PlacesOf b r r′ k) where
     pub others-row : Held l b r′ k

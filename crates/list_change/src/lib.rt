@@ -14,6 +14,7 @@ ghost use Rattle.sites.specs.Lines.{linesIn};
 ghost use Rattle.standing.specs.Standing.{legIn};
 ghost use Rattle.table.specs.Table.{bookOf, Whole};
 ghost use Rattle.demands.specs.Step.{Holds};
+ghost use Rattle.stored_list.specs.Loading.{PlaceOf};
 ghost use Rattle.list_change.specs.Patching.{ListsOthers, Patchable};
 
 // Makes the standing list anew.
@@ -31,16 +32,30 @@ pub fn restand(t: &mut [u8], work: &mut [u8])
     }
 }
 
-// Deals site n into the list of the leg over the other sites. Places are loaded from the changed table: a record that comes moves those behind it.
+// Deals site n, whose place is p, into the list of the leg over the other sites. Places are loaded from the changed table: a record that
+// comes moves those behind it.
+fn deal_in(t: &mut [u8], work: &mut [u8], leg: Leg, n: u16, p: usize)
+    requires { ⌜ Whole (now t) × LegOk (legIn (now t)) × (legIn (now t) ≡ some leg) × (2 * rowBytes ≤ length (now work)) ⌝ }
+    requires { ⌜ ListsOthers n (now t) × (holds n (linesIn (now t)) ≡ true) × PlaceOf (now t) n p ⌝ }
+    ensures { λ _. ⌜ Holds (now (t .exit)) (bookOf (now (t .entry))) ⌝ }
+{
+    let k = stored_list::places(t, work);
+    let m = row_skip::deal(t, leg, p, work, k);
+    standing::store_list(t, work, leg, m);
+}
+
+// Deals site n into the list of the leg over the other sites. Most sites are far from the leg: an end of the list keeps them out, and it stays.
 fn deal_along(t: &mut [u8], work: &mut [u8], leg: Leg, n: u16)
     requires { ⌜ Whole (now t) × LegOk (legIn (now t)) × (legIn (now t) ≡ some leg) × (2 * rowBytes ≤ length (now work)) ⌝ }
     requires { ⌜ ListsOthers n (now t) × (holds n (linesIn (now t)) ≡ true) ⌝ }
     ensures { λ _. ⌜ Holds (now (t .exit)) (bookOf (now (t .entry))) ⌝ }
 {
-    let k = stored_list::places(t, work);
     let p = stored_list::place_of(t, n);
-    let m = row_skip::deal(t, leg, p, work, k);
-    standing::store_list(t, work, leg, m);
+    let x = row::vertex_at(t, leg, p);
+    if stored_list::end_shuts(t, leg, x) {
+        return;
+    }
+    deal_in(t, work, leg, n, p);
 }
 
 // Deals site n into the standing list, which is that of the other sites.

@@ -1,3 +1,4 @@
 pub mod Records
 pub mod Rows
 pub mod Naming
+pub mod Ends

@@ -33,7 +33,7 @@ use Rattle.table.specs.Table.{Sound}
 use Rattle.stored_list.specs.Loading.{PlaceOf, NumbersHeld, PlacesOf, Loaded}
 
 -- the numbers of points
-abbrev numbersIn : List Point → List ℕ
+abbrev pub numbersIn : List Point → List ℕ
 numbersIn [] = []
 numbersIn (v ∷ r) = v .site .number ∷ numbersIn r
 
@@ -48,12 +48,12 @@ entries-numbers [] = refl
 entries-numbers (v ∷ r) = ap (λ (x : List ℕ). v .site .number ∷ x) (after-numbers v r)
 
 -- a list without its first
-abbrev tailOf : List ℕ → List ℕ
+abbrev pub tailOf : List ℕ → List ℕ
 tailOf [] = []
 tailOf (x ∷ xs) = xs
 
 -- each point is that of a site of s
-abbrev PointsOf : Leg → List Site → List Point → Type 0
+abbrev pub PointsOf : Leg → List Site → List Point → Type 0
 PointsOf l s r = (v : Point) → In v r → List·Memᴰ (v .site) s × (v ≡ pointOf l (v .site))
 
 -- the points of a row from i on, n of them
@@ -82,7 +82,7 @@ module _ (l : Leg) (b r : List ℕ) (s : List Site) (n : Numbered s) where
       ap₂ (λ (x : Point) (y : List Point). x ∷ y) (ap (pointOf l) q ∙ sym (pv .1))
       (same-row w o (suc i) m f (λ x y. p x (List·Memᴰ·tail y)) (ap (λ (j : ℕ). wordsFrom w j m) (sym t) ∙ ap tailOf e) (λ j u k. h j (omega arith) (omega arith)))
 
-onto-back : (a c : List Point) (x : Point) → In x (onto a c) → In x a ⊎ In x c
+pub onto-back : (a c : List Point) (x : Point) → In x (onto a c) → In x a ⊎ In x c
 onto-back [] c x i = inr i
 onto-back (w ∷ a) c x i = go (onto-back a (w ∷ c) x i)
   where
@@ -179,7 +179,7 @@ words-member l b (v ∷ f) p o (suc n) e (suc j) h =
     (words-member l b f (λ x y. p x (List·Memᴰ·tail y)) (o + 2) n (ap tailOf e) j (omega arith))
 
 module _ (l : Leg) (s : List Site) (b : List ℕ) (st : Stored l s b) where
-  all-numbered : Numbered (linesIn b)
+  pub all-numbered : Numbered (linesIn b)
   all-numbered = record { small = λ p m. st .sites .numbers p m .most; one = rising-one (linesIn b) (st .sites .rising) }
 
   stored-numbered : Numbered s
@@ -189,10 +189,10 @@ module _ (l : Leg) (s : List Site) (b : List ℕ) (st : Stored l s b) where
   hull : IsHull (points l s) (build (points l s))
   hull = build-hull (points l s)
 
-  listed-points : PointsOf l (linesIn b) (onto (build (points l s)) [])
+  pub listed-points : PointsOf l (linesIn b) (onto (build (points l s)) [])
   listed-points v i = let p = onto-points l s (build (points l s)) hull v i in (st .lines (v .site) (p .0), p .1)
 
-  words-are : wordsFrom b listStart (wordAt b lengthStart) ≡ numbersIn (onto (build (points l s)) [])
+  pub words-are : wordsFrom b listStart (wordAt b lengthStart) ≡ numbersIn (onto (build (points l s)) [])
   unfolding standingIn splitOf
   words-are = st .list ∙ entries-numbers (onto (build (points l s)) [])
 

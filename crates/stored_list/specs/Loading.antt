@@ -8,8 +8,9 @@ use Rattle.limits.specs.Limits.{maxSites}
 use Rattle.words.specs.Words.{wordAt, Only}
 use Rattle.grid.specs.declared.Leg.{Leg}
 use Rattle.split.specs.SplitOf.{splitOf}
+use Rattle.split.specs.Skip.{Shut}
 use Rattle.row.specs.Places.{siteAt, HasSite}
-use Rattle.row.specs.Vertices.{rowBytes, placeAt, Held, entriesIn}
+use Rattle.row.specs.Vertices.{pointAt, rowBytes, placeAt, Held, entriesIn}
 use Rattle.book.specs.Book.{holds}
 use Rattle.sites.specs.Lines.{linesIn}
 use Rattle.standing.specs.Layout.{lengthStart, listStart}
@@ -36,3 +37,11 @@ pub record Loaded (l : Leg) (b r r′ : List ℕ) (k : ℕ) : Type 0 where
   pub held : Held l b r′ k
   pub list : entriesIn l b r′ k ≡ splitOf l (linesIn b)
   pub only : Only 0 rowBytes r r′
+
+-- the site of one entry shuts out all that is at or beyond the corner (a, c)
+pub record ShutOut (l : Leg) (b : List ℕ) (a c : ℕ) : Type 0 where
+  pub entry : ℕ
+  pub place : ℕ
+  pub within : entry < wordAt b lengthStart
+  pub names : PlaceOf b (wordAt b (listStart + 2 * entry)) place
+  pub shut : Shut (pointAt l b place) (pointAt l b place) a c

@@ -1,5 +1,6 @@
-// The stored standing list: loaded into a row of places, from site numbers back to records, and searched for a number.
+// The stored standing list: loaded into a row of places, from site numbers back to records, searched for a number, and asked whether it keeps a site out.
 use grid::Leg;
+use row::Vertex;
 use sites::Found;
 ghost use mathlib.Core.Path.{_≡_};
 ghost use mathlib.Core.Option.{some};
@@ -9,16 +10,18 @@ ghost use Prim.Native.Nat.{_+_, _*_, _<_, _≤_};
 ghost use lib.ListN.{length};
 ghost use Rattle.limits.specs.Limits.{tableBytes, maxSites};
 ghost use Rattle.words.specs.Words.{wordAt};
-ghost use Rattle.grid.specs.Says.{Says};
+ghost use Rattle.grid.specs.Position.{LegOnGrid};
+ghost use Rattle.grid.specs.Says.{Says, If};
+ghost use Rattle.split.specs.Skip.{Shut};
 ghost use Rattle.book.specs.Book.{holds};
-ghost use Rattle.row.specs.Vertices.{rowBytes};
+ghost use Rattle.row.specs.Vertices.{bare, Small, rowBytes};
 ghost use Rattle.sites.specs.Layout.{recordStart};
 ghost use Rattle.sites.specs.Lines.{linesIn};
 ghost use Rattle.sites.specs.Rules.{SitesOk};
 ghost use Rattle.standing.specs.Layout.{lengthStart};
 ghost use Rattle.standing.specs.Standing.{legIn, standingIn};
 ghost use Rattle.table.specs.Table.{Sound};
-ghost use Rattle.stored_list.specs.Loading.{PlaceOf, NumbersHeld, PlacesOf, Loaded};
+ghost use Rattle.stored_list.specs.Loading.{PlaceOf, NumbersHeld, PlacesOf, Loaded, ShutOut};
 
 // The place of record k.
 fn record_place(k: usize) -> usize
@@ -80,4 +83,50 @@ pub fn lists(t: &[u8], n: u16) -> bool
         i += 1;
     }
     false
+}
+
+// Whether v is as near as x to both ends of the leg, and nearer to one. A tie keeps nothing out: of two the lower number is listed.
+fn lower(v: Vertex, x: Vertex) -> bool
+    requires { ⌜ Small v × Small x ⌝ }
+    ensures { λ r. ⌜ If r (Shut (bare v) (bare v) (x .a) (x .c)) ⌝ }
+{
+    if x.a < v.a {
+        return false;
+    }
+    if x.c < v.c {
+        return false;
+    }
+    let sum = v.a + v.c;
+    if sum < x.a + x.c {
+        return true;
+    }
+    false
+}
+
+// Whether entry i keeps the site x out.
+fn entry_shuts(t: &[u8], leg: Leg, i: usize, x: Vertex) -> bool
+    requires { ⌜ (length (now t) ≡ tableBytes) × SitesOk (now t) × NumbersHeld (now t) ⌝ }
+    requires { ⌜ LegOnGrid leg × Small x × (i < wordAt (now t) lengthStart) ⌝ }
+    ensures { λ r. ⌜ If r (ShutOut leg (now (t .entry)) (x .a) (x .c)) ⌝ }
+{
+    let n = words::word(t, standing::LIST_START + 2 * i);
+    let p = place_of(t, n);
+    let v = row::vertex_at(t, leg, p);
+    lower(v, x)
+}
+
+// Whether the last entry keeps the site x out, or the first one: where x is far from the leg, one of them does, and no other need be loaded.
+pub fn end_shuts(t: &[u8], leg: Leg, x: Vertex) -> bool
+    requires { ⌜ (length (now t) ≡ tableBytes) × SitesOk (now t) × NumbersHeld (now t) ⌝ }
+    requires { ⌜ LegOnGrid leg × Small x ⌝ }
+    ensures { λ r. ⌜ If r (ShutOut leg (now (t .entry)) (x .a) (x .c)) ⌝ }
+{
+    let k = words::word(t, standing::LENGTH_START) as usize;
+    if k == 0 {
+        return false;
+    }
+    if entry_shuts(t, leg, k - 1, x) {
+        return true;
+    }
+    entry_shuts(t, leg, 0, x)
 }
