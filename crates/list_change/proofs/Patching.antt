@@ -30,11 +30,9 @@ use Rattle.row.proofs.Listing.{lists-is}
 use Rattle.row_skip.specs.Skipping.{Space, Dealt}
 use Rattle.book.specs.Book.{strikeLine, holds, listOf}
 use Rattle.book.specs.Proper.{Rising, LegOk}
-use Rattle.book.proofs.Lines.{HeldLine, holds-member, strike-from, strike-sites, strike-none, strike-length}
-use Rattle.sites.specs.declared.Found.{Found}
-use Rattle.sites.specs.Lines.{linesIn, FoundAs}
+use Rattle.book.proofs.Lines.{HeldLine, holds-member, member-holds, strike-from, strike-sites, strike-none, strike-length}
+use Rattle.sites.specs.Lines.{linesIn}
 use Rattle.sites.proofs.Reading.{lines-length}
-use Rattle.sites.proofs.Finding.{found-at, found-absent, at-held, absent-held}
 use Rattle.standing.specs.declared.Standing.{Standing}
 use Rattle.standing.specs.Layout.{lengthStart}
 use Rattle.standing.specs.Standing.{legIn, standingIn, numbersOf, asOption, ListStored}
@@ -159,18 +157,18 @@ module _ (b : List ℕ) (n : ℕ) (h : Patchable n b) where
   patch-others true s e = absurd (true≢false e)
   patch-others false s e = h .others s
 
-  pub patch-held : (f : Found) (k : ℕ) → f ≡ Found.At k → FoundAs f n (linesIn b) → holds n (linesIn b) ≡ true
-  patch-held f k e a = at-held (found-at e a)
-
   -- A SITE THAT HAS GONE and was not named
-  pub patch-gone : (q : Bool) (f : Found) (k : ℕ) → Says q (List·Memᴰ n (standingIn b)) → q ≡ false → f ≡ Found.Absent k → FoundAs f n (linesIn b) → Holds b (bookOf b)
-  patch-gone q f k s e g a =
+  pub patch-gone : (q : Bool) → Says q (List·Memᴰ n (standingIn b)) → q ≡ false → holds n (linesIn b) ≡ false → Holds b (bookOf b)
+  patch-gone q s e gone =
       same-holds b (h .whole) (h .leg)
-      (patch-others q s e .list ∙ ap (λ (x : List Site). numbersOf (listOf (legIn b) x)) (strike-none n (linesIn b) (absent-held (found-absent g a))))
+      (patch-others q s e .list ∙ ap (λ (x : List Site). numbersOf (listOf (legIn b) x)) (strike-none n (linesIn b) gone))
 
 -- ---- one site dealt in
 
-module _ (b : List ℕ) (n : ℕ) (l : Leg) (w : Whole b) (leg : LegOk (legIn b)) (set : legIn b ≡ some l) (o : ListsOthers n b) (held : holds n (linesIn b) ≡ true) where
+module _ (b : List ℕ) (n : ℕ) (l : Leg) (w : Whole b) (leg : LegOk (legIn b)) (set : legIn b ≡ some l) (o : ListsOthers n b) (p : ℕ) (q : PlaceOf b n p) where
+  held : holds n (linesIn b) ≡ true
+  held = member-holds n (linesIn b) (siteAt b p) (q .line) (q .number)
+
   fewer : 1 + length (strikeLine n (linesIn b)) ≤ maxSites
   fewer = omega (arith, strike-length n (linesIn b) (w .sites .rising) held, lines-length b, w .sites .few)
 
@@ -190,9 +188,9 @@ module _ (b : List ℕ) (n : ℕ) (l : Leg) (w : Whole b) (leg : LegOk (legIn b)
   others-leg = subst LegOk set leg
 
   -- KEPT OUT by an entry: the list of the others is that of all
-  pub shut-holds : (p : ℕ) (x : Vertex) → PlaceOf b n p → IsVertex l b p x → (c : Bool) → c ≡ true → If c (ShutOut l b (x .a) (x .c)) → Holds b (bookOf b)
+  pub shut-holds : (x : Vertex) → IsVertex l b p x → (c : Bool) → c ≡ true → If c (ShutOut l b (x .a) (x .c)) → Holds b (bookOf b)
   unfolding splitOf
-  shut-holds p x q v c e h =
+  shut-holds x v c e h =
       let same : SameSites (linesIn b) (siteAt b p ∷ strikeLine n (linesIn b)) = strike-sites n (linesIn b) (siteAt b p) (w .sites .rising) (q .line) (q .number) in
       let num = whole-numbered b w in
       let wit = shut-witness l (strikeLine n (linesIn b)) b others (x .a) (x .c) (shut-true l b (x .a) (x .c) c e h) in
@@ -206,15 +204,15 @@ module _ (b : List ℕ) (n : ℕ) (l : Leg) (w : Whole b) (leg : LegOk (legIn b)
     pub others-row : Held l b r′ k
     others-row = places-held l (strikeLine n (linesIn b)) b others k r r′ (omega arith) m
 
-    pub others-space : (p : ℕ) → Space l b r′ k p
-    others-space p h = absurd (omega (arith, m .count, stored-few l (strikeLine n (linesIn b)) b others, fewer))
+    pub others-space : Space l b r′ k p
+    others-space h = absurd (omega (arith, m .count, stored-few l (strikeLine n (linesIn b)) b others, fewer))
 
     pub others-rows : 2 * rowBytes ≤ length r′
     others-rows = omega (arith, m .only .len)
 
     -- DEALT IN
-    pub dealt-holds : (p j : ℕ) (r″ b′ : List ℕ) → PlaceOf b n p → Dealt l b r′ k p r″ j → ListStored (entriesIn l b r″ j) b b′ → Holds b′ (bookOf b)
-    dealt-holds p j r″ b′ q d st =
+    pub dealt-holds : (j : ℕ) (r″ b′ : List ℕ) → Dealt l b r′ k p r″ j → ListStored (entriesIn l b r″ j) b b′ → Holds b′ (bookOf b)
+    dealt-holds j r″ b′ d st =
         let same : SameSites (linesIn b) (siteAt b p ∷ strikeLine n (linesIn b)) = strike-sites n (linesIn b) (siteAt b p) (w .sites .rising) (q .line) (q .number) in
         let num = whole-numbered b w in
         let list = lists-is l b r″ j (siteAt b p ∷ strikeLine n (linesIn b)) (linesIn b)

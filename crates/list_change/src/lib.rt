@@ -1,16 +1,15 @@
 // The standing list after a change of the sites: patched by the one site whose record has changed, or made anew by a search of the tree.
 use grid::Leg;
-use sites::Found;
 use standing::Standing;
 ghost use mathlib.Core.Path.{_≡_};
-ghost use mathlib.Core.Bool.{true};
+ghost use mathlib.Core.Bool.{false};
 ghost use mathlib.Core.Option.{some};
 ghost use Prim.Native.Nat.{_*_, _≤_};
 ghost use lib.ListN.{length};
 ghost use Rattle.row.specs.Vertices.{rowBytes};
 ghost use Rattle.book.specs.Book.{holds};
 ghost use Rattle.book.specs.Proper.{LegOk};
-ghost use Rattle.sites.specs.Lines.{linesIn};
+ghost use Rattle.sites.specs.Lines.{linesIn, StandsAt};
 ghost use Rattle.standing.specs.Standing.{legIn};
 ghost use Rattle.table.specs.Table.{bookOf, Whole};
 ghost use Rattle.demands.specs.Step.{Holds};
@@ -36,7 +35,7 @@ pub fn restand(t: &mut [u8], work: &mut [u8])
 // comes moves those behind it.
 fn deal_in(t: &mut [u8], work: &mut [u8], leg: Leg, n: u16, p: usize)
     requires { ⌜ Whole (now t) × LegOk (legIn (now t)) × (legIn (now t) ≡ some leg) × (2 * rowBytes ≤ length (now work)) ⌝ }
-    requires { ⌜ ListsOthers n (now t) × (holds n (linesIn (now t)) ≡ true) × PlaceOf (now t) n p ⌝ }
+    requires { ⌜ ListsOthers n (now t) × PlaceOf (now t) n p ⌝ }
     ensures { λ _. ⌜ Holds (now (t .exit)) (bookOf (now (t .entry))) ⌝ }
 {
     let k = stored_list::places(t, work);
@@ -44,13 +43,13 @@ fn deal_in(t: &mut [u8], work: &mut [u8], leg: Leg, n: u16, p: usize)
     standing::store_list(t, work, leg, m);
 }
 
-// Deals site n into the list of the leg over the other sites. Most sites are far from the leg: an end of the list keeps them out, and it stays.
-fn deal_along(t: &mut [u8], work: &mut [u8], leg: Leg, n: u16)
+// Deals site n, of record k, into the list of the leg over the other sites. Most sites are far from the leg: an end of the list keeps them out, and it stays.
+fn deal_along(t: &mut [u8], work: &mut [u8], leg: Leg, n: u16, k: usize)
     requires { ⌜ Whole (now t) × LegOk (legIn (now t)) × (legIn (now t) ≡ some leg) × (2 * rowBytes ≤ length (now work)) ⌝ }
-    requires { ⌜ ListsOthers n (now t) × (holds n (linesIn (now t)) ≡ true) ⌝ }
+    requires { ⌜ ListsOthers n (now t) × StandsAt k n (linesIn (now t)) ⌝ }
     ensures { λ _. ⌜ Holds (now (t .exit)) (bookOf (now (t .entry))) ⌝ }
 {
-    let p = stored_list::place_of(t, n);
+    let p = stored_list::place_at(t, n, k);
     let x = row::vertex_at(t, leg, p);
     if stored_list::end_shuts(t, leg, x) {
         return;
@@ -58,32 +57,39 @@ fn deal_along(t: &mut [u8], work: &mut [u8], leg: Leg, n: u16)
     deal_in(t, work, leg, n, p);
 }
 
-// Deals site n into the standing list, which is that of the other sites.
-fn deal_site(t: &mut [u8], work: &mut [u8], n: u16)
+// Deals site n, of record k, into the standing list, which is that of the other sites.
+fn deal_site(t: &mut [u8], work: &mut [u8], n: u16, k: usize)
     requires { ⌜ Whole (now t) × LegOk (legIn (now t)) × (2 * rowBytes ≤ length (now work)) ⌝ }
-    requires { ⌜ ListsOthers n (now t) × (holds n (linesIn (now t)) ≡ true) ⌝ }
+    requires { ⌜ ListsOthers n (now t) × StandsAt k n (linesIn (now t)) ⌝ }
     ensures { λ _. ⌜ Holds (now (t .exit)) (bookOf (now (t .entry))) ⌝ }
 {
     let s = standing::leg(t);
     match s {
         Standing::Unset => {}
-        Standing::Along(leg) => deal_along(t, work, leg, n),
+        Standing::Along(leg) => deal_along(t, work, leg, n, k),
     }
 }
 
-// Brings the standing list up to date when site n has come, gone or moved. A list that does not name n is that of the other sites,
-// so n is dealt in if it is held. Where n is named, sites that it kept out may come in, and only a search finds them.
-pub fn patch(t: &mut [u8], work: &mut [u8], n: u16)
-    requires { ⌜ Patchable n (now t) × (2 * rowBytes ≤ length (now work)) ⌝ }
+// Brings the standing list up to date when site n, of record k, has come or moved. A list that does not name n is that of the other sites,
+// so n is dealt in. Where n is named, sites that it kept out may come in, and only a search finds them.
+pub fn patch_held(t: &mut [u8], work: &mut [u8], n: u16, k: usize)
+    requires { ⌜ Patchable n (now t) × StandsAt k n (linesIn (now t)) × (2 * rowBytes ≤ length (now work)) ⌝ }
     ensures { λ _. ⌜ Holds (now (t .exit)) (bookOf (now (t .entry))) ⌝ }
 {
     if stored_list::lists(t, n) {
         restand(t, work);
         return;
     }
-    let found = sites::find(t, n);
-    match found {
-        Found::At(_) => deal_site(t, work, n),
-        Found::Absent(_) => {}
+    deal_site(t, work, n, k);
+}
+
+// Brings the standing list up to date when site n has gone: a list that does not name it stays.
+pub fn patch_gone(t: &mut [u8], work: &mut [u8], n: u16)
+    requires { ⌜ Patchable n (now t) × (holds n (linesIn (now t)) ≡ false) × (2 * rowBytes ≤ length (now work)) ⌝ }
+    ensures { λ _. ⌜ Holds (now (t .exit)) (bookOf (now (t .entry))) ⌝ }
+{
+    let named = stored_list::lists(t, n);
+    if named {
+        restand(t, work);
     }
 }

@@ -16,18 +16,18 @@ use Rattle.sites.specs.Rules.{SitesOk}
 use Rattle.sites.specs.declared.Found.{Found}
 use Rattle.sites.specs.Lines.{FoundAs}
 use Rattle.sites.proofs.Reading.{lines-length, line-at}
-use Rattle.sites.proofs.Finding.{at-member, absent-held}
+use Rattle.sites.proofs.Finding.{found-at, at-member, absent-held}
 use Rattle.stored_list.specs.Loading.{PlaceOf}
 
 module _ (b : List ℕ) (n : ℕ) (len : length b ≡ tableBytes) (s : SitesOk b) where
-  pub start-few : (r : Found) (k : ℕ) → r ≡ Found.At k → FoundAs r n (linesIn b) → k ≤ maxSites
-  start-few r k e f =
-      let g : StandsAt k n (linesIn b) = subst (λ (x : Found). FoundAs x n (linesIn b)) e f in
-      omega (arith, g .line, lines-length b, s .few)
+  pub at-found : (r : Found) (k : ℕ) → r ≡ Found.At k → FoundAs r n (linesIn b) → StandsAt k n (linesIn b)
+  at-found r k e f = found-at e f
 
-  pub place-is : (r : Found) (k p : ℕ) → r ≡ Found.At k → FoundAs r n (linesIn b) → 2 * p ≡ recordStart k → PlaceOf b n p
-  place-is r k p e f q =
-      let g : StandsAt k n (linesIn b) = subst (λ (x : Found). FoundAs x n (linesIn b)) e f in
+  pub start-few : (k : ℕ) → StandsAt k n (linesIn b) → k ≤ maxSites
+  start-few k g = omega (arith, g .line, lines-length b, s .few)
+
+  pub place-is : (k p : ℕ) → StandsAt k n (linesIn b) → 2 * p ≡ recordStart k → PlaceOf b n p
+  place-is k p g q =
       let lt : k < countIn b = omega (arith, g .line, lines-length b) in
       let at : siteAt b p ≡ getD (linesIn b) k noSite = ap (siteAtByte b) q ∙ sym (line-at b k noSite lt) in
       let m : List·Memᴰ (siteAt b p) (linesIn b) = subst (λ (x : Site). List·Memᴰ x (linesIn b)) (sym at) (at-member g) in

@@ -16,7 +16,7 @@ ghost use Rattle.split.specs.Skip.{Shut};
 ghost use Rattle.book.specs.Book.{holds};
 ghost use Rattle.row.specs.Vertices.{bare, Small, rowBytes};
 ghost use Rattle.sites.specs.Layout.{recordStart};
-ghost use Rattle.sites.specs.Lines.{linesIn};
+ghost use Rattle.sites.specs.Lines.{linesIn, StandsAt};
 ghost use Rattle.sites.specs.Rules.{SitesOk};
 ghost use Rattle.standing.specs.Layout.{lengthStart};
 ghost use Rattle.standing.specs.Standing.{legIn, standingIn};
@@ -32,6 +32,14 @@ fn record_place(k: usize) -> usize
     start / 2
 }
 
+// The place of record k, which has the number n.
+pub fn place_at(t: &[u8], n: u16, k: usize) -> usize
+    requires { ⌜ (length (now t) ≡ tableBytes) × SitesOk (now t) × StandsAt k n (linesIn (now t)) ⌝ }
+    ensures { λ r. ⌜ PlaceOf (now (t .entry)) n r ⌝ }
+{
+    record_place(k)
+}
+
 // The place of the record that has the number n.
 pub fn place_of(t: &[u8], n: u16) -> usize
     requires { ⌜ (length (now t) ≡ tableBytes) × SitesOk (now t) × (holds n (linesIn (now t)) ≡ true) ⌝ }
@@ -39,7 +47,7 @@ pub fn place_of(t: &[u8], n: u16) -> usize
 {
     let found = sites::find(t, n);
     match found {
-        Found::At(k) => record_place(k),
+        Found::At(k) => place_at(t, n, k),
         Found::Absent(_) => 0,
     }
 }

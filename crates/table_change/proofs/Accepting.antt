@@ -35,6 +35,7 @@ use Rattle.list_change.proofs.Restanding.{tied-below}
 use Rattle.list_change.proofs.Patching.{patchable}
 use Rattle.table_change.specs.Changes.{Relined}
 use Rattle.table_change.proofs.Struck.{strike-written, strike-moved}
+use Rattle.table_change.proofs.Indices.{written-at, moved-at}
 
 pub sound-array : (b : List ℕ) → Sound b → Array b
 sound-array b s = sites-array (s .whole .len) (s .whole .sites)
@@ -69,6 +70,9 @@ module _ (b : List ℕ) (n : ℕ) (p : Position) (s : Sound b) (acc : answer (bo
   pub add-patch : (b₁ : List ℕ) → Relined (writeLine (siteAs n p) (linesIn b)) b b₁ → Patchable n b₁
   add-patch b₁ r = relined-patch b b₁ (writeLine (siteAs n p) (linesIn b)) s r n (strike-written (siteAs n p) (linesIn b))
 
+  pub add-stands : (f : Found) (k : ℕ) → f ≡ Found.Absent k → FoundAs f n (linesIn b) → (b₁ : List ℕ) → Relined (writeLine (siteAs n p) (linesIn b)) b b₁ → StandsAt k n (linesIn b₁)
+  add-stands f k e a b₁ r = subst (StandsAt k n) (sym (r .lines)) (written-at k (siteAs n p) (linesIn b) (found-absent e a))
+
   -- ADDED
   pub add-done : (b₁ b₂ : List ℕ) → Relined (writeLine (siteAs n p) (linesIn b)) b b₁ → Holds b₂ (bookOf b₁) → Holds b₂ (change (Add n p) (bookOf b))
   unfolding change
@@ -83,6 +87,9 @@ module _ (b : List ℕ) (n : ℕ) (s : Sound b) (acc : answer (bookOf b) (Remove
 
   pub remove-patch : (b₁ : List ℕ) → Relined (strikeLine n (linesIn b)) b b₁ → Patchable n b₁
   remove-patch b₁ r = relined-patch b b₁ (strikeLine n (linesIn b)) s r n (strike-none n (strikeLine n (linesIn b)) (holds-strike n (linesIn b)))
+
+  pub remove-gone : (b₁ : List ℕ) → Relined (strikeLine n (linesIn b)) b b₁ → holds n (linesIn b₁) ≡ false
+  remove-gone b₁ r = ap (holds n) (r .lines) ∙ holds-strike n (linesIn b)
 
   -- REMOVED
   pub remove-done : (b₁ b₂ : List ℕ) → Relined (strikeLine n (linesIn b)) b b₁ → Holds b₂ (bookOf b₁) → Holds b₂ (change (Remove n) (bookOf b))
@@ -101,6 +108,9 @@ module _ (b : List ℕ) (n : ℕ) (p : Position) (s : Sound b) (acc : answer (bo
 
   pub move-patch : (b₁ : List ℕ) → Relined (moveLine n p (linesIn b)) b b₁ → Patchable n b₁
   move-patch b₁ r = relined-patch b b₁ (moveLine n p (linesIn b)) s r n (strike-moved n p (linesIn b))
+
+  pub move-stands : (f : Found) (k : ℕ) → f ≡ Found.At k → FoundAs f n (linesIn b) → (b₁ : List ℕ) → Relined (moveLine n p (linesIn b)) b b₁ → StandsAt k n (linesIn b₁)
+  move-stands f k e a b₁ r = subst (StandsAt k n) (sym (r .lines)) (moved-at k n p (linesIn b) (found-at e a))
 
   -- MOVED
   pub move-done : (b₁ b₂ : List ℕ) → Relined (moveLine n p (linesIn b)) b b₁ → Holds b₂ (bookOf b₁) → Holds b₂ (change (Move n p) (bookOf b))

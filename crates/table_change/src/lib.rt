@@ -99,7 +99,7 @@ pub fn add(t: &mut [u8], work: &mut [u8], n: u16, p: Position)
                     position: p,
                 },
             );
-            list_change::patch(t, work, n);
+            list_change::patch_held(t, work, n, k);
         }
         Found::At(_) => {}
     }
@@ -114,7 +114,7 @@ pub fn remove(t: &mut [u8], work: &mut [u8], n: u16)
     match found {
         Found::At(k) => {
             shrink(t, k, n);
-            list_change::patch(t, work, n);
+            list_change::patch_gone(t, work, n);
         }
         Found::Absent(_) => {}
     }
@@ -129,7 +129,7 @@ pub fn replace(t: &mut [u8], work: &mut [u8], n: u16, p: Position)
     match found {
         Found::At(k) => {
             relocate(t, k, n, p);
-            list_change::patch(t, work, n);
+            list_change::patch_held(t, work, n, k);
         }
         Found::Absent(_) => {}
     }

@@ -3,8 +3,8 @@ use borrow.Author.Needs.{needs}
 use Rattle.list_change.proofs.deal_along.Statement.{statement}
 use Rattle.list_change.proofs.deal_along.Tie as tie
 
-place-of-requires : tie.Need-place-of-requires
-place-of-requires c κs = search needs
+place-at-requires : tie.Need-place-at-requires
+place-at-requires c κs = search needs
 
 vertex-at-requires : tie.Need-vertex-at-requires
 vertex-at-requires c κs = (search needs, search (needs, others-leg))
@@ -34,7 +34,7 @@ pub deal-along-spec : {M : Type 1} → statement M
 deal-along-spec =
     tie.close
     (tie.spec
-    place-of-requires
+    place-at-requires
     vertex-at-requires
     end-shuts-requires
     same-length

@@ -1,4 +1,4 @@
-use Rattle.table_change.proofs.Accepting.{add-nowhere, add-room, add-number, add-grid, add-patch, add-done, add-never}
+use Rattle.table_change.proofs.Accepting.{add-nowhere, add-room, add-number, add-grid, add-patch, add-stands, add-done, add-never}
 use borrow.Author.Needs.{needs}
 use Rattle.table_change.proofs.add.Statement.{statement}
 use Rattle.table_change.proofs.add.Tie as tie
@@ -12,8 +12,8 @@ enum-known-found c = search needs
 grow-requires : tie.Need-grow-requires
 grow-requires c κs = ((search needs, search (needs, add-nowhere), search (needs, add-room)), (search (needs, add-number), search (needs, add-grid)))
 
-patch-requires : tie.Need-patch-requires
-patch-requires c κs = (search (needs, add-patch), search needs)
+patch-held-requires : tie.Need-patch-held-requires
+patch-held-requires c κs = (search (needs, add-patch), search (needs, add-stands), search needs)
 
 enum-told : tie.Need-enum-told
 enum-told c = search needs
@@ -40,7 +40,7 @@ add-spec =
     find-requires
     enum-known-found
     grow-requires
-    patch-requires
+    patch-held-requires
     enum-told
     same-length
     same-length-2

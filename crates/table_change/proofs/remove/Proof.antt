@@ -1,4 +1,4 @@
-use Rattle.table_change.proofs.Accepting.{remove-at, remove-patch, remove-done, remove-never}
+use Rattle.table_change.proofs.Accepting.{remove-at, remove-patch, remove-gone, remove-done, remove-never}
 use borrow.Author.Needs.{needs}
 use Rattle.table_change.proofs.remove.Statement.{statement}
 use Rattle.table_change.proofs.remove.Tie as tie
@@ -12,8 +12,8 @@ enum-known-found c = search needs
 shrink-requires : tie.Need-shrink-requires
 shrink-requires c κs = (search needs, search (needs, remove-at))
 
-patch-requires : tie.Need-patch-requires
-patch-requires c κs = (search (needs, remove-patch), search needs)
+patch-gone-requires : tie.Need-patch-gone-requires
+patch-gone-requires c κs = (search (needs, remove-patch), search (needs, remove-gone), search needs)
 
 enum-told : tie.Need-enum-told
 enum-told c = search needs
@@ -40,7 +40,7 @@ remove-spec =
     find-requires
     enum-known-found
     shrink-requires
-    patch-requires
+    patch-gone-requires
     enum-told
     same-length
     same-length-2

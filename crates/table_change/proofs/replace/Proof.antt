@@ -1,4 +1,4 @@
-use Rattle.table_change.proofs.Accepting.{move-at, move-grid, move-patch, move-done, move-never}
+use Rattle.table_change.proofs.Accepting.{move-at, move-grid, move-patch, move-stands, move-done, move-never}
 use borrow.Author.Needs.{needs}
 use Rattle.table_change.proofs.replace.Statement.{statement}
 use Rattle.table_change.proofs.replace.Tie as tie
@@ -12,8 +12,8 @@ enum-known-found c = search needs
 relocate-requires : tie.Need-relocate-requires
 relocate-requires c κs = (search needs, search (needs, move-at), search (needs, move-grid))
 
-patch-requires : tie.Need-patch-requires
-patch-requires c κs = (search (needs, move-patch), search needs)
+patch-held-requires : tie.Need-patch-held-requires
+patch-held-requires c κs = (search (needs, move-patch), search (needs, move-stands), search needs)
 
 enum-told : tie.Need-enum-told
 enum-told c = search needs
@@ -40,7 +40,7 @@ replace-spec =
     find-requires
     enum-known-found
     relocate-requires
-    patch-requires
+    patch-held-requires
     enum-told
     same-length
     same-length-2
