@@ -17,7 +17,7 @@ use Rattle.split.specs.SplitOf.{onto, build}
 use Rattle.split.specs.Skip.{Shut, Witness}
 use Rattle.split.proofs.Skipping.{shut-one}
 use Rattle.row.specs.declared.Vertex.{Vertex}
-use Rattle.row.specs.Vertices.{pointAt, asPoint, bare, IsVertex}
+use Rattle.row.specs.Vertices.{pointAt, bare, IsVertex}
 use Rattle.row.specs.Places.{siteAt}
 use Rattle.book.specs.Book.{holds}
 use Rattle.sites.specs.Lines.{linesIn}
