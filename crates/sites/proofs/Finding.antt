@@ -2,8 +2,9 @@
 -- Assumes nothing.
 use mathlib.Core.Path.{_≡_, refl, ap, sym, _∙_, subst}
 use mathlib.Core.Bool.{true, false, _||_}
+use mathlib.Core.Logic.{_≢_}
 use mathlib.Core.List.{List, [], _∷_, List·Memᴰ, List·Memᴰ·head, List·Memᴰ·tail}
-use Prim.Native.Nat.{ℕ, zero, suc, _+_, _≤_, _<_}
+use Prim.Native.Nat.{ℕ, zero, suc, _+_, _-_, _≤_, _<_}
 use native.Mathlib.Omega.{arith}
 use native.Mathlib.Decide.{decLt}
 use lib.ListN.{length, getD}
@@ -14,10 +15,10 @@ use Rattle.grid.specs.declared.Site.{Site}
 use Rattle.book.specs.Book.{holds}
 use Rattle.book.specs.Proper.{Rising}
 use Rattle.sites.specs.Layout.{recordStart}
-use Rattle.sites.specs.Lines.{countIn, linesIn, noSite, numberOf, Array, StandsAt, StandsNowhere, FoundAs}
+use Rattle.sites.specs.Lines.{countIn, linesIn, noSite, numberOf, Array, StandsAt, StandsNowhere, FoundAs, Narrowed}
 use Rattle.sites.specs.declared.Found.{Found}
 use Rattle.sites.proofs.Reading.{lines-length, number-at}
-use Rattle.sites.proofs.Order.{rising-at}
+use Rattle.sites.proofs.Order.{rising-at, rising-gap}
 
 -- no line has the number n
 abbrev pub Missing : ℕ → List Site → Type 0
@@ -81,13 +82,6 @@ at-counted b h = omega (arith, h .line, lines-length b)
 pub absent-counted : (b : List ℕ) {k n : ℕ} → StandsNowhere k n (linesIn b) → k ≤ countIn b
 absent-counted b h = omega (arith, h .within, lines-length b)
 
--- the number is not below lo, nor from hi on
-pub record Narrowed (b : List ℕ) (n lo hi : ℕ) : Type 0 where
-  pub order : lo ≤ hi
-  pub within : hi ≤ countIn b
-  pub lower : (i : ℕ) → i < lo → numberOf (linesIn b) i < n
-  pub higher : (i : ℕ) → hi ≤ i → i < countIn b → n < numberOf (linesIn b) i
-
 pub find-begun : (b : List ℕ) (n : ℕ) {hi : ℕ} → hi ≡ countIn b → Narrowed b n 0 hi
 find-begun b n e =
     record {
@@ -144,3 +138,31 @@ find-absent {b} w h =
       lower = w .lower;
       higher = λ i f l. w .higher i (omega arith) (omega (arith, lines-length b));
     }
+
+-- The first look, at a record that is guessed.
+pub find-none : (b : List ℕ) (n k : ℕ) → k ≡ countIn b → k ≡ 0 → StandsNowhere 0 n (linesIn b)
+find-none b n k e z = find-absent (find-begun b n e) (omega arith)
+
+module _ (b : List ℕ) (n k at m : ℕ) (a : Array b) (e : k ≡ countIn b) (g : at < k) (q : m ≡ wordAt b (recordStart at)) where
+  pub guessed-at : m ≡ n → StandsAt at n (linesIn b)
+  guessed-at h = find-at a (find-begun b n e) q g h
+
+  pub guessed-low : m < n → Narrowed b n (at + 1) k
+  guessed-low h = find-up a (find-begun b n e) q g h
+
+  pub guessed-high : (d lo : ℕ) → m ≢ n → n ≤ m → d ≡ m - n → lo ≡ at - d → Narrowed b n lo at
+  guessed-high d lo h f ed el =
+      let w : Narrowed b n 0 at = find-down a (find-begun b n e) q g (omega arith) (omega arith) in
+      record {
+        order = omega arith;
+        within = w .within;
+        lower = λ i j.
+            let x : i + (at - i) ≡ at = omega arith in
+            omega (
+              arith,
+              is a (find-begun b n e) q g,
+              rising-gap (linesIn b) (a .rising) i (at - i) (omega (arith, lines-length b)),
+              ap (λ (y : ℕ). numberOf (linesIn b) y) x,
+            );
+        higher = w .higher;
+      }

@@ -1,7 +1,8 @@
 -- Lines whose numbers rise.
 -- Assumes nothing.
+use mathlib.Core.Path.{_≡_, ap}
 use mathlib.Core.List.{List, [], _∷_}
-use Prim.Native.Nat.{ℕ, zero, suc, _<_}
+use Prim.Native.Nat.{ℕ, zero, suc, _+_, _≤_, _<_}
 use native.Mathlib.Omega.{arith}
 use lib.ListN.{length}
 use Rattle.grid.specs.declared.Site.{Site}
@@ -29,6 +30,11 @@ rising-at [] r i j h g = absurd (omega arith)
 rising-at (q ∷ s) r i zero h g = absurd (omega arith)
 rising-at (q ∷ s) r zero (suc j) h g = rising-first q s r j (omega arith)
 rising-at (q ∷ s) r (suc i) (suc j) h g = rising-at s (rising-tail q s r) i j (omega arith) (omega arith)
+
+-- and higher by as much at least as it is later
+pub rising-gap : (s : List Site) → Rising s → (i d : ℕ) → i + d < length s → numberOf s i + d ≤ numberOf s (i + d)
+rising-gap s r i zero h = let e : i + 0 ≡ i = omega arith in omega (arith, ap (λ (j : ℕ). numberOf s j) e)
+rising-gap s r i (suc d) h = omega (arith, rising-gap s r i d (omega arith), rising-at s r (i + d) (i + suc d) (omega arith) h)
 
 -- numbers rise if each is lower than the next
 pub rising-of : (s : List Site) → ((i : ℕ) → suc i < length s → numberOf s i < numberOf s (suc i)) → Rising s

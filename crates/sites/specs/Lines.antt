@@ -63,3 +63,10 @@ pub record StandsNowhere (k n : ℕ) (s : List Site) : Type 0 where
 abbrev pub FoundAs : Found → ℕ → List Site → Type 0
 FoundAs (Found.At k) n s = StandsAt k n s
 FoundAs (Found.Absent k) n s = StandsNowhere k n s
+
+-- the number is not below lo, nor from hi on
+pub record Narrowed (b : List ℕ) (n lo hi : ℕ) : Type 0 where
+  pub order : lo ≤ hi
+  pub within : hi ≤ countIn b
+  pub lower : (i : ℕ) → i < lo → numberOf (linesIn b) i < n
+  pub higher : (i : ℕ) → hi ≤ i → i < countIn b → n < numberOf (linesIn b) i

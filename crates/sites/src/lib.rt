@@ -3,12 +3,12 @@
 use grid::Position;
 use grid::Site;
 ghost use mathlib.Core.Path.{_≡_};
-ghost use Prim.Native.Nat.{_<_};
+ghost use Prim.Native.Nat.{_-_, _<_};
 ghost use lib.ListN.{length};
 ghost use Rattle.limits.specs.Limits.{maxSites, tableBytes};
 ghost use Rattle.words.specs.Words.{wordAt};
 ghost use Rattle.sites.specs.Layout.{recordStart};
-ghost use Rattle.sites.specs.Lines.{countIn, linesIn, lineAt, Array, FoundAs};
+ghost use Rattle.sites.specs.Lines.{countIn, linesIn, lineAt, Array, FoundAs, Narrowed};
 
 pub mod change;
 pub mod rules;
@@ -68,13 +68,38 @@ pub fn line(t: &[u8], k: usize) -> Site
     }
 }
 
-// Where number n stands, by bisection.
-pub fn find(t: &[u8], n: u16) -> Found
-    requires { ⌜ Array (now t) ⌝ }
+// The record at which number n stands if no lower number is missing, or else the last one. Any record would do.
+fn guess(k: usize, n: u16) -> usize
+    requires { ⌜ 0 < k ⌝ }
+    ensures { λ r. ⌜ r < k ⌝ }
+{
+    let past = n as usize;
+    if k < past {
+        return k - 1;
+    }
+    if past == 0 {
+        return 0;
+    }
+    past - 1
+}
+
+// The first record at which a number may stand that is less by `gap` than that of record k: numbers rise by one at least.
+fn lowest(k: usize, gap: usize) -> usize
+    ensures { λ r. ⌜ r ≡ k - gap ⌝ }
+{
+    if k < gap {
+        return 0;
+    }
+    k - gap
+}
+
+// Where number n stands, by bisection of the records from `from` up to `to`.
+fn bisect(t: &[u8], n: u16, from: usize, to: usize) -> Found
+    requires { ⌜ Array (now t) × Narrowed (now t) n from to ⌝ }
     ensures { λ r. ⌜ FoundAs r n (linesIn (now (t .entry))) ⌝ }
 {
-    let mut lo = 0;
-    let mut hi = count(t);
+    let mut lo = from;
+    let mut hi = to;
     while lo < hi {
         let mid = lo + (hi - lo) / 2;
         let m = number(t, mid);
@@ -88,4 +113,27 @@ pub fn find(t: &[u8], n: u16) -> Found
         hi = mid;
     }
     Found::Absent(lo)
+}
+
+// Where number n stands. Numbers are often given one after the other: then the first look finds it, or leaves a few records for the bisection,
+// whose steps cannot be foreseen.
+pub fn find(t: &[u8], n: u16) -> Found
+    requires { ⌜ Array (now t) ⌝ }
+    ensures { λ r. ⌜ FoundAs r n (linesIn (now (t .entry))) ⌝ }
+{
+    let k = count(t);
+    if k == 0 {
+        return Found::Absent(0);
+    }
+    let at = guess(k, n);
+    let first = number(t, at);
+    if first == n {
+        return Found::At(at);
+    }
+    if first < n {
+        return bisect(t, n, at + 1, k);
+    }
+    let gap = (first - n) as usize;
+    let from = lowest(at, gap);
+    bisect(t, n, from, at)
 }

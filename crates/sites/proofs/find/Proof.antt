@@ -1,74 +1,57 @@
-use Rattle.sites.proofs.Finding.{Narrowed, find-begun, find-up, find-down, find-at, find-absent}
-use Prim.Native.Nat.{_-_}
+use Rattle.sites.proofs.Finding.{find-none, guessed-at, guessed-low, guessed-high}
 use borrow.Author.Needs.{needs}
-use native.Mathlib.Omega.{arith}
 use Rattle.sites.proofs.find.Statement.{statement}
 use Rattle.sites.proofs.find.Tie as tie
 
-abbrev Inv-loop : tie.InvT-loop
-Inv-loop t n lo₀ hi₀ lo hi = Narrowed t n lo hi
-
-abbrev μ-loop : tie.MeasureT-loop
-μ-loop t n lo₀ hi₀ lo hi = hi - lo
-
-count-requires : tie.Need-count-requires Inv-loop μ-loop
+count-requires : tie.Need-count-requires
 count-requires c κs = search needs
 
-loop-holds : tie.Need-loop-holds Inv-loop μ-loop
-loop-holds c = search (needs, find-begun)
+returns : tie.Need-returns
+returns c = search (needs, find-none)
 
-sub-mid : tie.Need-sub-mid Inv-loop μ-loop
-sub-mid c = search needs
+guess-requires : tie.Need-guess-requires
+guess-requires c κs = search needs
 
-add-mid : tie.Need-add-mid Inv-loop μ-loop
-add-mid c = search needs
-
-number-requires : tie.Need-number-requires Inv-loop μ-loop
+number-requires : tie.Need-number-requires
 number-requires c κs = search needs
 
-returns : tie.Need-returns Inv-loop μ-loop
-returns c =
-    let s = c .before .before .before in
-    find-at (s .before .before .before .pre) (s .loop .inv) (c .before .number .ensures) (omega arith) (omega arith)
+returns-2 : tie.Need-returns-2
+returns-2 c = search (needs, guessed-at)
 
-add-lo : tie.Need-add-lo Inv-loop μ-loop
-add-lo c = search needs
+add-bisect : tie.Need-add-bisect
+add-bisect c = search needs
 
-loop-less : tie.Need-loop-less Inv-loop μ-loop
-loop-less c = search needs
+bisect-requires : tie.Need-bisect-requires
+bisect-requires c κs = (search needs, search (needs, guessed-low))
 
-loop-again : tie.Need-loop-again Inv-loop μ-loop
-loop-again c =
-    let s = c .before .before .before .before in
-    find-up (s .before .before .before .pre) (s .loop .inv) (c .before .before .number .ensures) (omega arith) (omega arith)
+returns-3 : tie.Need-returns-3
+returns-3 c = search needs
 
-loop-less-2 : tie.Need-loop-less-2 Inv-loop μ-loop
-loop-less-2 c = search needs
+cast-gap : tie.Need-cast-gap
+cast-gap c = search needs
 
-loop-again-2 : tie.Need-loop-again-2 Inv-loop μ-loop
-loop-again-2 c =
-    let s = c .before .before .before .before in
-    find-down (s .before .before .before .pre) (s .loop .inv) (c .before .before .number .ensures) (omega arith) (omega arith)
-    (omega arith)
+lowest-requires : tie.Need-lowest-requires
+lowest-requires c κs = search needs
 
-returns-2 : tie.Need-returns-2 Inv-loop μ-loop
-returns-2 c = search (needs, find-absent)
+bisect-requires-2 : tie.Need-bisect-requires-2
+bisect-requires-2 c κs = (search needs, search (needs, guessed-high))
+
+returns-4 : tie.Need-returns-4
+returns-4 c = search needs
 
 pub find-spec : {M : Type 1} → statement M
 find-spec =
     tie.close
     (tie.spec
-    Inv-loop
-    μ-loop
     count-requires
-    loop-holds
-    sub-mid
-    add-mid
-    number-requires
     returns
-    add-lo
-    loop-less
-    loop-again
-    loop-less-2
-    loop-again-2
-    returns-2)
+    guess-requires
+    number-requires
+    returns-2
+    add-bisect
+    bisect-requires
+    returns-3
+    cast-gap
+    lowest-requires
+    bisect-requires-2
+    returns-4)
