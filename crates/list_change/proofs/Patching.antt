@@ -38,9 +38,9 @@ use Rattle.standing.specs.Layout.{lengthStart}
 use Rattle.standing.specs.Standing.{legIn, standingIn, numbersOf, asOption, ListStored}
 use Rattle.table.specs.Table.{bookOf, Whole, Sound}
 use Rattle.demands.specs.Step.{Holds}
-use Rattle.stored_list.specs.Loading.{PlaceOf, NumbersHeld, PlacesOf, ShutOut}
+use Rattle.stored_list.specs.Loading.{PlaceOf, NumbersHeld, PlacesOf, EntryShuts}
 use Rattle.stored_list.proofs.Rows.{standing-length, numbers-length, Stored, stored-few, stored-held, places-held, places-list}
-use Rattle.stored_list.proofs.Ends.{shut-true, shut-witness}
+use Rattle.stored_list.proofs.Ends.{shut-true, entry-shuts-out}
 use Rattle.list_change.specs.Patching.{ListsOthers, Patchable}
 use Rattle.list_change.proofs.Restanding.{whole-numbered, stored-holds}
 
@@ -188,13 +188,13 @@ module _ (b : List ℕ) (n : ℕ) (l : Leg) (w : Whole b) (leg : LegOk (legIn b)
   others-leg = subst LegOk set leg
 
   -- KEPT OUT by an entry: the list of the others is that of all
-  pub shut-holds : (x : Vertex) → IsVertex l b p x → (c : Bool) → c ≡ true → If c (ShutOut l b (x .a) (x .c)) → Holds b (bookOf b)
+  pub shut-holds : (x : Vertex) → IsVertex l b p x → (c : Bool) → c ≡ true → If c (EntryShuts l b (x .a) (x .c)) → Holds b (bookOf b)
   unfolding splitOf
   shut-holds x v c e h =
       let same : SameSites (linesIn b) (siteAt b p ∷ strikeLine n (linesIn b)) = strike-sites n (linesIn b) (siteAt b p) (w .sites .rising) (q .line) (q .number) in
       let num = whole-numbered b w in
-      let wit = shut-witness l (strikeLine n (linesIn b)) b others (x .a) (x .c) (shut-true l b (x .a) (x .c) c e h) in
-      let hull = skip-hull wit (pointAt l b p) (omega (arith, a-of v)) (omega (arith, c-of v)) (build-hull (points l (strikeLine n (linesIn b)))) in
+      let out = entry-shuts-out l (strikeLine n (linesIn b)) b others (x .a) (x .c) (shut-true l b (x .a) (x .c) c e h) in
+      let hull = skip-hull out (pointAt l b p) (omega (arith, a-of v)) (omega (arith, c-of v)) (build-hull (points l (strikeLine n (linesIn b)))) in
       let list = hull-list l (siteAt b p ∷ strikeLine n (linesIn b)) (linesIn b)
       (numbered-same (siteAt b p ∷ strikeLine n (linesIn b)) (linesIn b) same num) num same
       (build (points l (strikeLine n (linesIn b)))) hull in

@@ -20,8 +20,8 @@ pub struct Corner {
     pub c: u32,
 }
 
-// Whether v is as low as the corner in both, and lower in one.
-fn lower(v: Vertex, corner: Corner) -> bool
+// Whether v is as low as the corner in both, and lower in one. A tie shuts nothing out: of two the lower number is listed.
+pub fn lower(v: Vertex, corner: Corner) -> bool
     requires { ⌜ Small v × SmallCorner corner ⌝ }
     ensures { λ r. ⌜ If r (Shut (bare v) (bare v) (corner .a) (corner .c)) ⌝ }
 {

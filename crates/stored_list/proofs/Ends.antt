@@ -14,8 +14,8 @@ use Rattle.grid.specs.Says.{If}
 use Rattle.split.specs.SplitList.{Numbered}
 use Rattle.split.specs.Hull.{Point, pointOf, points, In}
 use Rattle.split.specs.SplitOf.{onto, build}
-use Rattle.split.specs.Skip.{Shut, Witness}
-use Rattle.split.proofs.Skipping.{shut-one}
+use Rattle.split.specs.Skip.{Shut, ShutOut}
+use Rattle.split.proofs.Skipping.{witness-shuts}
 use Rattle.row.specs.declared.Vertex.{Vertex}
 use Rattle.row.specs.Vertices.{pointAt, bare, IsVertex}
 use Rattle.row.specs.Places.{siteAt}
@@ -23,12 +23,8 @@ use Rattle.book.specs.Book.{holds}
 use Rattle.sites.specs.Lines.{linesIn}
 use Rattle.standing.specs.Layout.{lengthStart, listStart}
 use Rattle.standing.specs.Standing.{wordsFrom}
-use Rattle.stored_list.specs.Loading.{PlaceOf, NumbersHeld, ShutOut}
+use Rattle.stored_list.specs.Loading.{PlaceOf, NumbersHeld, EntryShuts}
 use Rattle.stored_list.proofs.Rows.{PointsOf, numbersIn, tailOf, onto-back, Stored, all-numbered, listed-points, words-are}
-
--- the return of `lower`
-pub lower-shut : (v x : Vertex) → v .a ≤ x .a → v .c ≤ x .c → v .a + v .c < x .a + x .c → Shut (bare v) (bare v) (x .a) (x .c)
-lower-shut v x = shut-one (bare v) (x .a) (x .c)
 
 -- the number of an entry is held
 pub entry-held : (b : List ℕ) (i n : ℕ) → NumbersHeld b → i < wordAt b lengthStart → n ≡ wordAt b (listStart + 2 * i) → holds n (linesIn b) ≡ true
@@ -36,7 +32,7 @@ entry-held b i n s h e = subst (λ (y : ℕ). holds y (linesIn b) ≡ true) (sym
 
 -- the return of `entry_shuts`
 module _ (l : Leg) (b : List ℕ) (i : ℕ) (a c : ℕ) where
-  entry-shut : (n p : ℕ) (v : Vertex) → i < wordAt b lengthStart → n ≡ wordAt b (listStart + 2 * i) → PlaceOf b n p → IsVertex l b p v → Shut (bare v) (bare v) a c → ShutOut l b a c
+  entry-shut : (n p : ℕ) (v : Vertex) → i < wordAt b lengthStart → n ≡ wordAt b (listStart + 2 * i) → PlaceOf b n p → IsVertex l b p v → Shut (bare v) (bare v) a c → EntryShuts l b a c
   entry-shut n p v h e q hv s =
       record {
         entry = i;
@@ -47,11 +43,11 @@ module _ (l : Leg) (b : List ℕ) (i : ℕ) (a c : ℕ) where
       }
 
   pub entry-says : (n p : ℕ) (v : Vertex) → i < wordAt b lengthStart → n ≡ wordAt b (listStart + 2 * i) → PlaceOf b n p → IsVertex l b p v
-      → (r : Bool) → If r (Shut (bare v) (bare v) a c) → If r (ShutOut l b a c)
+      → (r : Bool) → If r (Shut (bare v) (bare v) a c) → If r (EntryShuts l b a c)
   entry-says n p v h e q hv true s = entry-shut n p v h e q hv s
   entry-says n p v h e q hv false s = tt
 
-pub shut-true : (l : Leg) (b : List ℕ) (a c : ℕ) (r : Bool) → r ≡ true → If r (ShutOut l b a c) → ShutOut l b a c
+pub shut-true : (l : Leg) (b : List ℕ) (a c : ℕ) (r : Bool) → r ≡ true → If r (EntryShuts l b a c) → EntryShuts l b a c
 shut-true l b a c r e h = rw e at h
 
 -- a place with the number of word j is that of point j
@@ -72,9 +68,9 @@ words-point l b u (v ∷ f) pf o (suc n) e (suc j) h p q =
 
 module _ (l : Leg) (s : List Site) (b : List ℕ) (st : Stored l s b) (a c : ℕ) where
   -- AN ENTRY'S SITE is a vertex of the hull, so what it shuts out changes nothing
-  pub shut-witness : ShutOut l b a c → Witness (build (points l s)) a c
-  shut-witness h =
-      record { u = pointAt l b (h .place); v = pointAt l b (h .place); has-u = there; has-v = there; shut = h .shut }
+  pub entry-shuts-out : EntryShuts l b a c → ShutOut (build (points l s)) a c
+  entry-shuts-out h =
+      witness-shuts (record { u = pointAt l b (h .place); v = pointAt l b (h .place); has-u = there; has-v = there; shut = h .shut })
     where
       here : In (pointAt l b (h .place)) (onto (build (points l s)) [])
       here =

@@ -39,7 +39,7 @@ pub record Loaded (l : Leg) (b r r′ : List ℕ) (k : ℕ) : Type 0 where
   pub only : Only 0 rowBytes r r′
 
 -- the site of one entry shuts out all that is at or beyond the corner (a, c)
-pub record ShutOut (l : Leg) (b : List ℕ) (a c : ℕ) : Type 0 where
+pub record EntryShuts (l : Leg) (b : List ℕ) (a c : ℕ) : Type 0 where
   pub entry : ℕ
   pub place : ℕ
   pub within : entry < wordAt b lengthStart

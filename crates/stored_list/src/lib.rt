@@ -1,6 +1,7 @@
 // The stored standing list: loaded into a row of places, from site numbers back to records, searched for a number, and asked whether it keeps a site out.
 use grid::Leg;
 use row::Vertex;
+use row_skip::Corner;
 use sites::Found;
 ghost use mathlib.Core.Path.{_≡_};
 ghost use mathlib.Core.Option.{some};
@@ -21,7 +22,7 @@ ghost use Rattle.sites.specs.Rules.{SitesOk};
 ghost use Rattle.standing.specs.Layout.{lengthStart};
 ghost use Rattle.standing.specs.Standing.{legIn, standingIn};
 ghost use Rattle.table.specs.Table.{Sound};
-ghost use Rattle.stored_list.specs.Loading.{PlaceOf, NumbersHeld, PlacesOf, Loaded, ShutOut};
+ghost use Rattle.stored_list.specs.Loading.{PlaceOf, NumbersHeld, PlacesOf, Loaded, EntryShuts};
 
 // The place of record k.
 fn record_place(k: usize) -> usize
@@ -93,41 +94,23 @@ pub fn lists(t: &[u8], n: u16) -> bool
     false
 }
 
-// Whether v is as near as x to both ends of the leg, and nearer to one. A tie keeps nothing out: of two the lower number is listed.
-fn lower(v: Vertex, x: Vertex) -> bool
-    requires { ⌜ Small v × Small x ⌝ }
-    ensures { λ r. ⌜ If r (Shut (bare v) (bare v) (x .a) (x .c)) ⌝ }
-{
-    if x.a < v.a {
-        return false;
-    }
-    if x.c < v.c {
-        return false;
-    }
-    let sum = v.a + v.c;
-    if sum < x.a + x.c {
-        return true;
-    }
-    false
-}
-
 // Whether entry i keeps the site x out.
 fn entry_shuts(t: &[u8], leg: Leg, i: usize, x: Vertex) -> bool
     requires { ⌜ (length (now t) ≡ tableBytes) × SitesOk (now t) × NumbersHeld (now t) ⌝ }
     requires { ⌜ LegOnGrid leg × Small x × (i < wordAt (now t) lengthStart) ⌝ }
-    ensures { λ r. ⌜ If r (ShutOut leg (now (t .entry)) (x .a) (x .c)) ⌝ }
+    ensures { λ r. ⌜ If r (EntryShuts leg (now (t .entry)) (x .a) (x .c)) ⌝ }
 {
     let n = words::word(t, standing::LIST_START + 2 * i);
     let p = place_of(t, n);
     let v = row::vertex_at(t, leg, p);
-    lower(v, x)
+    row_skip::lower(v, Corner { a: x.a, c: x.c })
 }
 
 // Whether the last entry keeps the site x out, or the first one: where x is far from the leg, one of them does, and no other need be loaded.
 pub fn end_shuts(t: &[u8], leg: Leg, x: Vertex) -> bool
     requires { ⌜ (length (now t) ≡ tableBytes) × SitesOk (now t) × NumbersHeld (now t) ⌝ }
     requires { ⌜ LegOnGrid leg × Small x ⌝ }
-    ensures { λ r. ⌜ If r (ShutOut leg (now (t .entry)) (x .a) (x .c)) ⌝ }
+    ensures { λ r. ⌜ If r (EntryShuts leg (now (t .entry)) (x .a) (x .c)) ⌝ }
 {
     let k = words::word(t, standing::LENGTH_START) as usize;
     if k == 0 {
