@@ -1,4 +1,5 @@
 pub mod Members
+pub mod Finding
 pub mod Depth
 pub mod Renewing
 pub mod Cutting

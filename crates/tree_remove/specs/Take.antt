@@ -2,18 +2,29 @@
 -- Assumes nothing.
 use mathlib.Core.Path.{_≡_}
 use mathlib.Core.List.{List}
-use Prim.Native.Nat.{ℕ, suc, _+_, _≤_}
-use lib.ListN.{length}
+use Prim.Native.Nat.{ℕ, suc, _+_, _≤_, _<_}
+use lib.ListN.{length, getD}
 use Rattle.limits.specs.Limits.{maxNodes, tableBytes}
 use Rattle.words.specs.Words.{Only}
 use Rattle.node.specs.declared.Entry.{Entry}
 use Rattle.node.specs.Layout.{freeStart}
-use Rattle.node.specs.Node.{entries}
+use Rattle.node.specs.Node.{entries, noEntry}
 use Rattle.node.specs.Free.{free}
 use Rattle.node.specs.Tally.{total, tally}
 use Rattle.rtree.specs.Tree.{joined, leaves, leavesAt, nodesAt, Each, Sound}
 use Rattle.rtree.specs.Change.{Ready}
 use Rattle.tree_remove.specs.declared.Outcome.{Outcome}
+
+-- none of the entries of l from k up to i has what P asks
+pub record Passed (P : Entry → Type 0) (l : List Entry) (k i : ℕ) : Type 0 where
+  pub least : k ≤ i
+  pub most : i ≤ length l
+  pub none : (j : ℕ) → k ≤ j → j < i → P (getD l j noEntry) → ⊥
+
+-- i is the first entry of l from k on that has what P asks, or how many entries l has where there is none
+pub record First (P : Entry → Type 0) (l : List Entry) (k i : ℕ) : Type 0 where
+  pub passed : Passed P l k i
+  pub here : i < length l → P (getD l i noEntry)
 
 -- a leaf entry may be taken from under node n, whose entries stand at height h
 pub record Open (h n : ℕ) (b : List ℕ) : Type 0 where

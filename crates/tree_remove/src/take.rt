@@ -9,10 +9,11 @@ ghost use mathlib.Core.Path.{_≡_};
 ghost use mathlib.Core.List.{[], _∷_};
 ghost use Prim.Native.Nat.{_<_, _≤_};
 ghost use lib.ListN.{length, getD, drop};
+ghost use Rattle.limits.specs.Limits.{maxNodes, tableBytes};
 ghost use Rattle.node.specs.Boxes.{In};
 ghost use Rattle.node.specs.Node.{entries, noEntry};
 ghost use Rattle.node.specs.Told.{Told};
-ghost use Rattle.tree_remove.specs.Take.{Open, Searched};
+ghost use Rattle.tree_remove.specs.Take.{First, Open, Searched};
 
 // Whether the box of f holds the box of e.
 fn holds(f: Entry, e: Entry) -> bool
@@ -33,18 +34,59 @@ fn holds(f: Entry, e: Entry) -> bool
     true
 }
 
-// Takes the leaf entry e from under f, which is entry k of node n and stands at height h.
+// The first entry of node n from k on whose box holds the box of e; how many entries n has where there is none.
+// A loop: a call for each entry costs more than the test of its box.
+fn next_holding(table: &[u8], n: usize, k: usize, e: Entry) -> usize
+    requires { ⌜ (length (now table) ≡ tableBytes) × (n < maxNodes) × (k ≤ length (entries (now table) n)) ⌝ }
+    ensures { λ r. ⌜ First (λ f. In e f) (entries (now (table .entry)) n) k r ⌝ }
+{
+    let m = pool::count(table, n);
+    let mut i = k;
+    while i < m {
+        let f = pool::entry_at(table, n, i);
+        if holds(f, e) {
+            return i;
+        }
+        i += 1;
+    }
+    m
+}
+
+// The first entry of node n from k on that is e; how many entries n has where there is none.
+fn next_equal(table: &[u8], n: usize, k: usize, e: Entry) -> usize
+    requires { ⌜ (length (now table) ≡ tableBytes) × (n < maxNodes) × (k ≤ length (entries (now table) n)) ⌝ }
+    ensures { λ r. ⌜ First (λ f. f ≡ e) (entries (now (table .entry)) n) k r ⌝ }
+{
+    let m = pool::count(table, n);
+    let mut i = k;
+    while i < m {
+        let f = pool::entry_at(table, n, i);
+        if boxes::same(f, e) {
+            return i;
+        }
+        i += 1;
+    }
+    m
+}
+
+// Takes the leaf entry e from the entries from k on of the leaf n.
+fn take_from_leaf(table: &mut [u8], n: usize, k: usize, e: Entry) -> Outcome
+    requires { ⌜ Open 0 n (now table) × (k ≤ length (entries (now table) n)) ⌝ }
+    ensures { λ r. ⌜ Searched r 0 n e (drop k (entries (now (table .entry)) n)) (now (table .entry)) (now (table .exit)) ⌝ }
+{
+    let i = next_equal(table, n, k, e);
+    if i < pool::count(table, n) {
+        pool::drop_entry(table, n, i);
+        return Outcome::Gone;
+    }
+    Outcome::Absent
+}
+
+// Takes the leaf entry e from under f, which is entry k of node n and stands at height h, above the leaves.
 fn take_child(table: &mut [u8], h: usize, n: usize, k: usize, f: Entry, e: Entry) -> Outcome
-    requires { ⌜ Open h n (now table) × (k < length (entries (now table) n)) × (f ≡ getD (entries (now table) n) k noEntry) ⌝ }
+    requires { ⌜ Open h n (now table) × (h ≡ 0 → ⊥) × (k < length (entries (now table) n)) × (f ≡ getD (entries (now table) n) k noEntry) ⌝ }
     ensures { λ r. ⌜ Searched r h n e (f ∷ []) (now (table .entry)) (now (table .exit)) ⌝ }
 {
-    if h == 0 {
-        if boxes::same(f, e) {
-            pool::drop_entry(table, n, k);
-            return Outcome::Gone;
-        }
-        return Outcome::Absent;
-    }
     let c = f.reference as usize;
     let r = take(table, h - 1, c, 0, e);
     match r {
@@ -61,16 +103,16 @@ pub fn take(table: &mut [u8], h: usize, n: usize, k: usize, e: Entry) -> Outcome
     requires { ⌜ Open h n (now table) × (k ≤ length (entries (now table) n)) ⌝ }
     ensures { λ r. ⌜ Searched r h n e (drop k (entries (now (table .entry)) n)) (now (table .entry)) (now (table .exit)) ⌝ }
 {
-    if k < pool::count(table, n) {
-        let f = pool::entry_at(table, n, k);
-        if holds(f, e) {
-            let r = take_child(table, h, n, k, f, e);
-            match r {
-                Outcome::Absent => take(table, h, n, k + 1, e),
-                Outcome::Gone => Outcome::Gone,
-            }
-        } else {
-            take(table, h, n, k + 1, e)
+    if h == 0 {
+        return take_from_leaf(table, n, k, e);
+    }
+    let i = next_holding(table, n, k, e);
+    if i < pool::count(table, n) {
+        let f = pool::entry_at(table, n, i);
+        let r = take_child(table, h, n, i, f, e);
+        match r {
+            Outcome::Absent => take(table, h, n, i + 1, e),
+            Outcome::Gone => Outcome::Gone,
         }
     } else {
         Outcome::Absent
