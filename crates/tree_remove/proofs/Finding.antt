@@ -1,17 +1,41 @@
--- Entries read one by one until one has what is asked.
+-- Entries read one by one until one has what is asked, and what is asked above the leaves: a box that holds another.
 -- Assumes nothing.
 use mathlib.Core.Path.{_≡_, sym, subst}
 use mathlib.Core.Bool.{Bool, true, false}
 use mathlib.Core.List.{List}
+use mathlib.Core.Logic.{⊎-elim}
 use Prim.Native.Nat.{ℕ, _+_, _≤_, _<_}
 use native.Mathlib.Omega.{arith}
 use native.Mathlib.Decide.{decLt}
 use lib.ListN.{length, getD}
 use Rattle.node.specs.declared.Entry.{Entry}
+use Rattle.node.specs.Boxes.{In}
 use Rattle.node.specs.Node.{noEntry}
 use Rattle.node.specs.Told.{Told}
-use Rattle.tree_remove.specs.Take.{Passed, First}
+use Rattle.node.proofs.Counting.{le-or-lt}
+use Rattle.node.proofs.Telling.{told-yes, told-no}
+use Rattle.tree_remove.specs.Take.{OneIfLess, Passed, First}
 
+-- what counts 0 is not less
+side : (a b r : ℕ) → OneIfLess a b r → r ≡ 0 → b ≤ a
+side a b r o q = ⊎-elim (λ (le : b ≤ a). le) (λ (lt : a < b). absurd (omega (arith, o .one lt))) (le-or-lt b a)
+
+-- the sides of e's box that lie beyond f's are counted: there is none, or f's box does not hold e's
+module _ (f e : Entry) (w s x n : ℕ) (ow : OneIfLess (e .west) (f .west) w) (os : OneIfLess (e .south) (f .south) s) (ox : OneIfLess (f .east) (e .east) x) (on : OneIfLess (f .north) (e .north) n) where
+  pub boxed : w + s + x + n ≡ 0 → Told true (In e f) (In e f)
+  boxed q =
+      let i : In e f = record {
+        west = side (e .west) (f .west) w ow (omega arith);
+        south = side (e .south) (f .south) s os (omega arith);
+        east = side (f .east) (e .east) x ox (omega arith);
+        north = side (f .north) (e .north) n on (omega arith);
+      } in
+      told-yes i i
+
+  pub beyond : (w + s + x + n ≡ 0 → ⊥) → Told false (In e f) (In e f)
+  beyond nz = told-no (λ i. nz (omega (arith, ow .zero (i .west), os .zero (i .south), ox .zero (i .east), on .zero (i .north))))
+
+-- one entry after the other
 module _ (P : Entry → Type 0) (l : List Entry) (k : ℕ) where
   pub passed-none : k ≤ length l → Passed P l k k
   passed-none le = record { least = omega arith; most = le; none = λ j lo hi. absurd (omega arith) }

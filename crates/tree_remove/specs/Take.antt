@@ -15,6 +15,12 @@ use Rattle.rtree.specs.Tree.{joined, leaves, leavesAt, nodesAt, Each, Sound}
 use Rattle.rtree.specs.Change.{Ready}
 use Rattle.tree_remove.specs.declared.Outcome.{Outcome}
 
+-- r is 1 where a is less than b, else 0
+pub record OneIfLess (a b r : ℕ) : Type 0 where
+  pub most : r ≤ 1
+  pub one : a < b → r ≡ 1
+  pub zero : b ≤ a → r ≡ 0
+
 -- none of the entries of l from k up to i has what P asks
 pub record Passed (P : Entry → Type 0) (l : List Entry) (k i : ℕ) : Type 0 where
   pub least : k ≤ i

@@ -13,25 +13,27 @@ ghost use Rattle.limits.specs.Limits.{maxNodes, tableBytes};
 ghost use Rattle.node.specs.Boxes.{In};
 ghost use Rattle.node.specs.Node.{entries, noEntry};
 ghost use Rattle.node.specs.Told.{Told};
-ghost use Rattle.tree_remove.specs.Take.{First, Open, Searched};
+ghost use Rattle.tree_remove.specs.Take.{OneIfLess, First, Open, Searched};
 
-// Whether the box of f holds the box of e.
+// 1 where a is less than b, else 0. A choice of values: no branch foresees how boxes lie.
+fn less(a: u16, b: u16) -> u16
+    ensures { λ r. ⌜ OneIfLess a b r ⌝ }
+{
+    if a < b { 1 } else { 0 }
+}
+
+// Whether the box of f holds the box of e: no side of e's lies beyond.
 fn holds(f: Entry, e: Entry) -> bool
     ensures { λ r. ⌜ Told r (In e f) (In e f) ⌝ }
 {
-    if e.west < f.west {
-        return false;
+    let beyond = less(e.west, f.west)
+        + less(e.south, f.south)
+        + less(f.east, e.east)
+        + less(f.north, e.north);
+    if beyond == 0 {
+        return true;
     }
-    if e.south < f.south {
-        return false;
-    }
-    if f.east < e.east {
-        return false;
-    }
-    if f.north < e.north {
-        return false;
-    }
-    true
+    false
 }
 
 // The first entry of node n from k on whose box holds the box of e; how many entries n has where there is none.
