@@ -24,13 +24,13 @@ pub const NODE_BYTES: usize = 98;
 pub const ENTRY_BYTES: usize = 12;
 
 // An entry of a node: at a leaf the number of a site, above the leaves the child node's id, and the smallest box of what lies under it.
-// Coordinates are counted from the grid's south-west corner. The spare number is 0.
+// Coordinates are counted from the grid's south-west corner. The spare number is 0. The box comes first, so that a copied entry's box lies in one machine word.
 pub struct Entry {
-    pub reference: u16,
     pub west: u16,
     pub south: u16,
     pub east: u16,
     pub north: u16,
+    pub reference: u16,
     pub spare: u16,
 }
 

@@ -11,10 +11,10 @@ ghost use lib.ListN.{length};
 ghost use Rattle.limits.specs.Limits.{maxEntries, maxNodes, tableBytes};
 ghost use Rattle.node.specs.Node.{entries};
 
-// A cut: its mask, and how bad it is.
+// A cut: how many boxes of an order come before it, and how bad it is.
 struct Cut {
-    mask: u16,
-    cost: u32,
+    at: usize,
+    cost: u64,
 }
 
 fn lesser(a: u16, b: u16) -> u16 {
@@ -26,15 +26,14 @@ fn larger(a: u16, b: u16) -> u16 {
 }
 
 // A number for each box, by its middle and of equal middles by its index: no two are equal, so that one comparison orders two boxes.
-fn keys(low: &[u16; 9], high: &[u16; 9]) -> [u32; 9] {
-    let mut keys: [u32; 9] = [0; 9];
+// Arrays are filled where they stand: one that is handed back would be copied.
+fn keys(low: &[u16; 9], high: &[u16; 9], out: &mut [u32; 9]) {
     let mut i: usize = 0;
     while i < 9 {
         let sum = measure::wide(low[i]) + measure::wide(high[i]);
-        keys[i] = 16 * sum + i as u32;
+        out[i] = 16 * sum + i as u32;
         i += 1;
     }
-    keys
 }
 
 // 1 where a is less than b, else 0. A choice of values: no branch foresees how boxes lie.
@@ -56,16 +55,15 @@ fn rank(keys: &[u32; 9], key: u32) -> usize {
 }
 
 // The place of each box in the order.
-fn ranks(low: &[u16; 9], high: &[u16; 9]) -> [usize; 9] {
-    let keys = keys(low, high);
-    let mut places: [usize; 9] = [0; 9];
+fn ranks(low: &[u16; 9], high: &[u16; 9], places: &mut [usize; 9]) {
+    let mut keyed: [u32; 9] = [0; 9];
+    keys(low, high, &mut keyed);
     let mut i: usize = 0;
     while i < 9 {
-        let key = keys[i];
-        places[i] = rank(&keys, key);
+        let key = keyed[i];
+        places[i] = rank(&keyed, key);
         i += 1;
     }
-    places
 }
 
 // Bit i where the place is not below the cut.
@@ -89,38 +87,71 @@ fn mask_at(places: &[usize; 9], cut: usize) -> u16 {
     mask
 }
 
-// 0 for a box of the side whose bit is `side`, and all ones for another, so that no branch leaves it out.
-fn blank(mask: u16, i: usize, side: u16) -> u16
-    requires { ⌜ i < 9 ⌝ }
+// A place, which is one of nine.
+fn ninth(place: usize) -> usize
+    ensures { λ r. ⌜ r < 9 ⌝ }
 {
-    if (mask >> i) & 1 == side { 0 } else { 65535 }
+    if place < 9 { place } else { 8 }
 }
 
-// How long the boxes of one side, whose bit is `side`, are together along an axis.
-fn extent(low: &[u16; 9], high: &[u16; 9], mask: u16, side: u16) -> u32
-    ensures { λ r. ⌜ r < 65536 ⌝ }
-{
-    let mut least: u16 = 65535;
-    let mut most: u16 = 0;
+// A row of coordinates in the order of the boxes.
+fn sort(row: &[u16; 9], places: &[usize; 9], out: &mut [u16; 9]) {
     let mut i: usize = 0;
     while i < 9 {
-        let out = blank(mask, i, side);
-        least = lesser(least, low[i] | out);
-        most = larger(most, high[i] & (65535 - out));
+        let p = ninth(places[i]);
+        out[p] = row[i];
         i += 1;
     }
-    measure::span(least, most)
 }
 
-// What both sides are long along an axis.
-fn extents(low: &[u16; 9], high: &[u16; 9], mask: u16) -> u32
-    ensures { λ r. ⌜ r < 131072 ⌝ }
-{
-    extent(low, high, mask, 0) + extent(low, high, mask, 1)
+// Half the perimeter of the first boxes of an order together: of the first i + 1 at i.
+fn halves_before(
+    west: &[u16; 9],
+    south: &[u16; 9],
+    east: &[u16; 9],
+    north: &[u16; 9],
+    out: &mut [u32; 9],
+) {
+    let mut w: u16 = 65535;
+    let mut s: u16 = 65535;
+    let mut e: u16 = 0;
+    let mut n: u16 = 0;
+    let mut i: usize = 0;
+    while i < 9 {
+        w = lesser(w, west[i]);
+        s = lesser(s, south[i]);
+        e = larger(e, east[i]);
+        n = larger(n, north[i]);
+        out[i] = measure::span(w, e) + measure::span(s, n);
+        i += 1;
+    }
+}
+
+// The same of the boxes from the ith on.
+fn halves_after(
+    west: &[u16; 9],
+    south: &[u16; 9],
+    east: &[u16; 9],
+    north: &[u16; 9],
+    out: &mut [u32; 9],
+) {
+    let mut w: u16 = 65535;
+    let mut s: u16 = 65535;
+    let mut e: u16 = 0;
+    let mut n: u16 = 0;
+    let mut i: usize = 9;
+    while 0 < i {
+        i -= 1;
+        w = lesser(w, west[i]);
+        s = lesser(s, south[i]);
+        e = larger(e, east[i]);
+        n = larger(n, north[i]);
+        out[i] = measure::span(w, e) + measure::span(s, n);
+    }
 }
 
 // 1 for a cut that leaves three on a side, else 0.
-fn uneven(cut: usize) -> u32
+fn uneven(cut: usize) -> u64
     ensures { λ r. ⌜ r ≤ 1 ⌝ }
 {
     if cut == 4 {
@@ -132,43 +163,63 @@ fn uneven(cut: usize) -> u32
     1
 }
 
-// The better of c and the cut of the boxes ordered by `places`.
-fn better(
-    c: Cut,
+// How bad a cut is that leaves boxes with these half-perimeters on its sides.
+fn cost(before: u32, after: u32, cut: usize) -> u64 {
+    2 * (before as u64 + after as u64) + uneven(cut)
+}
+
+// The best cut, with three to six on either side.
+fn best_cut(before: &[u32; 9], after: &[u32; 9]) -> Cut {
+    let mut best = Cut {
+        at: 3,
+        cost: 18446744073709551615,
+    };
+    let mut cut: usize = 7;
+    while 3 < cut {
+        cut -= 1;
+        let c = cost(before[cut - 1], after[cut], cut);
+        if c < best.cost {
+            best = Cut { at: cut, cost: c };
+        }
+    }
+    best
+}
+
+// The best cut of the boxes in the order of `places`.
+fn order_cut(
     west: &[u16; 9],
     south: &[u16; 9],
     east: &[u16; 9],
     north: &[u16; 9],
     places: &[usize; 9],
-    cut: usize,
 ) -> Cut {
-    let mask = mask_at(places, cut);
-    let sum = extents(west, east, mask) + extents(south, north, mask);
-    let cost = 2 * sum + uneven(cut);
-    if cost < c.cost {
-        return Cut {
-            mask: mask,
-            cost: cost,
-        };
-    }
-    c
+    let mut w: [u16; 9] = [0; 9];
+    let mut s: [u16; 9] = [0; 9];
+    let mut e: [u16; 9] = [0; 9];
+    let mut n: [u16; 9] = [0; 9];
+    sort(west, places, &mut w);
+    sort(south, places, &mut s);
+    sort(east, places, &mut e);
+    sort(north, places, &mut n);
+    let mut before: [u32; 9] = [0; 9];
+    let mut after: [u32; 9] = [0; 9];
+    halves_before(&w, &s, &e, &n, &mut before);
+    halves_after(&w, &s, &e, &n, &mut after);
+    best_cut(&before, &after)
 }
 
 // The best cut along either axis.
 fn best_mask(west: &[u16; 9], south: &[u16; 9], east: &[u16; 9], north: &[u16; 9]) -> u16 {
-    let across = ranks(west, east);
-    let up = ranks(south, north);
-    let mut best = Cut {
-        mask: 0,
-        cost: 4294967295,
-    };
-    let mut cut: usize = 7;
-    while 3 < cut {
-        cut -= 1;
-        best = better(best, west, south, east, north, &across, cut);
-        best = better(best, west, south, east, north, &up, cut);
+    let mut across: [usize; 9] = [0; 9];
+    let mut up: [usize; 9] = [0; 9];
+    ranks(west, east, &mut across);
+    ranks(south, north, &mut up);
+    let a = order_cut(west, south, east, north, &across);
+    let b = order_cut(west, south, east, north, &up);
+    if b.cost < a.cost {
+        return mask_at(&up, b.at);
     }
-    best.mask
+    mask_at(&across, a.at)
 }
 
 // A mask for the eight entries of node c, bits 0 to 7, and x, bit 8.

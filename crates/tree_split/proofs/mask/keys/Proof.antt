@@ -4,10 +4,10 @@ use Rattle.tree_split.proofs.mask.keys.Statement.{statement}
 use Rattle.tree_split.proofs.mask.keys.Tie as tie
 
 abbrev Inv-loop : tie.InvT-loop
-Inv-loop low high keys₀ i₀ keys i = i ≤ 9
+Inv-loop low high out₀ i₀ out i = i ≤ 9
 
 abbrev μ-loop : tie.MeasureT-loop
-μ-loop low high keys₀ i₀ keys i = 9 - i
+μ-loop low high out₀ i₀ out i = 9 - i
 
 loop-holds : tie.Need-loop-holds Inv-loop μ-loop
 loop-holds c = search needs
@@ -33,20 +33,20 @@ wide-requires-2 c κs = search needs
 add-sum : tie.Need-add-sum Inv-loop μ-loop
 add-sum c = search needs
 
-mul-keys : tie.Need-mul-keys Inv-loop μ-loop
-mul-keys c = search needs
+mul-out : tie.Need-mul-out Inv-loop μ-loop
+mul-out c = search needs
 
-cast-keys : tie.Need-cast-keys Inv-loop μ-loop
-cast-keys c = search needs
+cast-out : tie.Need-cast-out Inv-loop μ-loop
+cast-out c = search needs
 
-add-keys : tie.Need-add-keys Inv-loop μ-loop
-add-keys c = search needs
+add-out : tie.Need-add-out Inv-loop μ-loop
+add-out c = search needs
 
-mul-keys-2 : tie.Need-mul-keys-2 Inv-loop μ-loop
-mul-keys-2 c = search needs
+mul-out-2 : tie.Need-mul-out-2 Inv-loop μ-loop
+mul-out-2 c = search needs
 
-array-write-keys : tie.Need-array-write-keys Inv-loop μ-loop
-array-write-keys c = search needs
+element-write-out : tie.Need-element-write-out Inv-loop μ-loop
+element-write-out c = search needs
 
 add-i : tie.Need-add-i Inv-loop μ-loop
 add-i c = search needs
@@ -74,11 +74,11 @@ keys-spec =
     element-copy-out-wide-2
     wide-requires-2
     add-sum
-    mul-keys
-    cast-keys
-    add-keys
-    mul-keys-2
-    array-write-keys
+    mul-out
+    cast-out
+    add-out
+    mul-out-2
+    element-write-out
     add-i
     loop-less
     loop-again

@@ -4,10 +4,10 @@ use Rattle.tree_split.proofs.mask.ranks.Statement.{statement}
 use Rattle.tree_split.proofs.mask.ranks.Tie as tie
 
 abbrev Inv-loop : tie.InvT-loop
-Inv-loop low high keys places₀ i₀ places i = i ≤ 9
+Inv-loop low high places₀ keyed i₀ places i = i ≤ 9
 
 abbrev μ-loop : tie.MeasureT-loop
-μ-loop low high keys places₀ i₀ places i = 9 - i
+μ-loop low high places₀ keyed i₀ places i = 9 - i
 
 keys-requires : tie.Need-keys-requires Inv-loop μ-loop
 keys-requires c κs = search needs
@@ -27,8 +27,8 @@ rank-requires c κs = search needs
 mul-places : tie.Need-mul-places Inv-loop μ-loop
 mul-places c = search needs
 
-array-write-places : tie.Need-array-write-places Inv-loop μ-loop
-array-write-places c = search needs
+element-write-places : tie.Need-element-write-places Inv-loop μ-loop
+element-write-places c = search needs
 
 add-i : tie.Need-add-i Inv-loop μ-loop
 add-i c = search needs
@@ -54,7 +54,7 @@ ranks-spec =
     array-read-key
     rank-requires
     mul-places
-    array-write-places
+    element-write-places
     add-i
     loop-less
     loop-again
