@@ -108,9 +108,9 @@ module _ (b : List ℕ) (n h : ℕ) (o : List ℕ) where
       marked-cons : (o₂ : List ℕ) → Marked (met b n h l) o₁ o₂ → Marked (met b n h (e ∷ l)) o o₂
       marked-cons o₂ s = marked-both (met b n h (e ∷ [])) (met b n h l) (met b n h (e ∷ l)) o o₁ o₂ (met-cons b n h e l) r s
 
--- the entries of a node from k on, as the code reads them
+-- the entries of a node from k on
 module _ (b : List ℕ) (n h c k j : ℕ) (o : List ℕ) (count : j ≡ length (entries b c)) where
-  pub node-end : Prepared n b o → j ≤ k → Told true (Pass b n h (drop k (entries b c)) o) (Marked (met b n h (drop k (entries b c))) o o)
+  node-end : Prepared n b o → j ≤ k → Told true (Pass b n h (drop k (entries b c)) o) (Marked (met b n h (drop k (entries b c))) o o)
   node-end s past =
       let le : length (entries b c) ≤ k = omega arith in
       rw (drop-of-length-le (entries b c) le) (told-yes (pass-none b n h o s) (marked-none o (met b n h []) (met-none b n h)))
@@ -119,10 +119,10 @@ module _ (b : List ℕ) (n h c k j : ℕ) (o : List ℕ) (count : j ≡ length (
     here : drop k (entries b c) ≡ e ∷ drop (k + 1) (entries b c)
     here = drop-cons (entries b c) k noEntry (omega arith) ∙ rw (← q, add-one)
 
-    pub node-no : {B C : Type 0} (r : Bool) → Told r (Pass b n h (e ∷ []) o) B → r ≡ false → Told false (Pass b n h (drop k (entries b c)) o) C
+    node-no : {B C : Type 0} (r : Bool) → Told r (Pass b n h (e ∷ []) o) B → r ≡ false → Told false (Pass b n h (drop k (entries b c)) o) C
     node-no r t z = told-no (λ p. t .no z (pass-head b n h o e (drop (k + 1) (entries b c)) (rw here at p)))
 
-    pub node-told : (r s : Bool) (o₁ o₂ : List ℕ) → Told r (Pass b n h (e ∷ []) o) (Marked (met b n h (e ∷ [])) o o₁) → r ≡ true
+    node-told : (r s : Bool) (o₁ o₂ : List ℕ) → Told r (Pass b n h (e ∷ []) o) (Marked (met b n h (e ∷ [])) o o₁) → r ≡ true
         → Told s (Pass b n h (drop (k + 1) (entries b c)) o₁) (Marked (met b n h (drop (k + 1) (entries b c))) o₁ o₂)
         → Told s (Pass b n h (drop k (entries b c)) o) (Marked (met b n h (drop k (entries b c))) o o₂)
     node-told r s o₁ o₂ t z u =
@@ -181,9 +181,10 @@ module _ (b : List ℕ) (n : ℕ) (o : List ℕ) (e : Entry) where
             fits : getD o (maxNodes + k) 0 ≡ 0 → (m : ℕ) → m < markBytes → getD o m 0 + hit m (maxNodes + k) ≤ 1
             fits z m lm = fresh-hit o (maxNodes + k) z m (s .bits m lm)
 
-pub entry-leaf : (b : List ℕ) (n h : ℕ) (o o₁ : List ℕ) (e : Entry) (r : Bool) → h ≡ 0 → Told r (Pass b n 0 (e ∷ []) o) (Marked (met b n 0 (e ∷ [])) o o₁)
-    → Told r (Pass b n h (e ∷ []) o) (Marked (met b n h (e ∷ [])) o o₁)
-entry-leaf b n h o o₁ e r z t = rw z t
+-- the entries of a leaf, as the code reads them
+pub node-leaf : (b : List ℕ) (n h c : ℕ) (o o₁ : List ℕ) (r : Bool) → h ≡ 0 → Told r (Pass b n 0 (entries b c) o) (Marked (met b n 0 (entries b c)) o o₁)
+    → Told r (Pass b n h (entries b c) o) (Marked (met b n h (entries b c)) o o₁)
+node-leaf b n h c o o₁ r z t = rw z t
 
 -- an entry above the leaves
 module _ (b : List ℕ) (n g : ℕ) (o : List ℕ) (e : Entry) where
@@ -250,7 +251,7 @@ module _ (b : List ℕ) (n h : ℕ) (o : List ℕ) (e : Entry) (up : h ≡ 0 →
 
   pub entry-told : {B : Type 0} (r v u : Bool) (o₁ o₂ : List ℕ) → Prepared n b o → e .reference < maxNodes
       → Told r (getD o (e .reference) 0 ≡ 0) (o₁ ≡ set o (e .reference) 1) → r ≡ true → Told v (Fits b e) B → v ≡ true
-      → Told u (Pass b n (h - 1) (drop 0 (entries b (e .reference))) o₁) (Marked (met b n (h - 1) (drop 0 (entries b (e .reference)))) o₁ o₂)
+      → Told u (Pass b n (h - 1) (entries b (e .reference)) o₁) (Marked (met b n (h - 1) (entries b (e .reference))) o₁ o₂)
       → Told u (Pass b n h (e ∷ []) o) (Marked (met b n h (e ∷ [])) o o₂)
   entry-told r v u o₁ o₂ s lt t y f w p =
       let z = t .yes y in
@@ -296,5 +297,32 @@ module _ (b : List ℕ) (n : ℕ) (o o₁ : List ℕ) (r : Bool) (s : Prepared n
       (marked-set o o₁ c (s .room) (omega arith) (z .0) (z .1))
       (ap length (z .1) ∙ length-set o c 1)
 
-  pub prepared-next : (h : ℕ) (l : List Entry) → Told r (Pass b n h l o) (Marked (met b n h l) o o₁) → length o₁ ≡ length o → Prepared n b o₁
+  prepared-next : (h : ℕ) (l : List Entry) → Told r (Pass b n h l o) (Marked (met b n h l) o o₁) → length o₁ ≡ length o → Prepared n b o₁
   prepared-next h l t len = let z = t .yes y in prepared-on n b o o₁ (met b n h l) s (z .0 .fresh) (z .1) len
+
+-- The loop over a node's entries, which stand at height h: they are left from the kth on, and whoever tells of these tells of the node.
+pub record Left (b : List ℕ) (n h c : ℕ) (o₀ : List ℕ) (k : ℕ) (o : List ℕ) : Type 0 where
+  pub prepared : Prepared n b o
+  pub same : length o ≡ length o₀
+  pub rest : (r : Bool) (o′ : List ℕ) → Told r (Pass b n h (drop k (entries b c)) o) (Marked (met b n h (drop k (entries b c))) o o′)
+      → Told r (Pass b n h (entries b c) o₀) (Marked (met b n h (entries b c)) o₀ o′)
+
+-- at the start, after each entry and at the end
+pub left-all : (b : List ℕ) (n h c : ℕ) (o : List ℕ) → Prepared n b o → Left b n h c o 0 o
+left-all b n h c o s = record { prepared = s; same = refl; rest = λ r o′ t. t }
+
+module _ (b : List ℕ) (n h c : ℕ) (o₀ : List ℕ) (k : ℕ) (o : List ℕ) (w : Left b n h c o₀ k o) (j : ℕ) (count : j ≡ length (entries b c)) where
+  pub left-none : j ≤ k → Told true (Pass b n h (entries b c) o₀) (Marked (met b n h (entries b c)) o₀ o)
+  left-none past = w .rest true o (node-end b n h c k j o count (w .prepared) past)
+
+  module _ (e : Entry) (lt : k < j) (q : e ≡ getD (entries b c) k noEntry) (r : Bool) (o₁ : List ℕ) (t : Told r (Pass b n h (e ∷ []) o) (Marked (met b n h (e ∷ [])) o o₁)) where
+    pub left-no : r ≡ false → Told false (Pass b n h (entries b c) o₀) (Marked (met b n h (entries b c)) o₀ o₁)
+    left-no z = w .rest false o₁ (node-no b n h c k j o count e lt q r t z)
+
+    pub left-next : r ≡ true → length o₁ ≡ length o → Left b n h c o₀ (k + 1) o₁
+    left-next y len =
+        record {
+          prepared = prepared-next b n o o₁ r (w .prepared) y h (e ∷ []) t len;
+          same = len ∙ w .same;
+          rest = λ s o₂ u. w .rest s o₂ (node-told b n h c k j o count e lt q r s o₁ o₂ t y u);
+        }

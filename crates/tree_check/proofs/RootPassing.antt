@@ -5,7 +5,7 @@ use mathlib.Core.List.{List}
 use mathlib.Core.Path.{_≡_, refl}
 use Prim.Native.Nat.{ℕ, _+_, _≤_, _<_}
 use native.Mathlib.Omega.{arith}
-use lib.ListN.{length, getD, set, drop}
+use lib.ListN.{length, getD, set}
 use Rattle.limits.specs.Limits.{maxNodes, maxLevels}
 use Rattle.node.specs.declared.Root.{Root}
 use Rattle.node.specs.Header.{rootIn}
@@ -84,7 +84,7 @@ module _ (b : List ℕ) (n g c : ℕ) (o : List ℕ) where
 
   pub top-told : {B : Type 0} (r v u : Bool) (o₁ o₂ : List ℕ) → Prepared n b o → g < maxLevels → c < maxNodes → Told r (Enough b g c) B → r ≡ true
       → Told v (getD o c 0 ≡ 0) (o₁ ≡ set o c 1) → v ≡ true
-      → Told u (Pass b n g (drop 0 (entries b c)) o₁) (Marked (met b n g (drop 0 (entries b c))) o₁ o₂)
+      → Told u (Pass b n g (entries b c) o₁) (Marked (met b n g (entries b c)) o₁ o₂)
       → Told u (RootPass b n (Root.Top g c) o) (Marked (rootMet b n (Root.Top g c)) o o₂)
   unfolding RootSound treeLeaves leavesAt Low
   top-told r v u o₁ o₂ s low lt a y t w p =

@@ -12,8 +12,8 @@ use node::header;
 use node::pool;
 ghost use mathlib.Core.List.{[], _∷_};
 ghost use mathlib.Core.Path.{_≡_};
-ghost use Prim.Native.Nat.{_≤_, _<_};
-ghost use lib.ListN.{length, drop};
+ghost use Prim.Native.Nat.{_<_};
+ghost use lib.ListN.{length};
 ghost use Rattle.limits.specs.Limits.{maxNodes, tableBytes};
 ghost use Rattle.node.specs.declared.Root.{Root};
 ghost use Rattle.node.specs.Header.{rootIn};
@@ -52,14 +52,29 @@ fn fits(t: &[u8], e: Entry) -> bool
     boxes::same(e, f)
 }
 
-// Whether the entry e, which stands at height h, passes. Marks what lies under it.
+// Whether the entries of the leaf c pass. Marks their records.
+fn check_leaves(t: &[u8], n: usize, c: usize, seen: &mut [u8]) -> bool
+    requires { ⌜ Prepared n (now t) (now seen) × (c < maxNodes) ⌝ }
+    ensures { λ r. ⌜ Told r (Pass (now (t .entry)) n 0 (entries (now (t .entry)) c) (now (seen .entry))) (Marked (met (now (t .entry)) n 0 (entries (now (t .entry)) c)) (now (seen .entry)) (now (seen .exit))) ⌝ }
+{
+    let m = pool::count(t, c);
+    let mut k = 0;
+    while k < m {
+        let e = pool::entry_at(t, c, k);
+        if check_leaf(t, n, e, seen) {
+            k += 1;
+            continue;
+        }
+        return false;
+    }
+    true
+}
+
+// Whether the entry e, which stands at height h above the leaf entries, passes. Marks what lies under it.
 fn check_entry(t: &[u8], n: usize, h: usize, e: Entry, seen: &mut [u8]) -> bool
-    requires { ⌜ Prepared n (now t) (now seen) ⌝ }
+    requires { ⌜ Prepared n (now t) (now seen) × (h ≡ 0 → ⊥) ⌝ }
     ensures { λ r. ⌜ Told r (Pass (now (t .entry)) n h (e ∷ []) (now (seen .entry))) (Marked (met (now (t .entry)) n h (e ∷ [])) (now (seen .entry)) (now (seen .exit))) ⌝ }
 {
-    if h == 0 {
-        return check_leaf(t, n, e, seen);
-    }
     let c = e.reference as usize;
     if MAX_NODES <= c {
         return false;
@@ -67,21 +82,27 @@ fn check_entry(t: &[u8], n: usize, h: usize, e: Entry, seen: &mut [u8]) -> bool
     let first = marks::mark(seen, c);
     if first {
         if fits(t, e) {
-            return check_node(t, n, h - 1, c, 0, seen);
+            return check_node(t, n, h - 1, c, seen);
         }
     }
     false
 }
 
-// Whether the entries of node c from k on, which stand at height h, pass. Marks what lies under them.
-fn check_node(t: &[u8], n: usize, h: usize, c: usize, k: usize, seen: &mut [u8]) -> bool
-    requires { ⌜ Prepared n (now t) (now seen) × (c < maxNodes) × (k ≤ length (entries (now t) c)) ⌝ }
-    ensures { λ r. ⌜ Told r (Pass (now (t .entry)) n h (drop k (entries (now (t .entry)) c)) (now (seen .entry))) (Marked (met (now (t .entry)) n h (drop k (entries (now (t .entry)) c))) (now (seen .entry)) (now (seen .exit))) ⌝ }
+// Whether the entries of node c, which stand at height h, pass. Marks what lies under them.
+fn check_node(t: &[u8], n: usize, h: usize, c: usize, seen: &mut [u8]) -> bool
+    requires { ⌜ Prepared n (now t) (now seen) × (c < maxNodes) ⌝ }
+    ensures { λ r. ⌜ Told r (Pass (now (t .entry)) n h (entries (now (t .entry)) c) (now (seen .entry))) (Marked (met (now (t .entry)) n h (entries (now (t .entry)) c)) (now (seen .entry)) (now (seen .exit))) ⌝ }
 {
-    if k < pool::count(t, c) {
+    if h == 0 {
+        return check_leaves(t, n, c, seen);
+    }
+    let m = pool::count(t, c);
+    let mut k = 0;
+    while k < m {
         let e = pool::entry_at(t, c, k);
         if check_entry(t, n, h, e, seen) {
-            return check_node(t, n, h, c, k + 1, seen);
+            k += 1;
+            continue;
         }
         return false;
     }
@@ -119,7 +140,7 @@ fn check_top(t: &[u8], n: usize, g: usize, c: usize, seen: &mut [u8]) -> bool
     }
     if enough(t, g, c) {
         if marks::mark(seen, c) {
-            return check_node(t, n, g, c, 0, seen);
+            return check_node(t, n, g, c, seen);
         }
     }
     false

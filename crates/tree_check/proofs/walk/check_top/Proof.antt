@@ -17,7 +17,7 @@ mark-requires : tie.Need-mark-requires
 mark-requires c κs = search needs
 
 check-node-requires : tie.Need-check-node-requires
-check-node-requires c κs = (search prepared-one, search needs, search needs)
+check-node-requires c κs = (search prepared-one, search needs)
 
 same-length : tie.Need-same-length
 same-length c = search needs
