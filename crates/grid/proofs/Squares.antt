@@ -22,11 +22,10 @@ distance-most p q hp hq =
     omega
     (arith, difference-most (p .east) (q .east) (hp .east) (hq .east), difference-most (p .north) (q .north) (hp .north) (hq .north))
 
--- the square of a difference, of which one half is 0
-pub difference-of : (x y u v : ℕ) → u ≡ x - y → v ≡ y - x → x ≤ gridWidth → y ≤ gridWidth
-    → ((u + v) * (u + v) ≡ squaredDifference x y) × ((u + v) * (u + v) ≤ maxSquare)
+-- the square of a difference
+pub difference-of : (x y d : ℕ) → d ≡ (x - y) + (y - x) → x ≤ gridWidth → y ≤ gridWidth → (d * d ≡ squaredDifference x y) × (d * d ≤ maxSquare)
 unfolding squaredDifference
-difference-of x y u v e f h k = (rw (e, f) refl, square-most (u + v) (omega arith))
+difference-of x y d e h k = (rw e refl, square-most d (omega arith))
 
 gap-up : (a k : ℕ) → squaredDifference a (a + k) ≡ k * k
 unfolding squaredDifference

@@ -2,7 +2,7 @@
 use crate::Area;
 use crate::Position;
 ghost use mathlib.Core.Path.{_≡_};
-ghost use Prim.Native.Nat.{_*_, _-_, _≤_};
+ghost use Prim.Native.Nat.{_+_, _*_, _-_, _≤_};
 ghost use Rattle.limits.specs.Limits.{gridWidth, maxSquare, maxDistance};
 ghost use Rattle.grid.specs.Position.{OnGrid, squaredDifference, distance};
 ghost use Rattle.grid.specs.Area.{AreaOnGrid, outside, areaDistance};
@@ -17,12 +17,23 @@ fn beyond(x: u16, y: u16) -> u64
     (x - y) as u64
 }
 
+// How far apart x and y are: a choice of two differences, no branch in machine code. Where positions are read from memory this is quicker than two `beyond`.
+fn apart(x: u16, y: u16) -> u64
+    ensures { λ r. ⌜ r ≡ (x - y) + (y - x) ⌝ }
+{
+    if x <= y {
+        (y - x) as u64
+    } else {
+        (x - y) as u64
+    }
+}
+
 // The square of the difference of two coordinates.
 fn squared_difference(x: u16, y: u16) -> u64
     requires { ⌜ (x ≤ gridWidth) × (y ≤ gridWidth) ⌝ }
     ensures { λ r. ⌜ (r ≡ squaredDifference x y) × (r ≤ maxSquare) ⌝ }
 {
-    let d = beyond(x, y) + beyond(y, x);
+    let d = apart(x, y);
     d * d
 }
 

@@ -5,6 +5,7 @@ use mathlib.Core.Logic.{_≢_}
 use mathlib.Core.List.{List}
 use Prim.Native.Nat.{ℕ, _+_, _-_, _≤_, _<_}
 use native.Mathlib.Omega.{arith}
+use native.Mathlib.Decide.{decLt}
 use Rattle.grid.specs.declared.Leg.{Leg}
 use Rattle.row.specs.declared.Vertex.{Vertex}
 use Rattle.row.specs.Vertices.{IsVertex, placeAt, vertexIn, Held, Cut, Narrowed}
@@ -81,3 +82,17 @@ module _ {l : Leg} {t r : List ℕ} {k a n : ℕ} where
 
     pub fall-begun : IsVertex l t (placeAt r n) u → n < k → a < u .a → Narrowed l t r k a 0 n
     fall-begun hu h g = cut-down (cut-begun l t r k a) hu (omega arith) h g
+
+-- both vertices about the guess are known
+pub pair-found : {l : Leg} {t r : List ℕ} {k a i j : ℕ} {u v : Vertex} → Held l t r k → i < k → j ≡ i - 1 → IsVertex l t (placeAt r i) v → IsVertex l t (placeAt r j) u
+    → a < v .a → u .a ≤ a → About l t r k a (record { n = i; left = u; right = v })
+pair-found {l} {t} {r} {k} {a} {i} {j} {u} {v} hd h e hv hu f g = go (decLt 0 i)
+  where
+    go : Dec (0 < i) → About l t r k a (record { n = i; left = u; right = v })
+    go (yes p) =
+        let q : IsVertex l t (placeAt r (i - 1)) u = subst (λ (x : ℕ). IsVertex l t (placeAt r x) u) e hu in
+        fall-found (fall-begun hv h f) (λ z. omega arith) (stands-at hv h) q g hd
+    go (no p) =
+        let z : j ≡ i = omega arith in
+        let w : IsVertex l t (placeAt r i) u = subst (λ (x : ℕ). IsVertex l t (placeAt r x) u) z hu in
+        absurd (omega (arith, a-of w, a-of hv))

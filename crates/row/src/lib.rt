@@ -4,7 +4,7 @@ use grid::Leg;
 use grid::Position;
 use grid::Site;
 ghost use mathlib.Core.Path.{_≡_};
-ghost use Prim.Native.Nat.{_+_, _*_, _^_, _<_, _≤_};
+ghost use Prim.Native.Nat.{_+_, _*_, _-_, _^_, _<_, _≤_};
 ghost use lib.ListN.{length};
 ghost use Rattle.grid.specs.Position.{LegOnGrid};
 ghost use Rattle.row.specs.Places.{siteAt, HasSite};
@@ -116,7 +116,7 @@ pub struct Gap {
 // The index before n; 0 before 0.
 fn before(n: usize, k: usize) -> usize
     requires { ⌜ (n ≤ k) × (0 < k) ⌝ }
-    ensures { λ r. ⌜ r < k ⌝ }
+    ensures { λ r. ⌜ (r ≡ n - 1) × (r < k) ⌝ }
 {
     if n == 0 {
         return 0;
@@ -223,17 +223,25 @@ fn fall(t: &[u8], row: &[u8], leg: Leg, k: usize, a: u32, n: usize, v: Vertex) -
     bisected(t, row, leg, k, a, 0, i)
 }
 
-// The cut at a, which is about `near`: steps that are few and can be foreseen are quicker than a bisection. From k on, near is no guess.
+// The cut at a, which is about `near`: steps that are few and can be foreseen are quicker than a bisection. The two vertices about the guess
+// are read together, since neither waits for the other.
 pub fn cut_near(t: &[u8], row: &[u8], leg: Leg, k: usize, a: u32, near: usize) -> Gap
     requires { ⌜ Held leg (now t) (now row) k × LegOnGrid leg × (0 < k) ⌝ }
     ensures { λ r. ⌜ About leg (now (t .entry)) (now (row .entry)) k a r ⌝ }
 {
-    if k <= near {
-        return cut(t, row, leg, k, a);
+    let i = upto(near, k);
+    let j = before(i, k);
+    let v = vertex_in(t, row, leg, k, i);
+    let u = vertex_in(t, row, leg, k, j);
+    if v.a <= a {
+        return climb(t, row, leg, k, a, i + 1, v);
     }
-    let u = vertex_in(t, row, leg, k, near);
     if u.a <= a {
-        return climb(t, row, leg, k, a, near + 1, u);
+        return Gap {
+            n: i,
+            left: u,
+            right: v,
+        };
     }
-    fall(t, row, leg, k, a, near, u)
+    fall(t, row, leg, k, a, j, u)
 }

@@ -1,29 +1,21 @@
-use borrow.Author.Needs.{needs}
 use native.Mathlib.Omega.{arith}
 use Rattle.grid.proofs.Squares.{difference-of}
+use borrow.Author.Needs.{needs}
 use Rattle.grid.proofs.distance.squared_difference.Statement.{statement}
 use Rattle.grid.proofs.distance.squared_difference.Tie as tie
 
-beyond-requires : tie.Need-beyond-requires
-beyond-requires c κs = search needs
-
-beyond-requires-2 : tie.Need-beyond-requires-2
-beyond-requires-2 c κs = search needs
-
-add-d : tie.Need-add-d
-add-d c = search needs
+apart-requires : tie.Need-apart-requires
+apart-requires c κs = search needs
 
 mul-result : tie.Need-mul-result
 mul-result c =
-    let a = c .before .before .args in
-    let h = difference-of (a .x) (a .y) (c .before .beyond .result) (c .beyond2 .result) (c .before .beyond .ensures) (c .beyond2 .ensures) (omega arith) (omega arith) in
-    omega (arith, h .1)
+    let a = c .before .args in
+    omega (arith, difference-of (a .x) (a .y) (c .apart .result) (c .apart .ensures) (omega arith) (omega arith) .1)
 
 returns : tie.Need-returns
 returns c =
-    let a = c .before .before .args in
-    difference-of (a .x) (a .y) (c .before .beyond .result) (c .beyond2 .result) (c .before .beyond .ensures) (c .beyond2 .ensures) (omega arith) (omega arith)
+    let a = c .before .args in
+    difference-of (a .x) (a .y) (c .apart .result) (c .apart .ensures) (omega arith) (omega arith)
 
 pub squared-difference-spec : {M : Type 1} → statement M
-squared-difference-spec =
-    tie.close (tie.spec beyond-requires beyond-requires-2 add-d mul-result returns)
+squared-difference-spec = tie.close (tie.spec apart-requires mul-result returns)
