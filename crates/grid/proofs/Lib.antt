@@ -4,4 +4,5 @@ pub mod Nearest
 pub mod Order
 pub mod Factors
 pub mod LowestTerms
+pub mod InStep
 pub mod Says

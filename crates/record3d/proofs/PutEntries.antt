@@ -45,3 +45,19 @@ module _ {l : Leg} {t r : List ℕ} {k : ℕ} {b₀ : List ℕ} {p i : ℕ} {b :
 
   pub putting-all : k ≤ i → b ≡ write b₀ p (listBytes (entriesIn l t r k))
   putting-all h = let e : i ≡ k = omega (arith, g .within) in subst (λ (j : ℕ). b ≡ write b₀ p (listBytes (entriesIn l t r j))) e (g .wrote)
+
+-- two more
+pub putting-two : {l : Leg} {t r : List ℕ} {k : ℕ} {b₀ : List ℕ} {p i : ℕ} {b b′ : List ℕ} → Putting l t r k b₀ p i b → i + 1 < k
+    → b′ ≡ write (write b (p + 10 * i) (entryBytes (entryAt l t r i))) (p + 10 * i + 10) (entryBytes (entryAt l t r (i + 1)))
+    → Putting l t r k b₀ p (i + 2) b′
+putting-two {l = l} {t = t} {r = r} {k = k} {b₀ = b₀} {p = p} {i = i} {b = b} {b′ = b′} g h e =
+    let f : p + 10 * i + 10 ≡ p + 10 * (i + 1) = omega arith in
+    let f₂ : i + 1 + 1 ≡ i + 2 = omega arith in
+    let one : Putting l t r k b₀ p (i + 1) (write b (p + 10 * i) (entryBytes (entryAt l t r i))) = putting-one g (omega arith) refl in
+    subst (λ (n : ℕ). Putting l t r k b₀ p n b′) f₂
+    (putting-one one h (e ∙ ap (λ (n : ℕ). write (write b (p + 10 * i) (entryBytes (entryAt l t r i))) n (entryBytes (entryAt l t r (i + 1)))) f))
+
+-- the last of an odd number
+pub putting-last : {l : Leg} {t r : List ℕ} {k : ℕ} {b₀ : List ℕ} {p i : ℕ} {b b′ : List ℕ} → Putting l t r k b₀ p i b → i < k → k ≤ i + 1
+    → b′ ≡ write b (p + 10 * i) (entryBytes (entryAt l t r i)) → b′ ≡ write b₀ p (listBytes (entriesIn l t r k))
+putting-last g h j e = putting-all (putting-one g h e) j

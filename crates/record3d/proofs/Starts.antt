@@ -1,6 +1,6 @@
 -- Numbers and starts as they are read from a row.
 -- Assumes nothing.
-use mathlib.Core.Path.{_≡_, sym, _∙_, subst}
+use mathlib.Core.Path.{_≡_, refl, sym, _∙_, subst}
 use mathlib.Core.List.{List}
 use Prim.Native.Nat.{ℕ, zero, suc, _+_, _*_, _-_, _^_, _≤_, _<_}
 use native.Mathlib.Omega.{arith}
@@ -8,14 +8,14 @@ use lib.ListN.{length}
 use Rattle.words.specs.Words.{wordAt}
 use Rattle.grid.specs.declared.Fraction.{Fraction}
 use Rattle.grid.specs.declared.Leg.{Leg}
-use Rattle.grid.specs.Fraction.{lowest}
+use Rattle.grid.specs.Fraction.{gcdBy, gcdOf, lowest}
 use Rattle.split.specs.SplitOf.{changeover}
 use Rattle.row.specs.declared.Vertex.{Vertex}
 use Rattle.row.specs.Places.{siteAtByte, siteAt, HasSite}
 use Rattle.row.specs.Vertices.{IsVertex, placeAt, vertexIn, Held}
 use Rattle.row.proofs.Reading.{a-of, c-of}
 use Rattle.row.proofs.Stacks.{edge}
-use Rattle.record3d.specs.RowEntries.{startAt}
+use Rattle.record3d.specs.RowEntries.{startAt, RatioAt}
 
 module _ (t r : List ℕ) (i p : ℕ) (e : p ≡ wordAt r (2 * i)) where
   pub number-asks : HasSite t (placeAt r i) → 2 * p + 2 ≤ length t
@@ -27,12 +27,18 @@ module _ (t r : List ℕ) (i p : ℕ) (e : p ≡ wordAt r (2 * i)) where
   number-is n f = subst (λ (q : ℕ). n ≡ wordAt t (2 * q)) e f
 
 module _ (l : Leg) (t r : List ℕ) where
+  -- what a row of k asks for, to read the number of one of them
+  pub number-there : (k i : ℕ) → Held l t r k → i < k → (2 * i + 2 ≤ length r) × HasSite t (placeAt r i)
+  number-there k i hd h = (omega (arith, hd .inside), hd .sites i h)
+
   start-at : (j : ℕ) → 0 < j → startAt l t r j ≡ changeover (vertexIn l t r (j - 1)) (vertexIn l t r j)
   start-at zero h = absurd (omega arith)
   start-at (suc j) h = let e : suc j - 1 ≡ j = omega arith in rw e
 
-  pub start-none : (i : ℕ) → i ≡ 0 → _≡_ {A = Fraction} (record { num = 0; den = 1 }) (startAt l t r i)
-  start-none i e = rw e
+  -- the returns of `ratio_in`
+  pub ratio-none : (i : ℕ) → i ≡ 0 → RatioAt l t r i (record { num = 0; den = 1 })
+  unfolding lowest gcdOf gcdBy
+  ratio-none i e = rw e (record { positive = omega arith; small = omega arith; start = refl })
 
   module _ (k i : ℕ) (hd : Held l t r k) (h : i < k) (g : 0 < i) {u v : Vertex} (hu : IsVertex l t (placeAt r (i - 1)) u) (hv : IsVertex l t (placeAt r i) v) where
     pub edge-asks : (u .a < v .a) × (v .c < u .c) × (v .a < 2 ^ 31) × (u .c < 2 ^ 31)
@@ -40,6 +46,12 @@ module _ (l : Leg) (t r : List ℕ) where
         let s = edge l t r k i hd h g in
         (omega (arith, s .right, a-of hu, a-of hv), omega (arith, s .down, c-of hu, c-of hv), hv .small .small-a, hu .small .small-c)
 
-    pub start-is : {f : Fraction} → f ≡ lowest (v .a - u .a) ((v .a - u .a) + (u .c - v .c)) → f ≡ startAt l t r i
-    start-is e =
-        e ∙ (λ j. lowest (a-of hv j - a-of hu j) ((a-of hv j - a-of hu j) + (c-of hu j - c-of hv j))) ∙ sym (start-at i g)
+    pub ratio-is : {q : Fraction} → q .num ≡ v .a - u .a → q .den ≡ (v .a - u .a) + (u .c - v .c) → RatioAt l t r i q
+    ratio-is en ed =
+        record {
+          positive = omega (arith, edge-asks .0);
+          small = omega (arith, edge-asks .2);
+          start =
+              (λ j. lowest (en j) (ed j))
+              ∙ (λ j. lowest (a-of hv j - a-of hu j) ((a-of hv j - a-of hu j) + (c-of hu j - c-of hv j))) ∙ sym (start-at i g);
+        }
