@@ -55,6 +55,7 @@ const fn full(lie: Lie, rounds: usize) -> Kind {
     Kind {
         lie,
         sites: MOST_SITES,
+        apart: 1,
         rounds,
     }
 }

@@ -53,6 +53,8 @@ impl Ground {
 pub struct Kind {
     pub lie: Lie,
     pub sites: usize,
+    /// The sites have this number, twice it, and so on.
+    pub apart: u16,
     /// In each round of the table's history a random half of the sites is removed, and as many
     /// are added elsewhere.
     pub rounds: usize,
@@ -64,13 +66,19 @@ impl Kind {
         Kind {
             lie: Lie::Anywhere,
             sites,
+            apart: 1,
             rounds: 0,
         }
     }
 
+    /// The sites' numbers, rising.
+    pub fn numbers(self) -> Vec<u16> {
+        (1..).map(|i| i * self.apart).take(self.sites).collect()
+    }
+
     pub fn table(self, service: &impl Service, random: &mut Random) -> Vec<u8> {
         let ground = Ground::new(random, self.lie);
-        let mut numbers: Vec<u16> = (1..).take(self.sites).collect();
+        let mut numbers = self.numbers();
         random.shuffle(&mut numbers);
         let mut table = filled(service, &ground.additions(random, &numbers));
         for _ in 0..self.rounds {

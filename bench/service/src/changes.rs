@@ -63,10 +63,21 @@ impl AsRef<Calls> for Task {
 }
 
 impl Task {
-    /// So many changes at 512 sites; additions end there, and removals begin there.
-    pub fn new(random: &mut Random, kind: Change, leg: Option<Length>, count: usize) -> Self {
-        let mut table = Kind::fresh(MOST_SITES).table(&Proved, random);
-        let mut numbers: Vec<u16> = (1..).take(MOST_SITES).collect();
+    /// So many changes at 512 sites, whose numbers are `apart` from each other; additions end there,
+    /// and removals begin there.
+    pub fn new(
+        random: &mut Random,
+        kind: Change,
+        leg: Option<Length>,
+        apart: u16,
+        count: usize,
+    ) -> Self {
+        let fresh = Kind {
+            apart,
+            ..Kind::fresh(MOST_SITES)
+        };
+        let mut table = fresh.table(&Proved, random);
+        let mut numbers = fresh.numbers();
         random.shuffle(&mut numbers);
         numbers.truncate(count);
         if let Change::Add = kind {

@@ -32,6 +32,8 @@ const LEGS: usize = 200;
 /// Legs of 512 entries.
 const WORST_LEGS: usize = 10;
 const CHANGES: usize = 100;
+/// Numbers with gaps: the 512th is the last that 16 bits hold.
+const FAR_APART: u16 = 127;
 /// Up to here a leg is short.
 const SHORT: i64 = 2_000;
 
@@ -54,6 +56,9 @@ fn print_head() {
     println!("  wrap    gift wrapping by scan in plain Rust, each scan over the sites");
     println!("  kept    the same, the distances computed once a leg and kept");
     println!("  hull    a scan, a sort and a hull in plain Rust");
+    println!(
+        "  gaps    the sites' numbers are {FAR_APART} apart, else they follow each other from 1"
+    );
     println!("Then how many times faster the service is: many a call, and one a call.");
 }
 
@@ -105,15 +110,20 @@ fn worst(random: &mut Random, targets: &mut Targets) {
 fn changes(random: &mut Random, targets: &mut Targets) {
     println!();
     Times::print_head("a change, no record of the list", CHANGES);
+    let leg = Some(Length::Of(SHORT));
     for kind in [Change::Add, Change::Remove, Change::Move] {
-        for leg in [None, Some(Length::Of(SHORT))] {
-            let task = |_| changes::Task::new(random, kind, leg, CHANGES);
+        for (leg, apart) in [(None, 1), (leg, 1), (leg, FAR_APART)] {
+            let task = |_| changes::Task::new(random, kind, leg, apart, CHANGES);
             let tasks: Vec<_> = (0..TABLES).map(task).collect();
             let times = changes::measure(&tasks, REPEATS);
-            let what = format!("{}, {}", kind.name(), standing(leg));
+            let gaps = if apart == 1 { "" } else { ", gaps" };
+            let what = format!("{}, {}{gaps}", kind.name(), standing(leg));
             times.print(&what);
-            if leg.is_some() {
-                targets.faster(&format!("512 sites, {what}"), &times, 8.0, 25.0);
+            let what = format!("512 sites, {what}");
+            match (leg, apart) {
+                (None, _) => {}
+                (_, 1) => targets.faster(&what, &times, 8.0, 25.0),
+                _ => targets.beside(&what, &times),
             }
         }
     }

@@ -52,6 +52,13 @@ impl Targets {
         self.hold(what, HULL, ratio, Bound::AtLeast(hull));
     }
 
+    /// The same ratios, only to be seen.
+    pub fn beside(&mut self, what: &str, times: &Times) {
+        for (against, time) in [(WRAP, times.wrap), (KEPT, times.kept), (HULL, times.hull)] {
+            self.show(what, against, time / times.together);
+        }
+    }
+
     /// How many times the hull's time it may take.
     pub fn within(&mut self, what: &str, times: &Times, most: f64) {
         let ratio = times.together / times.hull;
