@@ -19,7 +19,7 @@ use Rattle.split.specs.SplitOf.{splitOf}
 use Rattle.book.specs.declared.Command.the-variants.{Add, Remove, Move, List as ListOf, Stand, Print}
 use Rattle.book.specs.declared.Cause.{Cause}
 use Rattle.book.specs.declared.Cause.the-variants.{NumberZero, OffGrid, Held, NotHeld, Full, NoSite, NoLeg}
-use Rattle.book.specs.Book.{Book, holds, standingList}
+use Rattle.book.specs.Book.{Book, holds}
 use Rattle.book.specs.Reply.{Reply, done, refused, listed}
 use Rattle.book.specs.Answer.{answer, offGrid, legOffGrid, legless, siteless}
 
@@ -177,10 +177,6 @@ module _ (b : Book) where
   pub answer-print-done : (l : Leg) → b .leg ≡ some l → length (b .lines) ≢ 0 → answer b Print ≡ listed (splitOf l (b .lines))
   unfolding answer
   answer-print-done l h e = rw (h, ne-eqb (length (b .lines)) 0 e) refl
-
-  -- the same, as the standing list
-  pub answer-print-list : (l : Leg) → b .leg ≡ some l → length (b .lines) ≢ 0 → answer b Print ≡ listed (standingList b)
-  answer-print-list l h e = answer-print-done l h e ∙ rw h refl
 
 -- ---- what an answer says
 

@@ -145,10 +145,6 @@ pub rising-end : (a b : List Site) → Rising (a ++ b) → Rising b
 rising-end [] b r = r
 rising-end (x ∷ a) b r = rising-end a b (rising-tail x (a ++ b) r)
 
--- behind it they are higher
-pub rising-above : (a : List Site) (p : Site) (b : List Site) → Rising (a ++ (p ∷ b)) → AllAbove (p .number) b
-rising-above a p b r = rising-head p b (rising-end a (p ∷ b) r)
-
 -- lines that rise, behind lower ones that rise
 pub rising-join : (a b : List Site) → Rising a → Rising b → ((p : Site) → List·Memᴰ p a → AllAbove (p .number) b) → Rising (a ++ b)
 rising-join [] b ra rb h = rb
@@ -356,10 +352,6 @@ strike-sites n s p r m e = record { to = to; back = λ x k. back x (List·Memᴰ
     back x (inl f) = rw f m
     back x (inr k) = strike-from n s x k
 
--- the struck line is not among those left
-pub strike-gone : (n : ℕ) (s : List Site) (p : Site) → p .number ≡ n → ¬ List·Memᴰ p (strikeLine n s)
-strike-gone n s p e m = strike-other n s p m e
-
 -- nothing is struck where the number is not held
 pub strike-none : (n : ℕ) (s : List Site) → holds n s ≡ false → strikeLine n s ≡ s
 unfolding strikeLine
@@ -440,46 +432,3 @@ rising-move n p s r = go (holds n s) refl
     go : (c : Bool) → holds n s ≡ c → Rising (moveLine n p s)
     go true h = rw (move-is n p s r h) (rising-write (siteAs n p) (strikeLine n s) (holds-strike n s) (rising-strike n s r))
     go false h = rw (move-none n p s h) r
-
--- ---- in a sorted array
-
--- A FREE PLACE: between the lower lines and the higher ones
-pub holds-between : (n : ℕ) (a b : List Site) → AllBelow a n → AllAbove n b → holds n (a ++ b) ≡ false
-holds-between n a b ha hb = absent-holds n (a ++ b) (λ p m. go p (List·Memᴰ·append-cases a m))
-  where
-    go : (p : Site) → List·Memᴰ p a ⊎ List·Memᴰ p b → p .number ≢ n
-    go p (inl m) e = omega (arith, e, ha p m)
-    go p (inr m) e = omega (arith, e, hb p m)
-
--- a line's number is held
-pub holds-at : (n : ℕ) (a : List Site) (p : Site) (b : List Site) → p .number ≡ n → holds n (a ++ (p ∷ b)) ≡ true
-holds-at n a p b e = member-holds n (a ++ (p ∷ b)) p (Memᴰ·append-right a (List·Memᴰ·head refl)) e
-
-strike-front : (n : ℕ) (a b : List Site) → AllBelow a n → strikeLine n (a ++ b) ≡ a ++ strikeLine n b
-strike-front n [] b h = refl
-strike-front n (q ∷ a) b h =
-    strike-past n q (a ++ b) (λ e. omega (arith, e, h q (List·Memᴰ·head refl)))
-    ∙ ap (λ (y : List Site). q ∷ y) (strike-front n a b (λ x m. h x (List·Memᴰ·tail m)))
-
-move-front : (n : ℕ) (p : Position) (a b : List Site) → AllBelow a n → moveLine n p (a ++ b) ≡ a ++ moveLine n p b
-move-front n p [] b h = refl
-move-front n p (q ∷ a) b h =
-    move-past n p q (a ++ b) (λ e. omega (arith, e, h q (List·Memᴰ·head refl)))
-    ∙ ap (λ (y : List Site). q ∷ y) (move-front n p a b (λ x m. h x (List·Memᴰ·tail m)))
-
-module _ (n : ℕ) (a : List Site) (p : Site) (b : List Site) (e : p .number ≡ n) (r : Rising (a ++ (p ∷ b))) where
-  low : AllBelow a n
-  low x m = omega (arith, e, rising-below a p b r x m)
-
-  none-behind : holds n b ≡ false
-  none-behind = absent-holds n b (λ x m f. omega (arith, e, f, rising-above a p b r x m))
-
-  -- STRIKING IN A SORTED ARRAY
-  pub strike-between : strikeLine n (a ++ (p ∷ b)) ≡ a ++ b
-  strike-between = strike-front n a (p ∷ b) low ∙ ap (λ (y : List Site). a ++ y) (strike-here n p b e ∙ strike-none n b none-behind)
-
-  -- MOVING IN A SORTED ARRAY
-  pub move-between : (q : Position) → moveLine n q (a ++ (p ∷ b)) ≡ a ++ (siteAs n q ∷ b)
-  move-between q =
-      move-front n q a (p ∷ b) low
-      ∙ ap (λ (y : List Site). a ++ y) (move-here n q p b e ∙ ap (λ (y : List Site). siteAs n q ∷ y) (move-none n q b none-behind))

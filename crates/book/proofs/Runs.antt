@@ -167,10 +167,6 @@ module _ (cs : List ℕ) (room : ℕ) (b₀ : Book) where
           by CutShort h = absurd (omega (arith, cut-parse cs (o .used) h))
           by NoRoom h = let n = parse-next cs (o .used) (h .command) (h .next) (h .stands) in absurd (omega (arith, n .0, n .1))
 
-  -- any other reason stops before the end
-  pub run-before : run cs room b₀ .reason ≢ AllUsed → run cs room b₀ .used < length cs
-  run-before h = let n : run cs room b₀ .used ≢ length cs = λ e. h (all-run e) in omega (arith, run-inside)
-
   -- THE REASON is one of four: 0, 66, 67 or 68
   pub run-reason : (run cs room b₀ .reason ≡ AllUsed) ⊎ (run cs room b₀ .reason ≡ UnknownCommand) ⊎ (run cs room b₀ .reason ≡ CutShort) ⊎ (run cs room b₀ .reason ≡ NoRoom)
   run-reason = go (run cs room b₀ .reason) (run-ends .stops)

@@ -33,7 +33,7 @@ use Rattle.book.specs.Perm.{Perm}
 use Rattle.book.specs.Proper.{Proper, NumberOk, LegOk}
 use Rattle.book.specs.Reply.{Reply, done, refused, listed, recordOf}
 use Rattle.book.specs.Answer.{answer, after}
-use Rattle.book.specs.Run.{Outcome, ends, run, call}
+use Rattle.book.specs.Run.{Outcome, ends, run}
 use Rattle.book.proofs.Lines.{write-sites, strike-sites}
 use Rattle.book.proofs.Answers.{answer-print-legless, answer-print-empty, answer-print-done}
 use Rattle.book.proofs.ProperBooks.{proper-numbered}

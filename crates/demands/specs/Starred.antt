@@ -1,8 +1,7 @@
 -- The starred lines of document 01, "Legs to try": command bytes and record bytes, the refusals 6 and 7 and the removals included.
 -- Assumes nothing.
 use mathlib.Core.List.{List, [], _∷_, _++_}
-use Prim.Native.Nat.{ℕ, _+_, _-_}
-use Rattle.limits.specs.Limits.{halfWidth}
+use Prim.Native.Nat.{ℕ, _+_}
 use Rattle.grid.specs.declared.Position.{Position}
 use Rattle.grid.specs.declared.Leg.{Leg}
 use Rattle.records.specs.Bytes.{bytes2, bytes4}

@@ -5,7 +5,7 @@ use mathlib.Core.List.{List, _++_, append-nil}
 use Prim.Native.Nat.{ℕ, zero, suc, _+_, _*_, _≤_, _<_}
 use native.Mathlib.Omega.{arith}
 use native.Mathlib.Numerals.{add-one}
-use lib.ListN.{length, set, drop, length-replicate}
+use lib.ListN.{length, set, drop}
 use lib.Seq.{drop-length}
 use borrow.Author.Fill.{fill-more}
 use Rattle.limits.specs.Limits.{maxNodes, tableBytes}
@@ -54,6 +54,3 @@ stacking-all b₀ k b s h = let e : k ≡ maxNodes = omega (arith, s .within) in
 pub laid : (b b₁ b₂ b₃ : List ℕ) → length b ≡ tableBytes → b₁ ≡ zeros (length b) → b₂ ≡ stacked maxNodes b₁ → b₃ ≡ putWord b₂ freeStart maxNodes → b₃ ≡ emptyTable
 unfolding emptyTable
 laid b b₁ b₂ b₃ h e₁ e₂ e₃ = e₃ ∙ ap (λ (x : List ℕ). putWord x freeStart maxNodes) (e₂ ∙ ap (stacked maxNodes) (e₁ ∙ ap zeros h))
-
-pub laid-length : (b b₁ : List ℕ) → length b ≡ tableBytes → b₁ ≡ zeros (length b) → length b₁ ≡ tableBytes
-laid-length b b₁ h e = ap length e ∙ length-replicate {A = ℕ} (length b) 0 ∙ h

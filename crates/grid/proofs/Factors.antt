@@ -5,7 +5,8 @@ use mathlib.Core.Logic.{_⊎_, inl, inr}
 use Prim.Native.Nat.{ℕ, zero, suc, _+_, _*_, _-_, _/_, _%_, _≤_, _<_}
 use native.Mathlib.Omega.{arith}
 use native.Mathlib.Nat.{div-add-mod, mod-lt}
-use Rattle.grid.specs.Fraction.{Divides, IsGcd, NearestRest, gcdBy, gcdOf}
+use Rattle.grid.specs.Fraction.{Divides, IsGcd, gcdBy, gcdOf}
+use Rattle.grid.specs.Euclid.{NearestRest}
 use Rattle.grid.proofs.Order.{cancel-le}
 
 -- k a factor of n and of n + d is one of d

@@ -4,7 +4,8 @@ use mathlib.Core.Path.{_≡_, refl}
 use mathlib.Core.Logic.{_≢_}
 use Prim.Native.Nat.{ℕ, zero, suc, _+_, _≤_, _<_}
 use native.Mathlib.Omega.{arith}
-use Rattle.grid.specs.Fraction.{NearestRest, Stepped, divisorOf, keptOf, gcdOf}
+use Rattle.grid.specs.Fraction.{gcdOf}
+use Rattle.grid.specs.Euclid.{NearestRest, Stepped, divisorOf, keptOf}
 use Rattle.grid.proofs.Factors.{SameFactors, same, step-near}
 use Rattle.grid.proofs.LowestTerms.{gcd-done}
 

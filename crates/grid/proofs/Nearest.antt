@@ -1,7 +1,7 @@
 -- The squared distance of a position from a box: no position in the box is nearer, and one is exactly that far.
 -- Assumes nothing.
 use mathlib.Core.Path.{_≡_, refl, ap}
-use Prim.Native.Nat.{ℕ, _+_, _*_, _-_, _≤_, _<_}
+use Prim.Native.Nat.{ℕ, _+_, _*_, _-_, _≤_}
 use native.Mathlib.Omega.{arith}
 use native.Mathlib.Nat.{mul-le-mul}
 use Rattle.limits.specs.Limits.{gridWidth, maxSquare}

@@ -138,11 +138,6 @@ not-above-below s t u ps h k =
     cancel-lt (s .num * u .den) (u .num * s .den) (t .den)
     (omega (arith, mul-le-mul-right (u .den) h, mul-lt-mul-of-pos-right k ps))
 
-pub below-not-above : (s t u : Fraction) → 1 ≤ u .den → Below s t → NotAbove t u → Below s u
-below-not-above s t u pu h k =
-    cancel-lt (s .num * u .den) (u .num * s .den) (t .den)
-    (omega (arith, mul-le-mul-right (s .den) k, mul-lt-mul-of-pos-right h pu))
-
 -- the mediant lies between
 abbrev pub mid : Fraction → Fraction → Fraction
 mid s t = record { num = s .num + t .num; den = s .den + t .den }

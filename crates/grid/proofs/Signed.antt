@@ -15,11 +15,6 @@ positive-word w h = omega arith
 pub positive-on-grid : (w : ℕ) → w < 32768 → (fromWord w ≤ gridWidth → w ≤ halfWidth) × (w ≤ halfWidth → fromWord w ≤ gridWidth)
 positive-on-grid w h = (λ k. omega (arith, positive-word w h), λ k. omega (arith, positive-word w h))
 
--- a word below 0, as far as the grid reaches: west or south of the grid's middle
-pub negative-word : (w : ℕ) → 65536 - halfWidth ≤ w → w < 65536 → fromWord w + (65536 - w) ≡ halfWidth
-unfolding fromWord
-negative-word w h k = omega arith
-
 -- ON THE GRID exactly down to -8,000
 pub negative-on-grid : (w : ℕ) → 32768 ≤ w → w < 65536 → (fromWord w ≤ gridWidth → 65536 - w ≤ halfWidth) × (65536 - w ≤ halfWidth → fromWord w ≤ gridWidth)
 unfolding fromWord

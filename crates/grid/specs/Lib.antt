@@ -3,3 +3,4 @@ pub mod Coordinate
 pub mod Area
 pub mod Fraction
 pub mod Says
+pub mod Euclid

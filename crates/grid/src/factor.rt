@@ -2,7 +2,8 @@
 use crate::Fraction;
 ghost use mathlib.Core.Path.{_≡_};
 ghost use Prim.Native.Nat.{_+_, _^_, _<_};
-ghost use Rattle.grid.specs.Fraction.{NearestRest, Stepped, divisorOf, keptOf, gcdOf, lowest};
+ghost use Rattle.grid.specs.Fraction.{gcdOf, lowest};
+ghost use Rattle.grid.specs.Euclid.{NearestRest, Stepped, divisorOf, keptOf};
 
 // How far x is from the nearest multiple of y.
 fn nearest_rest(x: u64, y: u64) -> u64

@@ -3,7 +3,6 @@ use crate::Answer;
 use book::Cause;
 use grid::Position;
 use sites::Found;
-ghost use Prim.Native.Nat.{_≤_};
 ghost use Rattle.book.specs.declared.Command.{Command};
 ghost use Rattle.table.specs.Table.{Sound};
 ghost use Rattle.judge.specs.Judged.{Settled};

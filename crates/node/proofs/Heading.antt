@@ -10,13 +10,8 @@ use Rattle.limits.specs.Limits.{tableBytes}
 use Rattle.words.specs.Words.{wordAt, putWord, Only}
 use Rattle.words.proofs.Frame.{only-trans, only-wider, only-putWord, word-putWord, word-low, word-high}
 use Rattle.node.specs.declared.Root.{Root}
-use Rattle.node.specs.Layout.{treeStart, rootStart, freeStart}
+use Rattle.node.specs.Layout.{treeStart, rootStart}
 use Rattle.node.specs.Header.{rootOf, rootIn, Small, Headed}
-
--- a change past the header leaves the tree that it tells
-pub root-kept : {hi : ℕ} {b b′ : List ℕ} → Only freeStart hi b b′ → rootIn b′ ≡ rootIn b
-unfolding rootIn
-root-kept p = ap₂ rootOf (word-low p treeStart (omega arith)) (word-low p rootStart (omega arith))
 
 -- and so does a change below the tree
 pub root-above : {lo : ℕ} {b b′ : List ℕ} → Only lo treeStart b b′ → rootIn b′ ≡ rootIn b

@@ -112,12 +112,6 @@ in-pool h p = only-wider (omega arith) (omega arith) p
 pub in-tree : {b b′ : List ℕ} → Only poolStart tableBytes b b′ → Only freeStart tableBytes b b′
 in-tree p = only-wider (omega arith) (omega arith) p
 
-pub wrote-len : (n : ℕ) (l : List Entry) (b b′ : List ℕ) → Wrote n l b b′ → length b ≡ tableBytes → length b′ ≡ tableBytes
-wrote-len n l b b′ w len = w .only .len ∙ len
-
-pub wrote-then : {n : ℕ} {l r : List Entry} {b b₁ b₂ : List ℕ} → Wrote n l b b₁ → Wrote n r b₁ b₂ → Wrote n r b b₂
-wrote-then p q = record { here = q .here; only = only-trans (p .only) (q .only) }
-
 -- changes of two nodes
 pub only-two-refl : {c s : ℕ} {b : List ℕ} → OnlyTwo c s b b
 only-two-refl = record { rest = λ m x y. refl; only = only-refl }

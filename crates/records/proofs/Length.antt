@@ -34,7 +34,3 @@ list-append (e ∷ es) fs = ap (λ (y : List ℕ). entryBytes e ++ y) (list-appe
 pub list-one : (e : Entry) → listBytes (e ∷ []) ≡ entryBytes e
 unfolding listBytes
 list-one e = append-nil (entryBytes e)
-
--- one entry more
-pub list-more : (es : List Entry) (e : Entry) → listBytes (es ++ (e ∷ [])) ≡ listBytes es ++ entryBytes e
-list-more es e = list-append es (e ∷ []) ∙ ap (λ (y : List ℕ). listBytes es ++ y) (list-one e)

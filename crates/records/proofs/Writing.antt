@@ -6,7 +6,7 @@ use Prim.Native.Nat.{ℕ, suc, _+_, _≤_}
 use native.Mathlib.Omega.{arith}
 use native.Mathlib.Numerals.{add-one}
 use lib.ListN.{length, set, take, drop, length-set, length-append, take-append-drop}
-use lib.Seq.{take-suc-set, drop-set-lt, length-take-le, take-at, drop-at}
+use lib.Seq.{take-suc-set, drop-set-lt, length-take-le, drop-at}
 use Rattle.records.specs.Bytes.{write}
 
 -- bytes and then more of them
@@ -41,10 +41,6 @@ module _ (b : List ℕ) (i : ℕ) (xs : List ℕ) (h : i + length xs ≤ length 
 
   parted : write b i xs ≡ (take i b ++ xs) ++ drop (i + length xs) b
   parted = write-is b i xs h ∙ sym (append-assoc (take i b) xs (drop (i + length xs) b))
-
-  -- up to the end of what is written: what stood before it, and it
-  pub write-front : take (i + length xs) (write b i xs) ≡ take i b ++ xs
-  write-front = ap (take (i + length xs)) parted ∙ take-at (take i b ++ xs) (drop (i + length xs) b) (i + length xs) front
 
   -- behind it all is as it was
   pub write-behind : drop (i + length xs) (write b i xs) ≡ drop (i + length xs) b

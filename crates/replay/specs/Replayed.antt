@@ -6,7 +6,7 @@ use Prim.Native.Nat.{ℕ}
 use lib.ListN.{length, take}
 use Rattle.limits.specs.Limits.{tableBytes}
 use Rattle.book.specs.declared.BatchResult.{BatchResult}
-use Rattle.book.specs.Book.{Book, emptyBook}
+use Rattle.book.specs.Book.{emptyBook}
 use Rattle.demands.specs.Whole.{Said, Ask, taken, saidBy}
 
 -- what the book is fed of a call with these buffers

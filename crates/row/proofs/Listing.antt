@@ -5,21 +5,16 @@ use mathlib.Core.List.{List, [], _++_, List·Memᴰ}
 use Prim.Native.Nat.{ℕ, _≤_}
 use Rattle.grid.specs.declared.Site.{Site}
 use Rattle.grid.specs.declared.Leg.{Leg}
-use Rattle.split.specs.SplitList.{IsSplitList, Numbered, SameSites}
+use Rattle.split.specs.SplitList.{Numbered, SameSites}
 use Rattle.split.specs.Hull.{pointOf}
 use Rattle.split.specs.SplitOf.{splitOf}
 use Rattle.split.specs.Skip.{ShutOut}
-use Rattle.split.proofs.Exists.{hull-is}
 use Rattle.split.proofs.Dealing.{none-dealt, skipped, hull-list}
 use Rattle.row.specs.Vertices.{stack, Lists, entriesIn}
 
 module _ (l : Leg) (t r : List ℕ) where
   pub lists-none : Lists l t r 0 []
   lists-none = none-dealt l
-
-  -- THE ROW IS DOCUMENT 01'S LIST
-  pub lists-rules : (k : ℕ) (s : List Site) → Numbered s → Lists l t r k s → IsSplitList l s (entriesIn l t r k)
-  lists-rules k s n d = hull-is l s n (stack l t r k) d
 
   -- and the computed one of the same sites in any order
   pub lists-is : (k : ℕ) (s u : List Site) → Numbered s → Numbered u → SameSites u s → Lists l t r k s → entriesIn l t r k ≡ splitOf l u

@@ -1,4 +1,3 @@
 pub mod Witnesses
 pub mod Dealing
-pub mod Spaces
 pub mod Knowing

@@ -161,7 +161,7 @@ pub fn covers(t: &[u8], row: &[u8], leg: Leg, k: usize, corner: Corner, near: us
     tell(gap, corner)
 }
 
-// Deals with the site x, of whose cut so many are not right: the row that begins the work buffer becomes the list of one site more.
+// Deals with the site x, of which n of the list are not right: the row that begins the work buffer becomes the list of one site more.
 pub fn deal_vertex(t: &[u8], leg: Leg, x: Vertex, work: &mut [u8], k: usize, n: usize) -> usize
     requires { ⌜ Held leg (now t) (now work) k × LegOnGrid leg × HasSite (now t) (x .place) × IsVertex leg (now t) (x .place) x ⌝ }
     requires { ⌜ Space leg (now t) (now work) k (x .place) × (2 * rowBytes ≤ length (now work)) × Cut leg (now t) (now work) k (x .a) n ⌝ }

@@ -1,6 +1,6 @@
 -- One level down: entry k of a node that may be changed, and its child node.
 -- Assumes nothing.
-use mathlib.Core.Path.{_≡_, refl, ap, _∙_}
+use mathlib.Core.Path.{_≡_, ap, _∙_}
 use mathlib.Core.List.{List, _∷_, _++_}
 use Prim.Native.Nat.{ℕ, suc, _+_, _<_}
 use native.Mathlib.Omega.{arith}
@@ -8,18 +8,11 @@ use lib.ListN.{length, getD, take, drop}
 use lib.Seq.{split-at}
 use Rattle.node.specs.declared.Entry.{Entry}
 use Rattle.node.specs.Node.{entries, noEntry}
-use Rattle.node.specs.Free.{free}
-use Rattle.node.specs.Tally.{total, hit, tally}
-use Rattle.node.proofs.Counting.{hit-same}
+use Rattle.node.specs.Tally.{total, hit}
 use Rattle.rtree.specs.Tree.{joined, nodes, nodesAt, Child, Sound}
 use Rattle.rtree.specs.Change.{Ready}
 use Rattle.rtree.proofs.Every.{each-at}
 use Rattle.rtree.proofs.Totals.{total-joined, nodes-at, nodes-under}
-
--- a node that may be changed is not free
-pub ready-not-free : (h c : ℕ) (b : List ℕ) → Ready h c b → tally c (free b) ≡ 0
-ready-not-free h c b rd =
-    omega (arith, nodes-at (entries b) h c (entries b c) refl (hit c), hit-same c c refl, rd .apart c)
 
 module _ (g n k : ℕ) (b : List ℕ) (f : Entry) (rd : Ready (suc g) n b) (lt : k < length (entries b n)) (qf : f ≡ getD (entries b n) k noEntry) where
   -- f among the entries

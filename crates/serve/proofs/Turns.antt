@@ -16,7 +16,7 @@ use Rattle.book.specs.declared.Reason.the-variants.{AllUsed, UnknownCommand, Cu
 use Rattle.book.specs.declared.BatchResult.{BatchResult}
 use Rattle.book.specs.Command.{parseAt}
 use Rattle.book.specs.Reply.{recordOf}
-use Rattle.book.specs.Answer.{answer, after}
+use Rattle.book.specs.Answer.{answer}
 use Rattle.book.specs.Run.{Turn, Outcome, records, ends, run}
 use Rattle.book.proofs.Runs.{records-append, records-one, records-more, turnOf, Steps, steps-none, ends-all, ends-unknown, ends-cut, ends-full, steps-less, steps-one}
 use Rattle.table.specs.Table.{bookOf, Sound}

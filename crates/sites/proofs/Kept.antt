@@ -1,21 +1,19 @@
--- What follows for the table from a change of its lines: the book's change, the rules on sites kept, and all other words as before.
+-- What follows for the table from a change of its lines: the book's change, and the rules on sites kept.
 -- Assumes nothing.
-use mathlib.Core.Path.{_≡_, ap, ap₂, sym, _∙_, subst}
+use mathlib.Core.Path.{_≡_, sym, _∙_, subst}
 use mathlib.Core.Logic.{⊎-elim}
 use mathlib.Core.List.{List, List·Memᴰ}
-use Prim.Native.Nat.{ℕ, _+_, _*_, _≤_, _<_}
+use Prim.Native.Nat.{ℕ, _≤_, _<_}
 use native.Mathlib.Omega.{arith}
 use lib.ListN.{length}
 use Rattle.limits.specs.Limits.{maxSites, tableBytes}
-use Rattle.words.specs.Words.{wordAt}
 use Rattle.grid.specs.declared.Position.{Position}
 use Rattle.grid.specs.declared.Site.{Site}
 use Rattle.grid.specs.Position.{OnGrid}
 use Rattle.split.specs.SplitList.{SitesOnGrid}
 use Rattle.book.specs.Book.{writeLine, strikeLine, moveLine}
 use Rattle.book.specs.Proper.{Rising, NumberOk}
-use Rattle.sites.specs.Layout.{afterCount, siteStart, siteEnd}
-use Rattle.sites.specs.Lines.{countIn, linesIn, Array, StandsAt, StandsNowhere}
+use Rattle.sites.specs.Lines.{linesIn, Array, StandsAt, StandsNowhere}
 use Rattle.sites.specs.Changes.{inserted, deleted, placed, Changed}
 use Rattle.sites.specs.Rules.{SitesOk}
 use Rattle.sites.proofs.Reading.{lines-length}
@@ -32,31 +30,6 @@ pub sites-few : {b : List ℕ} → SitesOk b → length (linesIn b) ≤ maxSites
 sites-few {b} ok = omega (arith, lines-length b, ok .few)
 
 module _ {l : List Site} {b b′ : List ℕ} (c : Changed l b b′) where
-  -- the count is that of the new lines
-  pub changed-count : countIn b′ ≡ length l
-  changed-count = sym (lines-length b′) ∙ ap length (c .lines)
-
-  -- the words of the header behind the count are as before
-  pub changed-header : (o : ℕ) → afterCount ≤ o → o + 2 ≤ siteStart → wordAt b′ o ≡ wordAt b o
-  unfolding wordAt
-  changed-header o g h =
-      ap₂ (λ (x y : ℕ). x + 256 * y) (c .header o g (omega arith)) (c .header (o + 1) (omega arith) (omega arith))
-
-  -- the words behind the records are as before
-  pub changed-above : (o : ℕ) → siteEnd ≤ o → wordAt b′ o ≡ wordAt b o
-  unfolding wordAt
-  changed-above o g = ap₂ (λ (x y : ℕ). x + 256 * y) (c .above o g) (c .above (o + 1) (omega arith))
-
-  -- the array may be searched and changed again
-  pub changed-array : Array b → Rising l → Array b′
-  changed-array a r =
-      record {
-        len = c .len ∙ a .len;
-        few = c .few;
-        rising = subst (λ (s : List Site). Rising s) (sym (c .lines)) r;
-        spare = c .spare;
-      }
-
   -- the rules are kept if the new lines keep them
   pub changed-ok : Rising l → ((p : Site) → List·Memᴰ p l → NumberOk p) → SitesOnGrid l → SitesOk b′
   changed-ok r n g =

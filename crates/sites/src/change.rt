@@ -8,7 +8,6 @@ use crate::SPARE_OFFSET;
 use crate::count;
 use grid::Position;
 use grid::Site;
-ghost use mathlib.Core.Path.{_≡_};
 ghost use Prim.Native.Nat.{_+_, _<_, _≤_};
 ghost use lib.ListN.{length};
 ghost use Rattle.limits.specs.Limits.{maxSites};

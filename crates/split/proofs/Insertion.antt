@@ -29,18 +29,6 @@ pub push-empty : (x : Point) → push x [] ≡ x ∷ []
 unfolding push
 push-empty x = refl
 
-pub insert-empty : (p : Point) → insert p [] ≡ push p []
-unfolding insert push
-insert-empty p = refl
-
-pub insert-left : (p u : Point) (l : List Point) → u .a ≤ p .a → insert p (u ∷ l) ≡ push p (u ∷ l)
-unfolding insert
-insert-left p u l h = pick-yes (decLe (u .a) (p .a)) _ _ h
-
-pub insert-right : (p u : Point) (l : List Point) → p .a < u .a → insert p (u ∷ l) ≡ push u (insert p l)
-unfolding insert
-insert-right p u l h = pick-no (decLe (u .a) (p .a)) _ _ (λ k. omega arith)
-
 hidden : (u x : Point) → u .a ≤ x .a → Hides u x → (m n : ℕ) → 0 < m → 0 < n → Beats m n u x
 hidden u x h k m n pm pn =
     record {

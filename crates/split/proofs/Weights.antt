@@ -23,9 +23,6 @@ pub record Weights (t : Fraction) (m : ℕ) : Type 0 where
 pub weights : (t : Fraction) → IsFraction t → Weights t (t .den - t .num)
 weights t h = omega arith
 
-pub weights-fraction : (t : Fraction) (m : ℕ) → Weights t m → IsFraction t
-weights-fraction t m h = omega arith
-
 module _ (l : Leg) (t : Fraction) (m : ℕ) (w : Weights t m) where
   stewart-at : (p : Site) → distanceAt l t p + m * t .num * distance (l .s) (l .e) ≡ t .den * weigh l m (t .num) p
   stewart-at p =

@@ -2,12 +2,10 @@
 -- Assumes nothing.
 use mathlib.Core.Path.{_≡_, refl, sym, ap, _∙_}
 use mathlib.Core.List.{List}
-use mathlib.Core.Option.{Option, none, some}
-use mathlib.Core.Bool.{cond}
-use Prim.Native.Nat.{ℕ, _+_, _≤_, _<_}
+use mathlib.Core.Option.{some}
+use Prim.Native.Nat.{ℕ, _+_, _≤_}
 use native.Mathlib.Omega.{arith}
 use lib.ListN.{length}
-use lib.Dec.{eqb}
 use borrow.Author.Tests.{eq-eqb, ne-eqb}
 use Rattle.limits.specs.Limits.{tableBytes}
 use Rattle.words.specs.Words.{wordAt, putWord, Only}
@@ -15,7 +13,7 @@ use Rattle.words.proofs.Frame.{only-trans, only-wider, only-putWord, word-putWo
 use Rattle.grid.specs.declared.Position.{Position}
 use Rattle.grid.specs.declared.Leg.{Leg}
 use Rattle.standing.specs.declared.Standing.{Standing}
-use Rattle.standing.specs.Layout.{flagStart, legStart, lengthStart}
+use Rattle.standing.specs.Layout.{flagStart, legStart}
 use Rattle.standing.specs.Standing.{positionWords, putPosition, legIn, asOption, LegStored}
 
 pub position-is : (b : List ℕ) (i e n : ℕ) → e ≡ wordAt b i → n ≡ wordAt b (i + 2) → _≡_ {A = Position} (record { east = e; north = n }) (positionWords b i)

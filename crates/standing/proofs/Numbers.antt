@@ -5,7 +5,7 @@ use mathlib.Core.List.{List, [], _∷_, _++_}
 use Prim.Native.Nat.{ℕ, zero, suc, _+_, _*_, _≤_, _<_}
 use native.Mathlib.Omega.{arith}
 use native.Mathlib.Decide.{decLt}
-use lib.ListN.{length, getD}
+use lib.ListN.{length}
 use Rattle.words.specs.Words.{wordAt, putWord, Only}
 use Rattle.words.proofs.Frame.{only-refl, only-trans, only-wider, only-putWord, word-putWord, word-low, word-high}
 use Rattle.grid.specs.declared.Leg.{Leg}

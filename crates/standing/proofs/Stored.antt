@@ -1,19 +1,18 @@
 -- The standing list, stored.
 -- Assumes nothing.
-use mathlib.Core.Path.{_≡_, refl, sym, ap, ap₂, subst, _∙_}
+use mathlib.Core.Path.{_≡_, sym, ap, ap₂, subst, _∙_}
 use mathlib.Core.List.{List}
-use Prim.Native.Nat.{ℕ, _+_, _*_, _≤_, _<_}
+use Prim.Native.Nat.{ℕ, _+_, _*_, _≤_}
 use native.Mathlib.Omega.{arith}
 use native.Mathlib.Nat.{zero-add}
 use lib.ListN.{length, getD}
-use Rattle.limits.specs.Limits.{maxSites, tableBytes}
+use Rattle.limits.specs.Limits.{tableBytes}
 use Rattle.words.specs.Words.{wordAt, putWord, Only, Copied}
-use Rattle.words.proofs.Frame.{only-putWord, word-putWord, word-low, word-high}
+use Rattle.words.proofs.Frame.{only-putWord, word-putWord, word-high}
 use Rattle.grid.specs.declared.Leg.{Leg}
-use Rattle.row.specs.Places.{siteAt}
-use Rattle.row.specs.Vertices.{placeAt, Held, entriesIn}
-use Rattle.standing.specs.Layout.{lengthStart, keptStart, listStart, listEnd}
-use Rattle.standing.specs.Standing.{wordsFrom, standingIn, numbersOf, NumberRow, ListStored}
+use Rattle.row.specs.Vertices.{Held, entriesIn}
+use Rattle.standing.specs.Layout.{lengthStart, listStart}
+use Rattle.standing.specs.Standing.{wordsFrom, standingIn, NumberRow, ListStored}
 use Rattle.standing.proofs.Numbers.{words-are}
 
 -- a word that was copied
@@ -26,9 +25,6 @@ word-copied s d d′ j n c i h =
     rw e (ap₂ (λ (x y : ℕ). x + 256 * y) a b)
 
 module _ (l : Leg) (t r : List ℕ) (k : ℕ) (len : length t ≡ tableBytes) (hd : Held l t r k) where
-  pub list-room : listStart + 2 * k ≤ length t
-  list-room = omega (arith, hd .few)
-
   -- ALL THREE STEPS
   pub list-stored : (r′ t₁ t₂ : List ℕ) → NumberRow t r k r′ → Copied r′ 0 t listStart (2 * k) t₁ → t₂ ≡ putWord t₁ lengthStart k → ListStored (entriesIn l t r k) t t₂
   unfolding standingIn

@@ -6,7 +6,7 @@ use mathlib.Core.List.{List}
 use Prim.Native.Nat.{ℕ, _+_, _≤_, _<_}
 use native.Mathlib.Omega.{arith}
 use native.Mathlib.Decide.{decLt}
-use lib.ListN.{length, getD}
+use lib.ListN.{getD}
 use Rattle.words.specs.Words.{wordAt}
 use Rattle.grid.specs.Says.{Says}
 use Rattle.standing.specs.Layout.{flagStart, legStart, lengthStart, keptStart, keptEnd}
@@ -38,9 +38,6 @@ unfolding ZeroFrom
 not-zero b lo hi i z l h k = h (k i (z .from) l)
 
 module _ (b : List ℕ) (f : ℕ) (e : f ≡ wordAt b flagStart) where
-  pub flag-high : 1 < f → ¬ HeaderOk b
-  flag-high h k = omega (arith, k .flag)
-
   pub leg-left : (q : Bool) → f ≡ 0 → Says q (ZeroFrom b legStart lengthStart) → q ≡ false → ¬ HeaderOk b
   leg-left true z h x k = absurd (true≢false x)
   leg-left false z h x k = h (k .unset (sym e ∙ z))

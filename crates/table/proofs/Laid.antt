@@ -3,16 +3,13 @@
 use mathlib.Core.Path.{_≡_, refl, sym, ap, subst, _∙_}
 use mathlib.Core.List.{List, [], List·Memᴰ, List·Memᴰ·not-nil}
 use mathlib.Core.Option.{Option, none}
-use Prim.Native.Nat.{ℕ, _+_, _<_}
+use Prim.Native.Nat.{ℕ}
 use native.Mathlib.Omega.{arith}
-use lib.ListN.{length, getD}
-use lib.Dec.{eqb}
 use borrow.Author.Tests.{eq-eqb}
 use Rattle.words.specs.Words.{wordAt}
 use Rattle.grid.specs.declared.Site.{Site}
 use Rattle.grid.specs.declared.Leg.{Leg}
-use Rattle.split.specs.SplitList.{Entry}
-use Rattle.book.specs.Book.{Book, emptyBook, listOf}
+use Rattle.book.specs.Book.{emptyBook, listOf}
 use Rattle.book.specs.Proper.{LegOk, Rising}
 use Rattle.sites.specs.Lines.{countIn, linesFrom, linesIn, SpareZero}
 use Rattle.sites.specs.Rules.{SitesOk}
@@ -23,7 +20,7 @@ use Rattle.empty_table.specs.EmptyTable.{emptyTable}
 use Rattle.empty_table.proofs.EmptyTree.{empty-length, empty-low, empty-word, empty-rooted, empty-leaves}
 use Rattle.tree_check.specs.Sites.{leafList}
 use Rattle.node.specs.Node.{firsts}
-use Rattle.table.specs.Table.{bookOf, Whole, StandingOk, Sound}
+use Rattle.table.specs.Table.{bookOf, Sound}
 
 no-count : countIn emptyTable ≡ 0
 no-count = empty-word 0 (omega arith)

@@ -5,14 +5,12 @@ use mathlib.Core.List.{List, [], _∷_, _++_}
 use Prim.Native.Nat.{ℕ, zero, suc, _+_}
 use native.Mathlib.Omega.{arith}
 use lib.ListN.{length}
-use Rattle.words.specs.Words.{wordAt}
 use Rattle.grid.specs.declared.Site.{Site}
 use Rattle.row.specs.Places.{siteAtByte}
 use Rattle.sites.specs.Lines.{countIn, lineAt, linesFrom, linesIn}
 use Rattle.node.specs.declared.Entry.{Entry}
 use Rattle.node.specs.Node.{firsts}
 use Rattle.node.specs.Tally.{total}
-use Rattle.node.proofs.Counting.{total-append}
 use Rattle.rtree.specs.Rooted.{leavesIn}
 use Rattle.tree_check.specs.Sites.{leafOf, leafList}
 use Rattle.tree_check.specs.Tied.{Tied}

@@ -1,18 +1,15 @@
 -- What a change of some bytes leaves: the lines, the standing leg, the stored list, the header.
 -- Assumes nothing.
 use mathlib.Core.Path.{_≡_, refl, sym, ap, ap₂, subst, _∙_}
-use mathlib.Core.List.{List, [], _∷_, List·Memᴰ}
-use mathlib.Core.Option.{Option}
-use mathlib.Core.Bool.{cond}
+use mathlib.Core.List.{List, _∷_, List·Memᴰ}
 use Prim.Native.Nat.{ℕ, zero, suc, _+_, _*_, _≤_, _<_}
 use native.Mathlib.Omega.{arith}
-use lib.ListN.{length, getD}
-use lib.Dec.{eqb}
+use lib.ListN.{getD}
 use Rattle.limits.specs.Limits.{maxSites}
 use Rattle.words.specs.Words.{wordAt}
 use Rattle.grid.specs.declared.Site.{Site}
 use Rattle.row.specs.Places.{siteAtByte}
-use Rattle.sites.specs.Layout.{siteStart, siteBytes, recordStart, siteEnd}
+use Rattle.sites.specs.Layout.{siteStart, recordStart, siteEnd}
 use Rattle.sites.specs.Lines.{countIn, lineAt, linesFrom, linesIn, SpareZero}
 use Rattle.sites.specs.Rules.{SitesOk}
 use Rattle.standing.specs.Layout.{flagStart, legStart, lengthStart, keptStart, keptEnd, listStart, listEnd}

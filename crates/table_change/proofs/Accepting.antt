@@ -20,10 +20,9 @@ use Rattle.book.specs.Answer.{answer}
 use Rattle.book.proofs.Lines.{siteAs, strike-none, holds-strike}
 use Rattle.book.proofs.Answers.{add-accepted, remove-accepted, move-accepted, stand-accepted}
 use Rattle.sites.specs.declared.Found.{Found}
-use Rattle.sites.specs.Lines.{linesIn, Array, StandsAt, StandsNowhere, FoundAs}
+use Rattle.sites.specs.Lines.{linesIn, StandsAt, StandsNowhere, FoundAs}
 use Rattle.sites.proofs.Reading.{lines-length}
 use Rattle.sites.proofs.Finding.{found-at, found-absent, at-held, absent-held}
-use Rattle.sites.proofs.Kept.{sites-array}
 use Rattle.standing.specs.Layout.{flagStart}
 use Rattle.standing.specs.Standing.{legIn, ZeroFrom, LegStored}
 use Rattle.node.specs.Layout.{treeStart}
@@ -36,9 +35,6 @@ use Rattle.list_change.proofs.Patching.{patchable}
 use Rattle.table_change.specs.Changes.{Relined}
 use Rattle.table_change.proofs.Struck.{strike-written, strike-moved}
 use Rattle.table_change.proofs.Indices.{written-at, moved-at}
-
-pub sound-array : (b : List ℕ) → Sound b → Array b
-sound-array b s = sites-array (s .whole .len) (s .whole .sites)
 
 -- after a line has changed, the list may be patched, and then the table holds the changed book
 module _ (b b₁ : List ℕ) (l : List Site) (s : Sound b) (r : Relined l b b₁) where

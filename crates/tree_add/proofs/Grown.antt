@@ -2,7 +2,7 @@
 -- It goes by the leaf entries, of which an addition tells every total. A box holds those of a list where nothing stands out of it, and how far they stand out is a total.
 -- Assumes nothing.
 use mathlib.Core.Path.{_≡_, refl, sym, subst, _∙_}
-use mathlib.Core.List.{List, [], _∷_, _++_}
+use mathlib.Core.List.{List, [], _∷_}
 use Prim.Native.Nat.{ℕ, zero, suc, _+_, _-_, _≤_}
 use native.Mathlib.Omega.{arith}
 use Rattle.node.specs.declared.Entry.{Entry}

@@ -13,7 +13,11 @@ use Rattle.node.proofs.Counting.{le-or-lt}
 use Rattle.rtree.specs.Perm.{Perm}
 use Rattle.rtree.specs.Perm.Perm.{trans}
 use Rattle.rtree.proofs.Perms.{perm-is, perm-flip}
-use Rattle.tree_search.specs.Searching.{around, Follows}
+use Rattle.tree_search.specs.Searching.{Follows}
+
+-- so many of l, from the ith on, where the first follows the last
+unfoldable pub around : List Entry → ℕ → ℕ → List Entry
+around l i left = take left (drop i (l ++ l))
 
 pub follows-in : {m i j : ℕ} → i < m → Follows m i j → j < m
 follows-in {m} {i} {j} lt f =

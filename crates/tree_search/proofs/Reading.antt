@@ -34,11 +34,11 @@ use Rattle.rtree.proofs.Totals.{leaves-under}
 use Rattle.rtree.proofs.Perms.{perm-sym}
 use Rattle.tree_search.specs.declared.descent.Step.{Step}
 use Rattle.tree_search.specs.Sites.{siteOf, LeafPoint, sites, areaOf, Placed}
-use Rattle.tree_search.specs.Searching.{entryOf, under, around, Follows, Readable, Ahead, Searched, Stepped, Left}
+use Rattle.tree_search.specs.Searching.{entryOf, under, Follows, Readable, Ahead, Searched, Stepped}
 use Rattle.tree_search.proofs.Orders.{perm-joined}
-use Rattle.tree_search.proofs.OnGrid.{placed, each-placed}
+use Rattle.tree_search.proofs.OnGrid.{each-placed}
 use Rattle.tree_search.proofs.Corners.{corner-skips}
-use Rattle.tree_search.proofs.Around.{follows-in, follow, around-none, around-step, around-all}
+use Rattle.tree_search.proofs.Around.{around, follows-in, follow, around-none, around-step, around-all}
 use Rattle.tree_search.proofs.Searching.{searched-none, searched-leaf, searched-skip, searched-perm, searched-then, ahead-first, ahead-rest, ahead-perm}
 
 -- entry i of node n, at height h
@@ -47,9 +47,6 @@ module _ (t : List ℕ) (h n i : ℕ) (rd : Readable t h n) (lt : i < length (en
   entry-sound = each-at (Sound (entries t) h) (entries t n) i noEntry (rd .sound) lt
 
   module _ {l : Leg} {r : List ℕ} {k : ℕ} (ah : Ahead l t r k (leaves (entries t) h (entryOf t n i))) where
-    pub entry-placed : Placed (entryOf t n i)
-    entry-placed = placed (entries t) h (entryOf t n i) entry-sound (ah .points)
-
     pub entry-skipped : {w : Corner} → IsCorner l (areaOf (entryOf t n i)) w → (b : Bool) → b ≡ true → If b (ShutOut (stack l t r k) (w .a) (w .c))
         → Searched l t r k (leaves (entries t) h (entryOf t n i)) r k
     entry-skipped {w} q b e f =
@@ -210,6 +207,14 @@ module _ (t : List ℕ) (h n i j left : ℕ) (lt : i < length (entries t n)) (so
 -- the boxes of a node under which all is on the grid
 pub node-placed : {l : Leg} {t r : List ℕ} {k h n : ℕ} → Readable t h n → Ahead l t r k (under t h (entries t n)) → Each Placed (entries t n)
 node-placed {t = t} {h = h} {n = n} rd ah = each-placed (entries t) h (entries t n) (rd .sound) (ah .points)
+
+-- The loop over a node's entries: so many are left from the ith on, and whoever deals with them has dealt with the node.
+pub record Left (l : Leg) (t r₀ : List ℕ) (k₀ h n i left : ℕ) (r : List ℕ) (k : ℕ) (e : Edge) : Type 0 where
+  pub here : i < length (entries t n)
+  pub few : left ≤ length (entries t n)
+  pub ahead : Ahead l t r k (under t h (around (entries t n) i left))
+  pub rest : (r′ : List ℕ) (m : ℕ) → Searched l t r k (under t h (around (entries t n) i left)) r′ m → Searched l t r₀ k₀ (under t h (entries t n)) r′ m
+  pub knows : Knows e (stack l t r k)
 
 -- The loop of `search_node`: at its beginning, from one entry to the next, and at its end.
 module _ {l : Leg} {t r₀ : List ℕ} {k₀ h n : ℕ} where

@@ -4,7 +4,7 @@
 use mathlib.Core.Path.{_≡_}
 use mathlib.Core.List.{List, _++_}
 use Prim.Native.Nat.{ℕ, _+_, _*_, _^_, _≤_, _<_}
-use lib.ListN.{length, getD, take, drop}
+use lib.ListN.{length, getD}
 use Rattle.limits.specs.Limits.{maxSites, maxNodes, tableBytes}
 use Rattle.words.specs.Words.{Only}
 use Rattle.grid.specs.declared.Site.{Site}
@@ -14,7 +14,6 @@ use Rattle.grid.specs.Position.{LegOnGrid}
 use Rattle.grid.specs.Area.{areaDistance}
 use Rattle.split.specs.Skip.{ShutOut}
 use Rattle.row.specs.Vertices.{rowBytes, stack, Held, Lists}
-use Rattle.row_skip.specs.declared.Edge.{Edge}
 use Rattle.row_skip.specs.Skipping.{Knows}
 use Rattle.node.specs.declared.Entry.{Entry}
 use Rattle.node.specs.Node.{entries, noEntry}
@@ -30,10 +29,6 @@ entryOf t n i = getD (entries t n) i noEntry
 -- the leaf entries under l, which stand at height h
 abbrev pub under : List ℕ → ℕ → List Entry → List Entry
 under t h l = joined (leaves (entries t) h) l
-
--- so many of l, from the ith on, where the first follows the last
-unfoldable pub around : List Entry → ℕ → ℕ → List Entry
-around l i left = take left (drop i (l ++ l))
 
 -- j comes after i where the first of m follows the last
 pub record Follows (m i j : ℕ) : Type 0 where
@@ -74,14 +69,6 @@ pub record Searched (l : Leg) (t r : List ℕ) (k : ℕ) (q : List Entry) (r′ 
 pub record Stepped (l : Leg) (t r : List ℕ) (k : ℕ) (q : List Entry) (r′ : List ℕ) (s : Step) : Type 0 where
   pub searched : Searched l t r k q r′ (s .k)
   pub knows : Knows (s .edge) (stack l t r′ (s .k))
-
--- The loop over a node's entries: so many are left from the ith on, and whoever deals with them has dealt with the node.
-pub record Left (l : Leg) (t r₀ : List ℕ) (k₀ h n i left : ℕ) (r : List ℕ) (k : ℕ) (e : Edge) : Type 0 where
-  pub here : i < length (entries t n)
-  pub few : left ≤ length (entries t n)
-  pub ahead : Ahead l t r k (under t h (around (entries t n) i left))
-  pub rest : (r′ : List ℕ) (m : ℕ) → Searched l t r k (under t h (around (entries t n) i left)) r′ m → Searched l t r₀ k₀ (under t h (entries t n)) r′ m
-  pub knows : Knows e (stack l t r k)
 
 -- the row r′ has the list of all the tree's sites
 pub record Found (l : Leg) (t r r′ : List ℕ) (n : ℕ) : Type 0 where

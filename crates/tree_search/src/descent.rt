@@ -36,7 +36,7 @@ fn after(i: usize, m: usize) -> usize
     0
 }
 
-// Deals with the site of entry i of the leaf n, of whose cut so many are not right. Its box is a point, so the corner has its distances.
+// Deals with the site of entry i of the leaf n, whose cut is known. Its box is a point, so the corner has its distances.
 fn search_leaf(
     t: &[u8],
     leg: Leg,

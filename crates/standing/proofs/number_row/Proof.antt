@@ -1,7 +1,7 @@
 use borrow.Author.Needs.{needs}
 use native.Mathlib.Omega.{arith}
 use Prim.Native.Nat.{_-_}
-use Rattle.standing.proofs.Numbers.{Numbering, numbering-none, numbering-one, numbering-all, place-inside, row-inside}
+use Rattle.standing.proofs.Numbers.{Numbering, numbering-none, numbering-one, numbering-all, place-inside}
 use Rattle.standing.proofs.number_row.Statement.{statement}
 use Rattle.standing.proofs.number_row.Tie as tie
 

@@ -3,9 +3,8 @@ use mathlib.Core.Path.{_≡_}
 use Prim.Native.Nat.{ℕ, _+_, _*_, _<_}
 use native.Mathlib.Omega.{arith}
 use Rattle.node.proofs.Reading.{below-eight}
-use Rattle.tree_search.specs.Searching.{Left}
 use Rattle.tree_search.proofs.Corners.{corner-is}
-use Rattle.tree_search.proofs.Reading.{step-on, step-leaf, step-known, step-shut, child-readable, child-some, child-ahead, child-searched, node-placed, left-all, left-first, left-next, left-none}
+use Rattle.tree_search.proofs.Reading.{Left, step-on, step-leaf, step-known, step-shut, child-readable, child-some, child-ahead, child-searched, node-placed, left-all, left-first, left-next, left-none}
 use borrow.Fn.Kinds.{In}
 use borrow.Fn.PlainCycle.{Measures, is, falls, and}
 use Rattle.tree_search.proofs.descent.search_entry.Reads as search-entry
