@@ -18,6 +18,7 @@ use Rattle.split.proofs.Unique.{end-fraction}
 use Rattle.split.proofs.Once.{few}
 use Rattle.split.proofs.Denominators.{bounded}
 use Rattle.split.proofs.Exists.{split-is}
+use Rattle.records.specs.ListRecord.{recordBytes}
 use Rattle.records.specs.Decode.{listedOf, readRecord}
 use Rattle.records.proofs.Length.{record-length}
 use Rattle.records.proofs.ReadBack.{EntrySmall, read-record}
@@ -26,7 +27,7 @@ use Rattle.book.specs.declared.Command.the-variants.{Add, Remove, Move, 
 use Rattle.book.specs.Book.{Book}
 use Rattle.book.specs.Proper.{LegOk, Proper}
 use Rattle.book.specs.Reply.{Reply, done, refused, listed, recordOf}
-use Rattle.book.specs.Answer.{answer}
+use Rattle.book.specs.Answer.{answer, legAsked}
 use Rattle.book.proofs.Answers.{ListFits, list-accepted, PrintFits, print-accepted, add-not-listed, remove-not-listed, move-not-listed, stand-not-listed}
 use Rattle.book.proofs.ProperBooks.{proper-numbered}
 
@@ -43,9 +44,11 @@ start-below : (l : Leg) (s : List Site) (es : List Entry) → Stretches l s es �
 start-below l s es h f (List·Memᴰ·head {x = e} {xs = rest} q) = subst (λ (g : Entry). g .start .num < g .start .den) (sym q) (h .0 .below1)
 start-below l s es h f (List·Memᴰ·tail {x = e} {xs = rest} m) = start-below l s rest (h .1) f m
 
--- a leg on the grid, and the split list of it over the book's lines
-pub record BookList (b : Book) (es : List Entry) : Type 0 where
+-- the leg that a command asks for is on the grid, and this is the split list of it over the book's sites
+pub record BookList (b : Book) (c : Command) (es : List Entry) : Type 0 where
   pub leg : Leg
+  pub asked : legAsked b c ≡ some leg
+  pub is : es ≡ splitOf leg (b .lines)
   pub onGrid : LegOnGrid leg
   pub list : IsSplitList leg (b .lines) es
 
@@ -57,39 +60,37 @@ module _ (b : Book) (ok : Proper b) where
   split-list l es e = subst⁻¹ (λ (fs : List Entry). IsSplitList l (b .lines) fs) e (split-is l (b .lines) (proper-numbered b ok))
 
   -- A LISTED ANSWER is document 01's split list of a leg over the book's lines
-  pub answer-list : (c : Command) (es : List Entry) → answer b c ≡ listed es → BookList b es
+  pub answer-list : (c : Command) (es : List Entry) → answer b c ≡ listed es → BookList b c es
   answer-list (Add n p) es h = absurd (add-not-listed b n p es h)
   answer-list (Remove n) es h = absurd (remove-not-listed b n es h)
   answer-list (Move n p) es h = absurd (move-not-listed b n p es h)
   answer-list (ListOf l) es h =
       let f : ListFits b l es = list-accepted b l es h in
-      record { leg = l; onGrid = f .onGrid; list = split-list l es (f .is) }
+      record { leg = l; asked = refl; is = f .is; onGrid = f .onGrid; list = split-list l es (f .is) }
   answer-list (Stand l) es h = absurd (stand-not-listed b l es h)
   answer-list Print es h =
       let f : PrintFits b es = print-accepted b es h in
-      record { leg = f .line; onGrid = leg-ok (f .line) (f .stands); list = split-list (f .line) es (f .is) }
+      record { leg = f .line; asked = f .stands; is = f .is; onGrid = leg-ok (f .line) (f .stands); list = split-list (f .line) es (f .is) }
 
-  -- at most 512 entries
-  pub answer-few : (c : Command) (es : List Entry) → answer b c ≡ listed es → length es ≤ maxSites
-  answer-few c es h =
-      let r : BookList b es = answer-list c es h in
-      omega (arith, ok .few, few (r .leg) (b .lines) (proper-numbered b ok) es (r .list))
+  module _ (l : Leg) (on : LegOnGrid l) (es : List Entry) (h : IsSplitList l (b .lines) es) where
+    -- at most 512 entries
+    pub list-few : length es ≤ maxSites
+    list-few = omega (arith, ok .few, few l (b .lines) (proper-numbered b ok) es h)
 
-  -- the record's fields hold every entry
-  pub answer-small : (c : Command) (es : List Entry) → answer b c ≡ listed es → (e : Entry) → List·Memᴰ e es → EntrySmall e
-  answer-small c es h e m =
-      let r : BookList b es = answer-list c es h in
-      let d : e .start .den ≤ maxDenominator = bounded (r .leg) (b .lines) (proper-numbered b ok) (r .onGrid) (ok .onGrid) es (r .list) e m in
-      let n : e .start .num < e .start .den = start-below (r .leg) (b .lines) es (r .list .rules) e m in
-      record {
-        number = omega (arith, ok .numbers (e .site) (listed-held (r .leg) (b .lines) es (r .list .rules) e m) .most);
-        num = omega arith;
-        den = omega arith;
-      }
+    -- the record's fields hold every entry
+    list-small : (e : Entry) → List·Memᴰ e es → EntrySmall e
+    list-small e m =
+        let d : e .start .den ≤ maxDenominator = bounded l (b .lines) (proper-numbered b ok) on (ok .onGrid) es h e m in
+        let n : e .start .num < e .start .den = start-below l (b .lines) es (h .rules) e m in
+        record {
+          number = omega (arith, ok .numbers (e .site) (listed-held l (b .lines) es (h .rules) e m) .most);
+          num = omega arith;
+          den = omega arith;
+        }
 
-  -- NOTHING IS CUT OFF: a listed answer is read back from its record
-  pub answer-read : (c : Command) (es : List Entry) → answer b c ≡ listed es → readRecord (recordOf (answer b c)) ≡ map listedOf es
-  answer-read c es h = ap (λ (y : Reply). readRecord (recordOf y)) h ∙ read-record es (omega (arith, answer-few c es h)) (answer-small c es h)
+    -- NOTHING IS CUT OFF: a list of the book is read back from its record
+    pub list-read : readRecord (recordBytes es) ≡ map listedOf es
+    list-read = read-record es (omega (arith, list-few)) list-small
 
   -- NO RECORD is longer than that of 512 entries
   pub answer-length : (c : Command) → length (recordOf (answer b c)) ≤ 3 + 10 * maxSites
@@ -98,4 +99,6 @@ module _ (b : Book) (ok : Proper b) where
       go : (y : Reply) → answer b c ≡ y → length (recordOf y) ≤ 3 + 10 * maxSites
       go done e = omega arith
       go (refused x) e = omega arith
-      go (listed es) e = omega (arith, record-length es, answer-few c es e)
+      go (listed es) e =
+          let r : BookList b c es = answer-list c es e in
+          omega (arith, record-length es, list-few (r .leg) (r .onGrid) es (r .list))

@@ -22,9 +22,9 @@ use Rattle.book.specs.Encode.{positionBytes, legBytes, commandBytes}
 use Rattle.book.specs.Book.{Book}
 use Rattle.book.specs.Reply.{recordOf}
 use Rattle.book.specs.Answer.{answer, after}
-use Rattle.book.specs.Run.{Turn, records, ends, run}
+use Rattle.book.specs.Run.{Turn, records, ends, run, afterAll}
 use Rattle.book.proofs.Parsing.{parse-end, parse-add, parse-remove, parse-move, parse-list, parse-stand, parse-print}
-use Rattle.book.proofs.Runs.{turnOf, afterAll, records-one, records-more, Steps, steps-none, steps-one, ends-all, ends-full}
+use Rattle.book.proofs.Runs.{turnOf, records-one, records-more, Steps, steps-none, steps-one, ends-all, ends-full}
 
 -- two 16-bit numbers hold the position
 pub record PositionSmall (p : Position) : Type 0 where

@@ -20,10 +20,9 @@ use Rattle.book.specs.Proper.{NumberOk, Proper}
 use Rattle.book.specs.Perm.{Perm}
 use Rattle.book.specs.Reply.{done}
 use Rattle.book.specs.Answer.{answer, after}
-use Rattle.book.specs.Run.{Turn, records, Outcome, ends, run}
+use Rattle.book.specs.Run.{Turn, records, Outcome, ends, run, afterAll}
 use Rattle.book.proofs.Lines.{write-length, holds-write}
 use Rattle.book.proofs.Answers.{answer-add-done}
-use Rattle.book.proofs.Runs.{afterAll}
 use Rattle.book.proofs.ReadBack.{allBytes, AllEncodable, turnsOf, run-commands}
 use Rattle.book.proofs.Orders.{writeAll, write-all-append, Apart, rising-apart, perm-member, perm-length, perm-apart, write-order}
 

@@ -19,7 +19,7 @@ use Rattle.book.specs.Command.{parseAt}
 use Rattle.book.specs.Book.{Book}
 use Rattle.book.specs.Reply.{recordOf}
 use Rattle.book.specs.Answer.{answer, after}
-use Rattle.book.specs.Run.{Turn, records, Outcome, ends, turn, runFrom, run, call}
+use Rattle.book.specs.Run.{Turn, records, Outcome, ends, turn, runFrom, run, call, afterAll, StopsFor}
 use Rattle.book.proofs.Parsing.{parse-next, end-parse, unknown-parse, cut-parse}
 
 -- ---- records and books, over turns
@@ -43,11 +43,6 @@ records-more ts t = ap length (records-append ts (t ∷ [])) ∙ length-append (
 abbrev pub turnOf : Book → Command → Turn
 turnOf b c = record { command = c; reply = answer b c }
 
--- the book after turns
-abbrev pub afterAll : Book → List Turn → Book
-afterAll b [] = b
-afterAll b (t ∷ ts) = afterAll (after b (t .command) (t .reply)) ts
-
 -- the book after turns and then more of them
 pub after-append : (b : Book) (ts us : List Turn) → afterAll b (ts ++ us) ≡ afterAll (afterAll b ts) us
 after-append b [] us = refl
@@ -63,23 +58,12 @@ pub answered-more : (b : Book) (ts : List Turn) (t : Turn) → Answered b ts →
 answered-more b [] t a h = (h, tt)
 answered-more b (u ∷ ts) t a h = (a .0, answered-more (after b (u .command) (u .reply)) ts t (a .1) h)
 
+-- each one of them
+pub answered-at : (b : Book) (ts : List Turn) (t : Turn) (us : List Turn) → Answered b (ts ++ (t ∷ us)) → t .reply ≡ answer (afterAll b ts) (t .command)
+answered-at b [] t us a = a .0
+answered-at b (u ∷ ts) t us a = answered-at (after b (u .command) (u .reply)) ts t us (a .1)
+
 -- ---- how a call ends
-
--- the record of the command that stands at `used` does not fit
-pub record TooLong (cs : List ℕ) (room used : ℕ) (past : List Turn) (b : Book) : Type 0 where
-  pub command : Command
-  pub next : ℕ
-  pub stands : parseAt cs used ≡ Whole command next
-  pub long : room < length (records past) + length (recordOf (answer b command))
-
--- what the reason says of the place where the call ended
-abbrev pub StopsFor : List ℕ → ℕ → Reason → ℕ → List Turn → Book → Type 0
-StopsFor cs room AllUsed used past b = used ≡ length cs
-StopsFor cs room WrongLength used past b = ⊥
-StopsFor cs room Broken used past b = ⊥
-StopsFor cs room UnknownCommand used past b = parseAt cs used ≡ Unknown
-StopsFor cs room CutShort used past b = parseAt cs used ≡ Cut
-StopsFor cs room NoRoom used past b = TooLong cs room used past b
 
 -- an outcome of the commands cs on the book b, with so much room
 pub record Ended (cs : List ℕ) (room : ℕ) (b : Book) (o : Outcome) : Type 0 where

@@ -70,8 +70,26 @@ accepted b Print = listed (standingList b)
 unfoldable pub answer : Book → Command → Reply
 answer b c = firstCause (tests b c) (accepted b c)
 
+-- a command that changes nothing: "4C gives 3D", "50 .."
+abbrev pub reads : Command → Bool
+reads (Add n p) = false
+reads (Remove n) = false
+reads (Move n p) = false
+reads (ListOf l) = true
+reads (Stand l) = false
+reads Print = true
+
 -- "With 21, 66, 67 or 68 the command changes neither lines nor leg."
 abbrev pub after : Book → Command → Reply → Book
 after b c done = change c b
 after b c (refused x) = b
-after b c (listed es) = b
+after b c (listed es) = change c b
+
+-- the leg whose list a command asks for: "4C gives 3D with the split list of its leg over the lines, 50 with that of the standing leg"
+abbrev pub legAsked : Book → Command → Option Leg
+legAsked b (Add n p) = none
+legAsked b (Remove n) = none
+legAsked b (Move n p) = none
+legAsked b (ListOf l) = some l
+legAsked b (Stand l) = none
+legAsked b Print = b .leg

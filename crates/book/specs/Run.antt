@@ -1,8 +1,9 @@
 -- A batch call on the book: the commands in turn. Document 01, "The site book".
 -- Assumes nothing.
+use mathlib.Core.Path.{_≡_}
 use mathlib.Core.List.{List, [], _∷_, _++_}
 use mathlib.Core.Bool.{cond}
-use Prim.Native.Nat.{ℕ, zero, suc, _+_}
+use Prim.Native.Nat.{ℕ, zero, suc, _+_, _<_}
 use lib.ListN.{length}
 use lib.Dec.{eqb, leb}
 use Rattle.limits.specs.Limits.{workBytes}
@@ -10,7 +11,7 @@ use Rattle.book.specs.declared.Command.{Command}
 use Rattle.book.specs.declared.Parsed.{Parsed}
 use Rattle.book.specs.declared.Parsed.the-variants.{End, Unknown, Cut, Whole}
 use Rattle.book.specs.declared.Reason.{Reason}
-use Rattle.book.specs.declared.Reason.the-variants.{AllUsed, WrongLength, UnknownCommand, CutShort, NoRoom}
+use Rattle.book.specs.declared.Reason.the-variants.{AllUsed, WrongLength, Broken, UnknownCommand, CutShort, NoRoom}
 use Rattle.book.specs.Command.{parseAt}
 use Rattle.book.specs.Book.{Book}
 use Rattle.book.specs.Reply.{Reply, recordOf}
@@ -60,3 +61,24 @@ run cs room b = runFrom (suc (length cs)) cs room 0 [] b
 -- a batch call: "A work buffer of wrong length gives 64 and no step."
 abbrev pub call : ℕ → List ℕ → ℕ → Book → Outcome
 call work cs room b = cond (eqb work workBytes) (run cs room b) (ends WrongLength 0 [] b)
+
+-- the book after turns
+abbrev pub afterAll : Book → List Turn → Book
+afterAll b [] = b
+afterAll b (t ∷ ts) = afterAll (after b (t .command) (t .reply)) ts
+
+-- "the command's record exceeds what is left of the report buffer": of the command that stands at `used`
+pub record TooLong (cs : List ℕ) (room used : ℕ) (past : List Turn) (b : Book) : Type 0 where
+  pub command : Command
+  pub next : ℕ
+  pub stands : parseAt cs used ≡ Whole command next
+  pub long : room < length (records past) + length (recordOf (answer b command))
+
+-- what a reason says of the byte where a call ended, with the turns before it and the book then. Document 01, "Causes and numbers", 0 and 66 to 68.
+abbrev pub StopsFor : List ℕ → ℕ → Reason → ℕ → List Turn → Book → Type 0
+StopsFor cs room AllUsed used past b = used ≡ length cs
+StopsFor cs room WrongLength used past b = ⊥
+StopsFor cs room Broken used past b = ⊥
+StopsFor cs room UnknownCommand used past b = parseAt cs used ≡ Unknown
+StopsFor cs room CutShort used past b = parseAt cs used ≡ Cut
+StopsFor cs room NoRoom used past b = TooLong cs room used past b

@@ -1,21 +1,39 @@
 -- A chain of steps leaves a sound table of the book that the same commands leave.
 -- Assumes nothing.
-use mathlib.Core.Path.{refl}
-use mathlib.Core.List.{List}
+use mathlib.Core.Path.{_≡_, refl, sym, subst, _∙_}
+use mathlib.Core.Bool.{Bool, true, false, true≢false}
+use mathlib.Core.List.{List, [], _∷_, _++_}
 use Prim.Native.Nat.{ℕ}
 use Rattle.book.specs.declared.Command.{Command}
+use Rattle.book.specs.declared.Command.the-variants.{Add, Remove, Move, List as ListOf, Stand, Print}
+use Rattle.book.specs.Book.{Book, change}
 use Rattle.book.specs.Reply.{Reply, done, refused, listed}
-use Rattle.book.specs.Answer.{after}
-use Rattle.book.specs.Run.{Turn}
-use Rattle.book.proofs.Runs.{afterAll}
+use Rattle.book.specs.Answer.{reads, after}
+use Rattle.book.specs.Run.{Turn, afterAll}
 use Rattle.table.specs.Table.{Sound, bookOf}
-use Rattle.demands.specs.Step.{Holds, Step, Chain}
+use Rattle.demands.specs.Step.{Holds, keeps, Left, Step, Chain}
 use Rattle.demands.specs.Step.Chain.{none, next}
+use Rattle.demands.specs.Demands.{AllKeep}
+
+-- what changes nothing changes nothing
+reads-same : (c : Command) (b : Book) → reads c ≡ true → change c b ≡ b
+unfolding change
+reads-same (Add n p) b e = absurd (true≢false (sym e))
+reads-same (Remove n) b e = absurd (true≢false (sym e))
+reads-same (Move n p) b e = absurd (true≢false (sym e))
+reads-same (ListOf l) b e = refl
+reads-same (Stand l) b e = absurd (true≢false (sym e))
+reads-same Print b e = refl
+
+-- an accepted command
+accepted-holds : (t : List ℕ) → Sound t → (c : Command) (t′ : List ℕ) (q : Bool) → reads c ≡ q → Left q t (change c (bookOf t)) t′ → Holds t′ (change c (bookOf t))
+accepted-holds t s c t′ true e h = rw h (record { sound = s; book = sym (reads-same c (bookOf t) e) })
+accepted-holds t s c t′ false e h = h
 
 step-holds : (t : List ℕ) → Sound t → (c : Command) (y : Reply) (t′ : List ℕ) → Step t c y t′ → Holds t′ (after (bookOf t) c y)
-step-holds t s c done t′ h = h
+step-holds t s c done t′ h = accepted-holds t s c t′ (reads c) refl h
 step-holds t s c (refused x) t′ h = rw h (record { sound = s; book = refl })
-step-holds t s c (listed es) t′ h = rw h (record { sound = s; book = refl })
+step-holds t s c (listed es) t′ h = accepted-holds t s c t′ (reads c) refl h
 
 -- THE CHAIN
 pub chain-holds : (t : List ℕ) → Sound t → (us : List Turn) (t′ : List ℕ) → Chain t us t′ → Holds t′ (afterAll (bookOf t) us)
@@ -23,3 +41,17 @@ chain-holds t s us t′ none = record { sound = s; book = refl }
 chain-holds t s us t′ (next {t₁ = t₁} {u = u} {us = more} h k) =
     let a = step-holds t s (u .command) (u .reply) t₁ h in
     rw (← a .book) (chain-holds t₁ (a .sound) more t′ k)
+
+-- a step that keeps the table
+pub step-kept : (t : List ℕ) (c : Command) (y : Reply) (t′ : List ℕ) → keeps c y ≡ true → Step t c y t′ → t′ ≡ t
+step-kept t c y t′ e s = subst (λ (q : Bool). Left q t (change c (bookOf t)) t′) e s
+
+-- and a chain of them
+pub chain-kept : (t : List ℕ) (us : List Turn) (t′ : List ℕ) → AllKeep us → Chain t us t′ → t′ ≡ t
+chain-kept t us t′ n none = refl
+chain-kept t us t′ n (next {t₁ = t₁} {u = u} {us = more} s k) = chain-kept t₁ more t′ (n .1) k ∙ step-kept t (u .command) (u .reply) t₁ (n .0) s
+
+-- a chain's first steps
+pub chain-front : (t : List ℕ) (us vs : List Turn) (t′ : List ℕ) → Chain t (us ++ vs) t′ → (t₁ : List ℕ) × Chain t us t₁
+chain-front t [] vs t′ k = (t, none)
+chain-front t (u ∷ us) vs t′ (next {t₁ = t₁} h k) = let r = chain-front t₁ us vs t′ k in (r .0, next h (r .1))

@@ -1,82 +1,153 @@
--- DEMAND 1, proved over the record of the batch call's contract alone.
+-- DEMAND 1, proved over the definitions of the calls' contracts alone.
 -- Assumes nothing.
-use mathlib.Core.Path.{_≡_, refl, sym, ap, _∙_}
-use mathlib.Core.Logic.{_≢_, _⊎_}
-use mathlib.Core.List.{List}
+use mathlib.Core.Path.{_≡_, refl, sym, ap, _∙_, subst}
+use mathlib.Core.Logic.{_≢_, _⊎_, inl, inr}
+use mathlib.Core.Bool.{true, false, true≢false}
+use mathlib.Core.List.{List, [], _∷_, List·Memᴰ, List·Memᴰ·head, List·Memᴰ·tail}
 use Prim.Native.Nat.{ℕ, _≤_}
+use native.Mathlib.Omega.{arith}
 use lib.ListN.{length, drop}
 use lib.Seq.{drop-append-seam}
-use Rattle.book.specs.declared.Command.{Command}
-use Rattle.book.specs.declared.Reason.the-variants.{AllUsed, UnknownCommand, CutShort, NoRoom}
-use Rattle.book.specs.declared.BatchResult.{BatchResult}
-use Rattle.book.specs.Reply.{Reply, done, refused, listed}
-use Rattle.book.specs.Run.{Turn, Outcome, records, run}
-use Rattle.book.proofs.Runs.{run-fits, run-inside, run-all, all-run, run-reason}
-use Rattle.table.specs.Table.{bookOf}
-use Rattle.demands.specs.Step.{Step, Chain}
-use Rattle.demands.specs.Step.Chain.{none, next}
-use Rattle.demands.specs.Batch.{Served}
-use Rattle.demands.specs.Whole.{Call}
-use Rattle.demands.specs.Demands.{IsServed, NoneDone, Demand1}
-use Rattle.demands.proofs.WholeRun.{served-call}
+use borrow.Author.Tests.{eq-eqb, ne-eqb}
+use Rattle.limits.specs.Limits.{tableBytes}
+use Rattle.book.specs.declared.Reason.{Reason}
+use Rattle.book.specs.declared.Reason.the-variants.{AllUsed, WrongLength, Broken, UnknownCommand, CutShort, NoRoom}
+use Rattle.book.specs.Numbers.{reasonNumber}
+use Rattle.book.specs.Run.{Outcome, records, run, StopsFor}
+use Rattle.book.proofs.Runs.{run-ends, run-all, all-run, run-reason}
+use Rattle.table.specs.Table.{Sound, bookOf}
+use Rattle.demands.specs.Batch.{Return, lengthsOk, Served, LaidOut}
+use Rattle.demands.specs.Batch.Batch.{wrong, broken, served}
+use Rattle.demands.specs.Batch.LaidOut.{wrong as not-laid, laid}
+use Rattle.demands.specs.Whole.{Call, MadeOn}
+use Rattle.demands.specs.Demands.{runOf, Kept, Demand1, Demand1Laid}
+use Rattle.demands.proofs.Chains.{chain-kept}
+use Rattle.demands.proofs.WholeRun.{is-wrong, is-broken, is-served}
 
--- a step that is no accepted change leaves the table
-step-kept : (t : List ℕ) (c : Command) (y : Reply) (t′ : List ℕ) → y ≢ done → Step t c y t′ → t′ ≡ t
-step-kept t c done t′ n s = absurd (n refl)
-step-kept t c (refused x) t′ n s = s
-step-kept t c (listed es) t′ n s = s
+-- ---- numbers and reasons
 
--- and so does a chain of them
-chain-kept : (t : List ℕ) (us : List Turn) (t′ : List ℕ) → NoneDone us → Chain t us t′ → t′ ≡ t
-chain-kept t us t′ n none = refl
-chain-kept t us t′ n (next {t₁ = t₁} {u = u} {us = more} s k) = chain-kept t₁ more t′ (n .1) k ∙ step-kept t (u .command) (u .reply) t₁ (n .0) s
+-- 0 is the number of no other reason
+zero-all : (x : Reason) → reasonNumber x ≡ 0 → x ≡ AllUsed
+zero-all AllUsed e = refl
+zero-all WrongLength e = absurd (omega arith)
+zero-all Broken e = absurd (omega arith)
+zero-all UnknownCommand e = absurd (omega arith)
+zero-all CutShort e = absurd (omega arith)
+zero-all NoRoom e = absurd (omega arith)
 
-module _ (t t′ : List ℕ) (c : Call) (a : IsServed t c t′) where
-  -- the book's run of the commands
-  o : Outcome
-  o = run (c .commands) (length (c .report)) (bookOf t)
+-- the four reasons of a run, by their numbers
+abbrev Four : ℕ → Type 0
+Four n = (n ≡ 0) ⊎ (n ≡ 66) ⊎ (n ≡ 67) ⊎ (n ≡ 68)
 
-  v : Served (run (c .commands) (length (c .report)) (bookOf t)) t (c .report) (c .result) t′ (c .workAfter) (c .reportAfter)
-  v = served-call t (a .sound) c t′ (a .made) (a .work)
+four : (x : Reason) → (x ≡ AllUsed) ⊎ (x ≡ UnknownCommand) ⊎ (x ≡ CutShort) ⊎ (x ≡ NoRoom) → Four (reasonNumber x)
+four x (inl e) = inl (ap reasonNumber e)
+four x (inr (inl e)) = inr (inl (ap reasonNumber e))
+four x (inr (inr (inl e))) = inr (inr (inl (ap reasonNumber e)))
+four x (inr (inr (inr e))) = inr (inr (inr (ap reasonNumber e)))
 
-  reason-is : c .result .reason ≡ o .reason
-  unfolding o
-  reason-is = ap (λ (r : BatchResult). r .reason) (v .said)
+four-no64 : (n : ℕ) → Four n → n ≢ 64
+four-no64 n (inl e) z = omega arith
+four-no64 n (inr (inl e)) z = omega arith
+four-no64 n (inr (inr (inl e))) z = omega arith
+four-no64 n (inr (inr (inr e))) z = omega arith
 
-  used-is : c .result .used ≡ o .used
-  unfolding o
-  used-is = ap (λ (r : BatchResult). r .used) (v .said)
+four-no65 : (n : ℕ) → Four n → n ≢ 65
+four-no65 n (inl e) z = omega arith
+four-no65 n (inr (inl e)) z = omega arith
+four-no65 n (inr (inr (inl e))) z = omega arith
+four-no65 n (inr (inr (inr e))) z = omega arith
 
-  written-is : c .result .written ≡ length (records (o .turns))
-  unfolding o
-  written-is = ap (λ (r : BatchResult). r .written) (v .said)
+abbrev Six : List ℕ
+Six = 0 ∷ 64 ∷ 65 ∷ 66 ∷ 67 ∷ 68 ∷ []
 
-  four : (c .result .reason ≡ AllUsed) ⊎ (c .result .reason ≡ UnknownCommand) ⊎ (c .result .reason ≡ CutShort) ⊎ (c .result .reason ≡ NoRoom)
-  unfolding o
-  four = rw reason-is (run-reason (c .commands) (length (c .report)) (bookOf t))
+four-six : (n : ℕ) → Four n → List·Memᴰ n Six
+four-six n (inl e) = List·Memᴰ·head e
+four-six n (inr (inl e)) = List·Memᴰ·tail (List·Memᴰ·tail (List·Memᴰ·tail (List·Memᴰ·head e)))
+four-six n (inr (inr (inl e))) = List·Memᴰ·tail (List·Memᴰ·tail (List·Memᴰ·tail (List·Memᴰ·tail (List·Memᴰ·head e))))
+four-six n (inr (inr (inr e))) = List·Memᴰ·tail (List·Memᴰ·tail (List·Memᴰ·tail (List·Memᴰ·tail (List·Memᴰ·tail (List·Memᴰ·head e)))))
 
-  all-is : c .result .reason ≡ AllUsed → c .result .used ≡ length (c .commands)
-  unfolding o
-  all-is e = used-is ∙ run-all (c .commands) (length (c .report)) (bookOf t) (sym reason-is ∙ e)
+-- ---- a call that takes commands
 
-  is-all : c .result .used ≡ length (c .commands) → c .result .reason ≡ AllUsed
-  unfolding o
-  is-all e = reason-is ∙ all-run (c .commands) (length (c .report)) (bookOf t) (sym used-is ∙ e)
+module _ (t t′ : List ℕ) (c : Call) (v : Served (runOf t c) t (c .report) (c .result) t′ (c .workAfter) (c .reportAfter)) where
+  reason-is : c .result .reason ≡ reasonNumber (runOf t c .reason)
+  reason-is = ap (λ (r : Return). r .reason) (v .said)
 
-  within-is : (c .result .used ≤ length (c .commands)) × (c .result .written ≤ length (c .report))
-  unfolding o
-  within-is = (rw used-is (run-inside (c .commands) (length (c .report)) (bookOf t)), rw written-is (run-fits (c .commands) (length (c .report)) (bookOf t)))
+  used-is : c .result .used ≡ runOf t c .used
+  used-is = ap (λ (r : Return). r .used) (v .said)
+
+  written-is : c .result .written ≡ length (records (runOf t c .turns))
+  written-is = ap (λ (r : Return). r .written) (v .said)
+
+  is-four : Four (c .result .reason)
+  is-four = subst Four (sym reason-is) (four (runOf t c .reason) (run-reason (c .commands) (length (c .report)) (bookOf t)))
 
   past-is : drop (c .result .written) (c .reportAfter) ≡ drop (c .result .written) (c .report)
-  unfolding o
   past-is =
       (λ i. drop (written-is i) (v .report i))
-      ∙ drop-append-seam (records (o .turns)) (drop (length (records (o .turns))) (c .report))
+      ∙ drop-append-seam (records (runOf t c .turns)) (drop (length (records (runOf t c .turns))) (c .report))
       ∙ ap (λ (n : ℕ). drop n (c .report)) (sym written-is)
 
-  kept-is : NoneDone (run (c .commands) (length (c .report)) (bookOf t) .turns) → t′ ≡ t
-  kept-is n = chain-kept t (run (c .commands) (length (c .report)) (bookOf t) .turns) t′ n (v .table)
+  kept : Kept t c t′
+  kept =
+      let e = run-ends (c .commands) (length (c .report)) (bookOf t) in
+      record {
+        stops =
+            record {
+              reason = runOf t c .reason;
+              number = reason-is;
+              for = subst (λ (n : ℕ). StopsFor (c .commands) (length (c .report)) (runOf t c .reason) n (runOf t c .turns) (runOf t c .book)) (sym used-is) (e .stops);
+            };
+        all-used = λ z. used-is ∙ run-all (c .commands) (length (c .report)) (bookOf t) (zero-all (runOf t c .reason) (sym reason-is ∙ z));
+        used-all = λ z. reason-is ∙ ap reasonNumber (all-run (c .commands) (length (c .report)) (bookOf t) (sym used-is ∙ z));
+        within = (rw used-is (e .inside), rw written-is (e .fits));
+        past = past-is;
+        cleared = v .work;
+        kept = λ n. chain-kept t (runOf t c .turns) t′ n (v .table);
+      }
 
--- DEMAND 1
-pub demand1 : Demand1
-demand1 = record { reason = four; all-used = all-is; used-all = is-all; within = within-is; past = past-is; cleared = λ t t′ c a. v t t′ c a .work; kept = kept-is }
+-- ---- any call
+
+module _ (t : List ℕ) (c : Call) (t′ : List ℕ) where
+  ends-in : MadeOn t c t′ → List·Memᴰ (c .result .reason) Six
+  ends-in (wrong e h k) = List·Memᴰ·tail (List·Memᴰ·head (ap (λ (r : Return). r .reason) (h .said)))
+  ends-in (broken e n h k) = List·Memᴰ·tail (List·Memᴰ·tail (List·Memᴰ·head (ap (λ (r : Return). r .reason) (h .said))))
+  ends-in (served e s v) = four-six (c .result .reason) (is-four t t′ c v)
+
+  only-wrong : MadeOn t c t′ → c .result .reason ≡ 64 → lengthsOk t (c .work) ≡ false
+  only-wrong (wrong e h k) z = e
+  only-wrong (broken e n h k) z = absurd (let x : 65 ≡ 64 = sym (ap (λ (r : Return). r .reason) (h .said)) ∙ z in omega arith)
+  only-wrong (served e s v) z = absurd (four-no64 (c .result .reason) (is-four t t′ c v) z)
+
+  only-broken : MadeOn t c t′ → c .result .reason ≡ 65 → (lengthsOk t (c .work) ≡ true) × (Sound t → ⊥)
+  only-broken (wrong e h k) z = absurd (let x : 64 ≡ 65 = sym (ap (λ (r : Return). r .reason) (h .said)) ∙ z in omega arith)
+  only-broken (broken e n h k) z = (e, n)
+  only-broken (served e s v) z = absurd (four-no65 (c .result .reason) (is-four t t′ c v) z)
+
+  -- DEMAND 1
+  pub demand1 : MadeOn t c t′ → Demand1 t c t′
+  demand1 m =
+      record {
+        ends = ends-in m;
+        wrong = is-wrong t (c .work) (c .commands) (c .report) (c .result) t′ (c .workAfter) (c .reportAfter) m;
+        only64 = only-wrong m;
+        broken = is-broken t (c .work) (c .commands) (c .report) (c .result) t′ (c .workAfter) (c .reportAfter) m;
+        only65 = only-broken m;
+        taken = λ e s. kept t t′ c (is-served t (c .work) (c .commands) (c .report) (c .result) t′ (c .workAfter) (c .reportAfter) m e s);
+      }
+
+-- ---- laying out
+
+-- DEMAND 1 of laying out
+pub demand1-laid : (t : List ℕ) (r : ℕ) (t′ : List ℕ) → LaidOut t r t′ → Demand1Laid t r t′
+demand1-laid t r t′ (not-laid e h k) =
+    record {
+      ends = inr h;
+      laid = λ z. absurd (true≢false (sym (eq-eqb (length t) tableBytes z) ∙ e));
+      wrong = λ z. (h, k);
+    }
+demand1-laid t r t′ (laid e h k) =
+    record {
+      ends = inl h;
+      laid = λ z. (h, k);
+      wrong = λ z. absurd (true≢false (sym e ∙ ne-eqb (length t) tableBytes z));
+    }

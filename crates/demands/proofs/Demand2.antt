@@ -1,98 +1,100 @@
--- DEMAND 2, proved over the record of the batch call's contract alone.
+-- DEMAND 2, proved over the definition of the batch call's contract alone.
 -- Assumes nothing.
 use mathlib.Core.Path.{_≡_, sym, ap, _∙_, subst}
-use mathlib.Core.List.{List, [], _∷_, _++_, map, append-assoc}
+use mathlib.Core.Logic.{_≢_}
+use mathlib.Core.Option.{some}
+use mathlib.Core.List.{List, [], _∷_, _++_, append-assoc}
 use Prim.Native.Nat.{ℕ, _+_, _≤_}
 use lib.ListN.{length}
 use Rattle.grid.specs.declared.Leg.{Leg}
-use Rattle.split.specs.SplitList.{IsSplitList}
+use Rattle.grid.specs.Position.{LegOnGrid}
+use Rattle.split.specs.SplitList.{Entry}
 use Rattle.split.specs.SplitOf.{splitOf}
 use Rattle.records.specs.ListRecord.{recordBytes}
-use Rattle.records.specs.Decode.{listedOf, readRecord}
-use Rattle.book.specs.declared.Command.the-variants.{List as ListOf}
+use Rattle.book.specs.declared.Command.{Command}
+use Rattle.book.specs.declared.Command.the-variants.{List as ListOf, Print}
 use Rattle.book.specs.declared.Reason.the-variants.{AllUsed}
-use Rattle.book.specs.Book.{Book}
+use Rattle.book.specs.Book.{sitesOf}
 use Rattle.book.specs.Encode.{commandBytes}
 use Rattle.book.specs.Proper.{Proper}
 use Rattle.book.specs.Reply.{Reply, listed, recordOf}
 use Rattle.book.specs.Answer.{answer}
-use Rattle.book.specs.Run.{Turn, Outcome, records, run}
-use Rattle.book.proofs.ProperBooks.{proper-numbered}
-use Rattle.book.proofs.Runs.{turnOf, afterAll, records-append, records-one, call-right, run-book}
+use Rattle.book.specs.Run.{Turn, Outcome, records, run, afterAll}
+use Rattle.book.proofs.Answers.{answer-print-done}
+use Rattle.book.proofs.Runs.{turnOf, records-append, records-one, call-right, run-ends, answered-at}
+use Rattle.book.proofs.ReadBack.{Encodable}
 use Rattle.book.proofs.Prefixes.{Grown, comes-to}
-use Rattle.book.proofs.Lists.{answer-read}
+use Rattle.book.proofs.Lists.{answer-list}
 use Rattle.table.specs.Table.{bookOf}
 use Rattle.table.proofs.Books.{sound-proper}
-use Rattle.demands.specs.Step.{Holds, Chain}
-use Rattle.demands.specs.Step.Chain.{none, next}
-use Rattle.demands.specs.Whole.{Call, Said}
-use Rattle.demands.specs.Demands.{AllNearest, ComesTo, Printed, Demand2}
-use Rattle.demands.proofs.Chains.{chain-holds}
+use Rattle.demands.specs.Step.{Chain}
+use Rattle.demands.specs.Whole.{Call, Said, said}
+use Rattle.demands.specs.Demands.{runOf, IsServed, ComesTo, Printed, Answers, ListedRight, Demand2}
+use Rattle.demands.proofs.Chains.{chain-holds, chain-front}
 use Rattle.demands.proofs.WholeRun.{served-call, one-call}
-use Rattle.demands.proofs.Legs.{list-encodable, list-answer, list-right}
+use Rattle.demands.proofs.Legs.{held-some, list-encodable, list-answer, list-right}
 
--- a chain's first steps
-chain-front : (t : List ℕ) (us vs : List Turn) (t′ : List ℕ) → Chain t (us ++ vs) t′ → (t₁ : List ℕ) × Chain t us t₁
-chain-front t [] vs t′ k = (t, none)
-chain-front t (u ∷ us) vs t′ (next {t₁ = t₁} h k) = let r = chain-front t₁ us vs t′ k in (r .0, next h (r .1))
+module _ (t : List ℕ) (c : Call) (t′ : List ℕ) (v : IsServed t c t′) where
+  -- the bytes written are the records of the run
+  wrote-run : said c .bytes ≡ records (runOf t c .turns)
+  wrote-run =
+      ap (λ (s : Said). s .bytes) (one-call t (v .sound) c t′ (v .made) .said-is)
+      ∙ ap (λ (p : Outcome). records (p .turns)) (call-right (length (c .work)) (c .commands) (length (c .report)) (bookOf t) (v .work))
 
-module _ (t t′ : List ℕ) (c : Call) (l : Leg) (o : Outcome) (a : ComesTo t c t′ l o) where
-  -- the run of all commands
-  whole : Outcome
-  whole = run (c .commands) (length (c .report)) (bookOf t)
-
-  list-is : answer (o .book) (ListOf l) ≡ listed (splitOf l (o .book .lines))
-  list-is = list-answer (o .book) l (a .onGrid) (a .held)
-
-  grown : Grown (length (a .before) + length (commandBytes (ListOf l))) (o .turns ++ (turnOf (o .book) (ListOf l) ∷ [])) whole
-  unfolding whole
-  grown =
-      subst (λ (s : List ℕ). Grown (length (a .before) + length (commandBytes (ListOf l))) (o .turns ++ (turnOf (o .book) (ListOf l) ∷ [])) (run s (length (c .report)) (bookOf t))) (sym (a .commands))
-      (subst (λ (p : Outcome). p .reason ≡ AllUsed → length (records (p .turns)) + length (recordOf (answer (p .book) (ListOf l))) ≤ length (c .report)
-      → Grown (length (a .before) + length (commandBytes (ListOf l))) (p .turns ++ (turnOf (p .book) (ListOf l) ∷ [])) (run (a .before ++ (commandBytes (ListOf l) ++ a .behind)) (length (c .report)) (bookOf t)))
-      (a .so-far)
-      (comes-to (a .before) (a .behind) (ListOf l) (list-encodable l (a .onGrid)) (length (c .report)) (bookOf t))
-      (a .all)
-      (subst (λ (y : Reply). length (records (o .turns)) + length (recordOf y) ≤ length (c .report)) (sym list-is) (a .room)))
-
-  printed-is : Printed c (records (o .turns)) (recordBytes (splitOf l (o .book .lines)))
-  unfolding whole
-  printed-is =
+  -- the record of a turn stands behind those of the turns before it
+  printed : (past : List Turn) (u : Turn) (behind : List Turn) → runOf t c .turns ≡ past ++ (u ∷ behind) → (es : List Entry) → u .reply ≡ listed es
+      → Printed c (records past) (recordBytes es)
+  unfolding records
+  printed past u behind e es h =
       record {
-        rest = records (grown .rest);
+        rest = records behind;
         written =
-            ap (λ (s : Said). s .bytes) (one-call t (a .served .sound) c t′ (a .served .made) .said-is)
-            ∙ ap (λ (p : Outcome). records (p .turns)) (call-right (length (c .work)) (c .commands) (length (c .report)) (bookOf t) (a .served .work))
-            ∙ ap records (grown .turns)
-            ∙ records-append (o .turns ++ (turnOf (o .book) (ListOf l) ∷ [])) (grown .rest)
-            ∙ ap (λ (s : List ℕ). s ++ records (grown .rest))
-            (records-append (o .turns) (turnOf (o .book) (ListOf l) ∷ [])
-            ∙ ap (λ (s : List ℕ). records (o .turns) ++ s) (records-one (turnOf (o .book) (ListOf l)) ∙ ap recordOf list-is));
+            wrote-run ∙ ap records e ∙ records-append past (u ∷ behind)
+            ∙ ap (λ (y : Reply). records past ++ (recordOf y ++ records behind)) h
+            ∙ sym (append-assoc (records past) (recordBytes es) (records behind));
       }
 
-  -- the table then holds the book then
-  between : (t₁ : List ℕ) × Holds t₁ (o .book)
-  unfolding whole
-  between =
-      let v = served-call t (a .served .sound) c t′ (a .served .made) (a .served .work) in
-      let k : Chain t (o .turns ++ ((turnOf (o .book) (ListOf l) ∷ []) ++ grown .rest)) t′ =
-      subst (λ (us : List Turn). Chain t us t′) (grown .turns ∙ append-assoc (o .turns) (turnOf (o .book) (ListOf l) ∷ []) (grown .rest)) (v .table) in
-      let f = chain-front t (o .turns) ((turnOf (o .book) (ListOf l) ∷ []) ++ grown .rest) t′ k in
-      let b : o .book ≡ afterAll (bookOf t) (o .turns) =
-      subst (λ (p : Outcome). p .book ≡ afterAll (bookOf t) (p .turns)) (a .so-far) (run-book (a .before) (length (c .report)) (bookOf t)) in
-      (f .0, subst (λ (x : Book). Holds (f .0) x) (sym b) (chain-holds t (a .served .sound) (o .turns) (f .0) (f .1)))
+  -- ---- whatever is answered by a list
 
-  proper-then : Proper (o .book)
-  proper-then = let h = between in subst Proper (h .1 .book) (sound-proper (h .0) (h .1 .sound))
+  -- the book then keeps the rules
+  proper-then : (past : List Turn) (u : Turn) (behind : List Turn) → runOf t c .turns ≡ past ++ (u ∷ behind) → Proper (afterAll (bookOf t) past)
+  proper-then past u behind e =
+      let k : Chain t (past ++ (u ∷ behind)) t′ = subst (λ (us : List Turn). Chain t us t′) e (served-call t (v .sound) c t′ (v .made) (v .work) .table) in
+      let f = chain-front t past (u ∷ behind) t′ k in
+      let h = chain-holds t (v .sound) past (f .0) (f .1) in
+      subst Proper (h .book) (sound-proper (f .0) (h .sound))
 
-  right-is : IsSplitList l (o .book .lines) (splitOf l (o .book .lines)) × AllNearest l (o .book .lines) (splitOf l (o .book .lines))
-  right-is = list-right l (o .book .lines) (proper-numbered (o .book) proper-then)
+  right-is : (past : List Turn) (u : Turn) → Answers t c past u → (es : List Entry) → u .reply ≡ listed es
+      → ListedRight c (afterAll (bookOf t) past) past (u .command) es
+  right-is past u a es h =
+      let b = afterAll (bookOf t) past in
+      let ok = proper-then past u (a .behind) (a .turns) in
+      let w = run-ends (c .commands) (length (c .report)) (bookOf t) .answered in
+      let y : answer b (u .command) ≡ listed es = sym (answered-at (bookOf t) past u (a .behind) (rw (← a .turns) w)) ∙ h in
+      let l = answer-list b ok (u .command) es y in
+      record { leg = l .leg; asked = l .asked; list = list-right b ok (l .leg) (l .onGrid) es (l .is); printed = printed past u (a .behind) (a .turns) es h }
 
-  read-is : readRecord (recordBytes (splitOf l (o .book .lines))) ≡ map listedOf (splitOf l (o .book .lines))
-  read-is =
-      ap (λ (y : Reply). readRecord (recordOf y)) (sym list-is)
-      ∙ answer-read (o .book) proper-then (ListOf l) (splitOf l (o .book .lines)) list-is
+  -- ---- a command that is answered by a list gets it
 
--- DEMAND 2
-pub demand2 : Demand2
-demand2 = record { printed = printed-is; right = right-is; read = read-is }
+  given : (k : Command) → Encodable k → (o : Outcome) → ComesTo t c k o → (es : List Entry) → answer (o .book) k ≡ listed es → Printed c (records (o .turns)) (recordBytes es)
+  given k ok o a es h =
+      let g : Grown (length (a .before) + length (commandBytes k)) (o .turns ++ (turnOf (o .book) k ∷ [])) (runOf t c) =
+      subst (λ (s : List ℕ). Grown (length (a .before) + length (commandBytes k)) (o .turns ++ (turnOf (o .book) k ∷ [])) (run s (length (c .report)) (bookOf t))) (sym (a .commands))
+      (subst (λ (p : Outcome). p .reason ≡ AllUsed → length (records (p .turns)) + length (recordOf (answer (p .book) k)) ≤ length (c .report)
+      → Grown (length (a .before) + length (commandBytes k)) (p .turns ++ (turnOf (p .book) k ∷ [])) (run (a .before ++ (commandBytes k ++ a .behind)) (length (c .report)) (bookOf t)))
+      (a .so-far)
+      (comes-to (a .before) (a .behind) k ok (length (c .report)) (bookOf t))
+      (a .all)
+      (a .room))
+      in
+      printed (o .turns) (turnOf (o .book) k) (g .rest) (g .turns ∙ append-assoc (o .turns) (turnOf (o .book) k ∷ []) (g .rest)) es h
+
+  -- DEMAND 2
+  pub demand2 : Demand2 t c t′
+  demand2 =
+      record {
+        right = right-is;
+        given = λ l o a on held. given (ListOf l) (list-encodable l on) o a (splitOf l (sitesOf (o .book))) (list-answer (o .book) l on held);
+        given-standing = λ l o a e held.
+            given Print tt o a (splitOf l (sitesOf (o .book))) (answer-print-done (o .book) l e (held-some (sitesOf (o .book)) held));
+      }

@@ -9,127 +9,161 @@ use Prim.Native.Nat.{ℕ, _≤_}
 use native.Mathlib.Omega.{arith}
 use lib.ListN.{length}
 use lib.Dec.{eqb}
-use Rattle.limits.specs.Limits.{workBytes}
+use Rattle.limits.specs.Limits.{maxNumber, workBytes}
 use Rattle.grid.specs.declared.Site.{Site}
 use Rattle.grid.specs.declared.Leg.{Leg}
 use Rattle.grid.specs.declared.Fraction.{Fraction}
 use Rattle.grid.specs.Position.{OnGrid, LegOnGrid}
 use Rattle.grid.specs.Fraction.{IsFraction}
-use Rattle.split.specs.SplitList.{Entry, IsSplitList, Numbered, SameSites, nameAt}
+use Rattle.split.specs.SplitList.{Entry, Numbered}
 use Rattle.split.specs.SplitOf.{splitOf}
-use Rattle.split.proofs.Unique.{order-free}
-use Rattle.split.proofs.Exists.{split-is}
-use Rattle.split.proofs.Dealing.{no-site}
-use Rattle.split.proofs.Names as names
 use Rattle.records.specs.ListRecord.{recordBytes}
+use Rattle.records.specs.Decode.{Listed, listedOf}
 use Rattle.book.specs.declared.Command.{Command}
 use Rattle.book.specs.declared.Command.the-variants.{Add, Remove, List as ListOf, Print}
 use Rattle.book.specs.declared.Cause.the-variants.{NoSite, NoLeg}
-use Rattle.book.specs.declared.Reason.the-variants.{AllUsed, WrongLength, Broken}
+use Rattle.book.specs.declared.Reason.{Reason}
+use Rattle.book.specs.declared.Reason.the-variants.{AllUsed, WrongLength, Broken, UnknownCommand, CutShort, NoRoom}
 use Rattle.book.specs.Numbers.{reasonNumber}
-use Rattle.book.specs.Book.{Book, emptyBook, change, writeLine, strikeLine, listOf, standingList}
+use Rattle.book.specs.Book.{Book, emptyBook, sitesOf, change, writeLine, strikeLine, listOf, standingList}
 use Rattle.book.specs.Encode.{commandBytes, additions}
 use Rattle.book.specs.Perm.{Perm}
 use Rattle.book.specs.Proper.{Proper, NumberOk, LegOk}
 use Rattle.book.specs.Reply.{Reply, done, refused, listed, recordOf}
 use Rattle.book.specs.Answer.{answer, after}
 use Rattle.book.specs.Run.{Outcome, ends, run}
-use Rattle.book.proofs.Lines.{write-sites, strike-sites}
-use Rattle.book.proofs.Answers.{answer-print-legless, answer-print-empty, answer-print-done}
+use Rattle.book.proofs.Lines.{HeldLine, holds-member, write-sites, strike-sites}
+use Rattle.book.proofs.Answers.{answer-print-legless, answer-print-empty, answer-print-done, remove-accepted}
 use Rattle.book.proofs.ProperBooks.{proper-numbered}
 use Rattle.book.proofs.Runs.{call-right, run-not-broken}
 use Rattle.book.proofs.ReadBack.{Encodable}
 use Rattle.book.proofs.Refill.{refill, allSites, Roomy, afterCalls}
 use Rattle.book.proofs.Refill as refills
 use Rattle.table.proofs.Books.{sound-proper}
-use Rattle.demands.specs.Step.{Holds}
+use Rattle.demands.specs.Step.{Holds, keeps}
 use Rattle.demands.specs.Whole.Made.{none as no-call, next}
 use Rattle.demands.specs.Whole.Filled.{none as no-ask, next as more-asks}
 use Rattle.demands.specs.Whole.{Call, Made, Ran, Said, said, Ask, asked, taken, bookAfter, bookOfRun, Filled, Asks, Room, Wrote}
-use Rattle.demands.specs.Demands.{list4C, print50, listRecord, AllNearest, FreshOf, Demand3}
+use Rattle.demands.specs.Demands.{list4C, print50, listRecord, FreshOf, Changed, numberAt, Demand3}
 use Rattle.demands.proofs.WholeRun.{Answered, one-on, ran-holds, ran-answers, laid-holds}
 use Rattle.demands.proofs.Legs.{small, list-encodable, held-some, list-answer, list-right}
-use Rattle.demands.proofs.OneCommand.{wrote-one, holds-one, listed-keeps, accepted-one}
-
--- ---- the book of a run is proper
-
-ran-proper : (cs : List Call) (t′ : List ℕ) → Ran cs t′ → Proper (bookOfRun cs)
-ran-proper cs t′ r = let h = ran-holds cs t′ r in subst Proper (h .book) (sound-proper t′ (h .sound))
-
-ran-numbered : (cs : List Call) (t′ : List ℕ) → Ran cs t′ → Numbered (bookOfRun cs .lines)
-ran-numbered cs t′ r = proper-numbered (bookOfRun cs) (ran-proper cs t′ r)
+use Rattle.demands.proofs.OneCommand.{wrote-one, holds-one, kept-one, accepted-one}
+use Rattle.demands.proofs.Printing.{prints-list, prints-left, numbers-more}
 
 -- ---- never 65
 
-not-broken : (a : Ask) (b : Book) → taken a b .reason ≢ Broken
+not-broken : (a : Ask) (b : Book) → reasonNumber (taken a b .reason) ≢ 65
 not-broken a b = go (eqb (a .work) workBytes)
   where
-    go : (d : Bool) → cond d (run (a .commands) (a .room) b) (ends WrongLength 0 [] b) .reason ≢ Broken
-    go true e = run-not-broken (a .commands) (a .room) b e
-    go false e = let z : _≡_ {A = ℕ} 64 65 = ap reasonNumber e in omega arith
+    go : (d : Bool) → reasonNumber (cond d (run (a .commands) (a .room) b) (ends WrongLength 0 [] b) .reason) ≢ 65
+    go true e = by (run (a .commands) (a .room) b .reason) (run-not-broken (a .commands) (a .room) b) e
+      where
+        by : (x : Reason) → x ≢ Broken → reasonNumber x ≢ 65
+        by AllUsed n z = omega arith
+        by WrongLength n z = omega arith
+        by Broken n z = n refl
+        by UnknownCommand n z = omega arith
+        by CutShort n z = omega arith
+        by NoRoom n z = omega arith
+    go false e = omega arith
 
-made-never : (t : List ℕ) (b : Book) → Holds t b → (cs : List Call) (t′ : List ℕ) → Made t cs t′ → (c : Call) → List·Memᴰ c cs → c .result .reason ≢ Broken
+made-never : (t : List ℕ) (b : Book) → Holds t b → (cs : List Call) (t′ : List ℕ) → Made t cs t′ → (c : Call) → List·Memᴰ c cs → c .result .reason ≢ 65
 made-never t b h cs t′ no-call c m = absurd (List·Memᴰ·not-nil m)
 made-never t b h (k ∷ cs) t′ (next {t₁ = t₁} made more) c m =
     let a = one-on t b h k t₁ made in
     go a (List·Memᴰ·cases-cons m) (made-never t₁ (taken (asked k) b .book) (a .holds) cs t′ more c)
   where
-    go : Answered b k t₁ → (c ≡ k) ⊎ List·Memᴰ c cs → (List·Memᴰ c cs → c .result .reason ≢ Broken) → c .result .reason ≢ Broken
+    go : Answered b k t₁ → (c ≡ k) ⊎ List·Memᴰ c cs → (List·Memᴰ c cs → c .result .reason ≢ 65) → c .result .reason ≢ 65
     go a (inl e) ih z = not-broken (asked k) b (sym (ap (λ (x : Said). x .reason) (a .said-is)) ∙ sym (ap (λ (x : Call). x .result .reason) e) ∙ z)
     go a (inr m) ih z = ih m z
 
-never : (cs : List Call) (t′ : List ℕ) → Ran cs t′ → (c : Call) → List·Memᴰ c cs → c .result .reason ≢ Broken
+never : (cs : List Call) (t′ : List ℕ) → Ran cs t′ → (c : Call) → List·Memᴰ c cs → c .result .reason ≢ 65
 never cs t′ r = made-never (r .laid-table) emptyBook (laid-holds (r .before) (r .laid-table) (r .laid)) cs t′ (r .made)
 
--- ---- the list of a leg
+-- ---- the list of a leg, and the standing list
 
-module _ (cs : List Call) (t′ : List ℕ) (r : Ran cs t′) where
-  listed-is : (l : Leg) → LegOnGrid l → bookOfRun cs .lines ≢ [] → (c : Call) (t″ : List ℕ) → Asks t′ (list4C l) c t″
-      → Room c (recordBytes (splitOf l (bookOfRun cs .lines))) → Wrote c (recordBytes (splitOf l (bookOfRun cs .lines))) × (t″ ≡ t′)
+-- a 4C keeps the table, whatever it is answered
+list-keeps : (l : Leg) (y : Reply) → keeps (ListOf l) y ≡ true
+list-keeps l done = refl
+list-keeps l (refused x) = refl
+list-keeps l (listed es) = refl
+
+-- on a table of a book that keeps the rules
+module _ (b : Book) (t′ : List ℕ) (h : Holds t′ b) (ok : Proper b) where
+  -- a 50 that is answered so writes that record
+  wrote-print : (y : Reply) → answer b Print ≡ y → (c : Call) (t″ : List ℕ) → Asks t′ print50 c t″ → Room c (recordOf y) → Wrote c (recordOf y)
+  wrote-print y p c t″ a room =
+      subst (λ (x : Reply). Wrote c (recordOf x)) p (wrote-one t′ b h Print tt c t″ a (subst (λ (x : Reply). Room c (recordOf x)) (sym p) room))
+
+  listed-is : (l : Leg) → LegOnGrid l → sitesOf b ≢ [] → (c : Call) (t″ : List ℕ) → Asks t′ (list4C l) c t″
+      → Room c (recordBytes (splitOf l (sitesOf b))) → Wrote c (recordBytes (splitOf l (sitesOf b))) × (t″ ≡ t′)
   listed-is l on held c t″ a room =
-      let e = list-answer (bookOfRun cs) l on held in
-      let ok : Room c (recordOf (answer (bookOfRun cs) (ListOf l))) = subst (λ (y : Reply). Room c (recordOf y)) (sym e) room in
-      let h = ran-holds cs t′ r in (
-        subst (λ (y : Reply). Wrote c (recordOf y)) e (wrote-one t′ (bookOfRun cs) h (ListOf l) (list-encodable l on) c t″ a ok),
-        listed-keeps t′ (bookOfRun cs) h (ListOf l) (list-encodable l on) c t″ a ok (splitOf l (bookOfRun cs .lines)) e,
+      let e = list-answer b l on held in
+      let fits : Room c (recordOf (answer b (ListOf l))) = subst (λ (y : Reply). Room c (recordOf y)) (sym e) room in (
+        subst (λ (y : Reply). Wrote c (recordOf y)) e (wrote-one t′ b h (ListOf l) (list-encodable l on) c t″ a fits),
+        kept-one t′ b h (ListOf l) (list-encodable l on) c t″ a fits (list-keeps l (answer b (ListOf l))),
       )
 
-  right-is : (l : Leg) → IsSplitList l (bookOfRun cs .lines) (splitOf l (bookOfRun cs .lines)) × AllNearest l (bookOfRun cs .lines) (splitOf l (bookOfRun cs .lines))
-  right-is l =
-      list-right l (bookOfRun cs .lines) (ran-numbered cs t′ r)
-
-  -- ---- the standing list
-
-  leg-on : (k : Leg) → bookOfRun cs .leg ≡ some k → LegOnGrid k
-  leg-on k e = subst LegOk e (ran-proper cs t′ r .legOk)
-
-  standing-is : (k : Leg) → bookOfRun cs .leg ≡ some k → bookOfRun cs .lines ≢ []
+  standing-is : (k : Leg) → b .leg ≡ some k → sitesOf b ≢ []
       → (c d : Call) (t″ u″ : List ℕ) → Asks t′ print50 c t″ → Asks t′ (list4C k) d u″
-      → Room c (recordBytes (standingList (bookOfRun cs))) → Room d (recordBytes (standingList (bookOfRun cs)))
-      → Wrote c (recordBytes (standingList (bookOfRun cs))) × Wrote d (recordBytes (standingList (bookOfRun cs)))
+      → Room c (recordBytes (standingList b)) → Room d (recordBytes (standingList b))
+      → Wrote c (recordBytes (standingList b)) × Wrote d (recordBytes (standingList b))
   standing-is k e held c d t″ u″ ac ad rc rd =
-      let s : standingList (bookOfRun cs) ≡ splitOf k (bookOfRun cs .lines) = ap (λ (o : Option Leg). listOf o (bookOfRun cs .lines)) e in
-      let p : answer (bookOfRun cs) Print ≡ listed (standingList (bookOfRun cs)) = answer-print-done (bookOfRun cs) k e (held-some (bookOfRun cs .lines) held) ∙ ap listed (sym s) in
-      let ok : Room c (recordOf (answer (bookOfRun cs) Print)) = subst (λ (y : Reply). Room c (recordOf y)) (sym p) rc in (
-        subst (λ (y : Reply). Wrote c (recordOf y)) p (wrote-one t′ (bookOfRun cs) (ran-holds cs t′ r) Print tt c t″ ac ok),
+      let s : standingList b ≡ splitOf k (sitesOf b) = ap (λ (o : Option Leg). listOf o (sitesOf b)) e in
+      let p : answer b Print ≡ listed (standingList b) = answer-print-done b k e (held-some (sitesOf b) held) ∙ ap listed (sym s) in (
+        wrote-print (listed (standingList b)) p c t″ ac rc,
         subst (λ (x : List Entry). Wrote d (recordBytes x)) (sym s)
-            (listed-is k (leg-on k e) held d u″ ad (subst (λ (x : List Entry). Room d (recordBytes x)) s rd) .0),
+            (listed-is k (subst LegOk e (ok .legOk)) held d u″ ad (subst (λ (x : List Entry). Room d (recordBytes x)) s rd) .0),
       )
 
-  siteless-is : (k : Leg) → bookOfRun cs .leg ≡ some k → bookOfRun cs .lines ≡ []
-      → (c : Call) (t″ : List ℕ) → Asks t′ print50 c t″ → 2 ≤ length (c .report) → Wrote c (0x21 ∷ 6 ∷ []) × (standingList (bookOfRun cs) ≡ [])
-  siteless-is k e z c t″ a room =
-      let p : answer (bookOfRun cs) Print ≡ refused NoSite = answer-print-empty (bookOfRun cs) k e (ap length z) in
-      let ok : Room c (recordOf (answer (bookOfRun cs) Print)) = subst (λ (y : Reply). Room c (recordOf y)) (sym p) room in (
-        subst (λ (y : Reply). Wrote c (recordOf y)) p (wrote-one t′ (bookOfRun cs) (ran-holds cs t′ r) Print tt c t″ a ok),
-        (λ i. listOf (e i) (z i)) ∙ no-site k,
-      )
+  siteless-is : (k : Leg) → b .leg ≡ some k → sitesOf b ≡ []
+      → (c : Call) (t″ : List ℕ) → Asks t′ print50 c t″ → 2 ≤ length (c .report) → Wrote c (0x21 ∷ 6 ∷ [])
+  siteless-is k e z c t″ a room = wrote-print (refused NoSite) (answer-print-empty b k e (ap length z)) c t″ a room
 
-  unset-is : bookOfRun cs .leg ≡ none → (c : Call) (t″ : List ℕ) → Asks t′ print50 c t″ → 2 ≤ length (c .report) → Wrote c (0x21 ∷ 7 ∷ [])
-  unset-is e c t″ a room =
-      let p : answer (bookOfRun cs) Print ≡ refused NoLeg = answer-print-legless (bookOfRun cs) e in
-      let ok : Room c (recordOf (answer (bookOfRun cs) Print)) = subst (λ (y : Reply). Room c (recordOf y)) (sym p) room in
-      subst (λ (y : Reply). Wrote c (recordOf y)) p (wrote-one t′ (bookOfRun cs) (ran-holds cs t′ r) Print tt c t″ a ok)
+  unset-is : b .leg ≡ none → (c : Call) (t″ : List ℕ) → Asks t′ print50 c t″ → 2 ≤ length (c .report) → Wrote c (0x21 ∷ 7 ∷ [])
+  unset-is e c t″ a room = wrote-print (refused NoLeg) (answer-print-legless b e) c t″ a room
+
+  -- ---- one addition, one removal
+
+  -- an accepted command between two 50s: what they print are the standing lists before and after, and the book after keeps the rules
+  module _ (k : Command) (enc : Encodable k) (old new : List Listed) (g : Changed t′ k old new) where
+    asks-here : Asks t′ (commandBytes k) (g .call) (g .table)
+    asks-here = subst (λ (x : List ℕ). Asks x (commandBytes k) (g .call) (g .table)) (prints-left t′ b h old (g .before)) (g .asks)
+
+    accepted : (answer b k ≡ done) × Room (g .call) (recordOf (answer b k))
+    accepted = accepted-one t′ b h k enc (g .call) (g .table) asks-here (g .accepted)
+
+    holds-then : Holds (g .table) (change k b)
+    holds-then = subst (λ (y : Reply). Holds (g .table) (after b k y)) (accepted .0) (holds-one t′ b h k enc (g .call) (g .table) asks-here (accepted .1))
+
+    numbered-then : Numbered (change k b .lines)
+    numbered-then = proper-numbered (change k b) (subst Proper (holds-then .book) (sound-proper (g .table) (holds-then .sound)))
+
+    old-is : old ≡ map listedOf (standingList b)
+    old-is = prints-list t′ b h old (g .before)
+
+    new-is : new ≡ map listedOf (standingList (change k b))
+    new-is = prints-list (g .table) (change k b) holds-then new (g .behind)
+
+  added-is : (p : Site) → NumberOk p → OnGrid (p .position) → (old new : List Listed) → Changed t′ (Add (p .number) (p .position)) old new
+      → (t : Fraction) → IsFraction t → (numberAt t new ≡ numberAt t old) ⊎ (numberAt t new ≡ some (p .number))
+  unfolding change
+  added-is p np on old new g t f =
+      let k = Add (p .number) (p .position) in
+      let enc : Encodable (Add (p .number) (p .position)) = (omega (arith, np .most), small (p .position) on) in
+      rw (old-is k enc old new g, new-is k enc old new g)
+      (numbers-more (b .lines) (writeLine p (b .lines)) p (numbered-then k enc old new g) (write-sites p (b .lines)) t f (b .leg))
+
+  removed-is : (n : ℕ) → n ≤ maxNumber → (old new : List Listed) → Changed t′ (Remove n) old new
+      → (t : Fraction) → IsFraction t → (numberAt t new ≡ numberAt t old) ⊎ (numberAt t old ≡ some n)
+  unfolding change
+  removed-is n most old new g t f =
+      let enc : Encodable (Remove n) = omega arith in
+      let l : HeldLine n (b .lines) = holds-member n (b .lines) (remove-accepted b n (accepted (Remove n) enc old new g .0) .held) in
+      let s = strike-sites n (b .lines) (l .line) (ok .rising) (l .held) (l .named) in
+      rw (old-is (Remove n) enc old new g, new-is (Remove n) enc old new g)
+      (⊎-map sym (λ e. e ∙ ap some (l .named))
+      (numbers-more (strikeLine n (b .lines)) (b .lines) (l .line) (proper-numbered b ok) (record { to = s .back; back = s .to }) t f (b .leg)))
 
 -- ---- the fresh table
 
@@ -154,114 +188,50 @@ refilled (a ∷ asks) order (more-asks {more = more} s w e room f) =
           ∙ r .same (run (additions s) (a .room) b .book);
     }
 
-filled-is : (cs fs : List Call) (t′ u′ : List ℕ) → Ran cs t′ → Ran fs u′ → FreshOf cs fs → bookOfRun fs .lines ≡ bookOfRun cs .lines
-filled-is cs fs t′ u′ r q f =
+filled-is : (b : Book) → Proper b → (fs : List Call) → FreshOf b fs → bookOfRun fs .lines ≡ b .lines
+filled-is b ok fs f =
     let x = refilled (map asked fs) (f .order) (f .filled) in
     ap (λ (z : Book). z .lines)
-    (x .same emptyBook ∙ refill (bookOfRun cs) (ran-proper cs t′ r) (x .batches) (subst (λ (s : List Site). Perm s (bookOfRun cs .lines)) (sym (x .sites)) (f .perm)) (x .roomy) .1)
+    (x .same emptyBook ∙ refill b ok (x .batches) (subst (λ (s : List Site). Perm s (b .lines)) (sym (x .sites)) (f .perm)) (x .roomy) .1)
 
 -- a list depends on the lines alone
 by-lines : (l : Leg) (b d : Book) → b .lines ≡ d .lines → answer b (ListOf l) ≡ answer d (ListOf l)
 unfolding answer
 by-lines l b d e = ap (λ (s : List Site). answer (record { lines = s; leg = none }) (ListOf l)) e
 
-fresh-is : (cs fs : List Call) (t′ u′ : List ℕ) → Ran cs t′ → Ran fs u′ → FreshOf cs fs
-    → (l : Leg) → LegOnGrid l → (c d : Call) (t″ u″ : List ℕ) → Asks t′ (list4C l) c t″ → Asks u′ (list4C l) d u″
-    → Room c (listRecord (bookOfRun cs) l) → Room d (listRecord (bookOfRun cs) l) → said c ≡ said d
-fresh-is cs fs t′ u′ r q f l on c d t″ u″ ac ad rc rd =
-    let e : answer (bookOfRun fs) (ListOf l) ≡ answer (bookOfRun cs) (ListOf l) = by-lines l (bookOfRun fs) (bookOfRun cs) (filled-is cs fs t′ u′ r q f) in
-    let wc : Wrote c (listRecord (bookOfRun cs) l) = wrote-one t′ (bookOfRun cs) (ran-holds cs t′ r) (ListOf l) (list-encodable l on) c t″ ac rc in
+fresh-is : (b : Book) (t′ : List ℕ) → Holds t′ b → Proper b → (fs : List Call) (u′ : List ℕ) → Ran fs u′ → FreshOf b fs → (l : Leg) → LegOnGrid l
+    → (c d : Call) (t″ u″ : List ℕ) → Asks t′ (list4C l) c t″ → Asks u′ (list4C l) d u″
+    → Room c (listRecord b l) → Room d (listRecord b l) → said c ≡ said d
+fresh-is b t′ h ok fs u′ q f l on c d t″ u″ ac ad rc rd =
+    let e : answer (bookOfRun fs) (ListOf l) ≡ answer b (ListOf l) = by-lines l (bookOfRun fs) b (filled-is b ok fs f) in
+    let wc : Wrote c (listRecord b l) = wrote-one t′ b h (ListOf l) (list-encodable l on) c t″ ac rc in
     let rd′ : Room d (listRecord (bookOfRun fs) l) = subst (λ (y : Reply). Room d (recordOf y)) (sym e) rd in
-    let wd : Wrote d (listRecord (bookOfRun cs) l) = subst (λ (y : Reply). Wrote d (recordOf y)) e (wrote-one u′ (bookOfRun fs) (ran-holds fs u′ q) (ListOf l) (list-encodable l on) d u″ ad rd′) in
+    let wd : Wrote d (listRecord b l) = subst (λ (y : Reply). Wrote d (recordOf y)) e (wrote-one u′ (bookOfRun fs) (ran-holds fs u′ q) (ListOf l) (list-encodable l on) d u″ ad rd′) in
     wc
     ∙ (λ i. record {
-      reason = AllUsed;
+      reason = 0;
       used = length ((ac .commands ∙ sym (ad .commands)) i);
-      written = length (listRecord (bookOfRun cs) l);
-      bytes = listRecord (bookOfRun cs) l;
+      written = length (listRecord b l);
+      bytes = listRecord b l;
     })
     ∙ sym wd
 
--- ---- one addition, one removal
-
--- the book after one call more
-book-more : (b : Book) (cs : List Call) (c : Call) → bookAfter b (map asked (cs ++ (c ∷ []))) ≡ taken (asked c) (bookAfter b (map asked cs)) .book
-unfolding bookAfter
-book-more b [] c = refl
-book-more b (k ∷ cs) c = book-more (taken (asked k) b .book) cs c
-
--- the names of two lists of one leg, where the sites of the second are those of the first and p
-module _ (s u : List Site) (p : Site) (n : Numbered u) (same : SameSites (p ∷ s) u) (t : Fraction) (f : IsFraction t) where
-  numbered-both : Numbered (p ∷ s)
-  numbered-both =
-      record {
-        small = λ q i. n .small q (same .to q i);
-        one = λ x y i j. n .one x y (same .to x i) (same .to y j);
-      }
-
-  numbered-less : Numbered s
-  numbered-less = names.fewer p s numbered-both
-
-  back : SameSites u (p ∷ s)
-  back = record { to = same .back; back = same .to }
-
-  names-added : (o : Option Leg) → (nameAt t (listOf o u) ≡ nameAt t (listOf o s)) ⊎ (nameAt t (listOf o u) ≡ some p)
-  names-added none = inl refl
-  names-added (some l) =
-      names.added l s p numbered-both (splitOf l s) (splitOf l u) (split-is l s numbered-less) (order-free l u (p ∷ s) back (splitOf l u) (split-is l u n)) t f
-
-  names-removed : (o : Option Leg) → (nameAt t (listOf o s) ≡ nameAt t (listOf o u)) ⊎ (nameAt t (listOf o u) ≡ some p)
-  names-removed o = ⊎-map sym (λ e. e) (names-added o)
-
-module _ (cs : List Call) (t′ : List ℕ) (r : Ran cs t′) (c : Call) (t″ : List ℕ) where
-  -- the book after an accepted command more
-  changed : (k : Command) → Encodable k → Asks t′ (commandBytes k) c t″ → Wrote c (0x2B ∷ [])
-      → (bookOfRun (cs ++ (c ∷ [])) ≡ change k (bookOfRun cs)) × Proper (change k (bookOfRun cs)) × (answer (bookOfRun cs) k ≡ done)
-  changed k ok a w =
-      let h = ran-holds cs t′ r in
-      let acc = accepted-one t′ (bookOfRun cs) h k ok c t″ a w in
-      let e = acc .0 in
-      let n : Holds t″ (change k (bookOfRun cs)) = subst (λ (y : Reply). Holds t″ (after (bookOfRun cs) k y)) e (holds-one t′ (bookOfRun cs) h k ok c t″ a (acc .1)) in
-      let m = one-on t′ (bookOfRun cs) h c t″ (a .made) .holds in
-      (book-more emptyBook cs c ∙ sym (m .book) ∙ n .book, subst Proper (n .book) (sound-proper t″ (n .sound)), e)
-
-  added-is : (p : Site) → NumberOk p → OnGrid (p .position) → Asks t′ (commandBytes (Add (p .number) (p .position))) c t″ → Wrote c (0x2B ∷ [])
-      → (t : Fraction) → IsFraction t
-      → (nameAt t (standingList (bookOfRun (cs ++ (c ∷ [])))) ≡ nameAt t (standingList (bookOfRun cs)))
-      ⊎ (nameAt t (standingList (bookOfRun (cs ++ (c ∷ [])))) ≡ some p)
-  unfolding change
-  added-is p np on a w t f =
-      let x = changed (Add (p .number) (p .position)) (omega (arith, np .most), small (p .position) on) a w in
-      subst (λ (b : Book). (nameAt t (standingList b) ≡ nameAt t (standingList (bookOfRun cs))) ⊎ (nameAt t (standingList b) ≡ some p)) (sym (x .0))
-      (names-added (bookOfRun cs .lines) (writeLine p (bookOfRun cs .lines)) p (proper-numbered (change (Add (p .number) (p .position)) (bookOfRun cs)) (x .1))
-      (write-sites p (bookOfRun cs .lines)) t f (bookOfRun cs .leg))
-
-  removed-is : (p : Site) → List·Memᴰ p (bookOfRun cs .lines) → Asks t′ (commandBytes (Remove (p .number))) c t″ → Wrote c (0x2B ∷ [])
-      → (t : Fraction) → IsFraction t
-      → (nameAt t (standingList (bookOfRun (cs ++ (c ∷ [])))) ≡ nameAt t (standingList (bookOfRun cs)))
-      ⊎ (nameAt t (standingList (bookOfRun cs)) ≡ some p)
-  unfolding change
-  removed-is p m a w t f =
-      let ok = ran-proper cs t′ r in
-      let x = changed (Remove (p .number)) (omega (arith, ok .numbers p m .most)) a w in
-      let s = strike-sites (p .number) (bookOfRun cs .lines) p (ok .rising) m refl in
-      subst (λ (b : Book). (nameAt t (standingList b) ≡ nameAt t (standingList (bookOfRun cs))) ⊎ (nameAt t (standingList (bookOfRun cs)) ≡ some p)) (sym (x .0))
-      (names-removed (strikeLine (p .number) (bookOfRun cs .lines)) (bookOfRun cs .lines) p (proper-numbered (bookOfRun cs) ok)
-      (record { to = s .back; back = s .to }) t f (bookOfRun cs .leg))
-
 -- THE THEOREM
-pub demand3 : Demand3
-demand3 =
+pub demand3 : (cs : List Call) (t′ : List ℕ) → Ran cs t′ → Demand3 cs (bookOfRun cs) t′
+demand3 cs t′ r =
+    let b = bookOfRun cs in
+    let h = ran-holds cs t′ r in
+    let ok = subst Proper (h .book) (sound-proper t′ (h .sound)) in
     record {
-      answers = ran-answers;
-      never65 = never;
-      listed = listed-is;
-      right = right-is;
-      filled = filled-is;
-      fresh = fresh-is;
-      standing = standing-is;
-      siteless = siteless-is;
-      unset = unset-is;
-      added = λ cs t′ r p np on c t″ a w t f. added-is cs t′ r c t″ p np on a w t f;
-      removed = λ cs t′ r p m c t″ a w t f. removed-is cs t′ r c t″ p m a w t f;
+      answers = ran-answers cs t′ r;
+      never65 = never cs t′ r;
+      listed = listed-is b t′ h ok;
+      right = λ l on. list-right b ok l on (splitOf l (sitesOf b)) refl;
+      filled = λ fs u′ q f. filled-is b ok fs f;
+      fresh = fresh-is b t′ h ok;
+      standing = standing-is b t′ h ok;
+      siteless = siteless-is b t′ h ok;
+      unset = unset-is b t′ h ok;
+      added = added-is b t′ h ok;
+      removed = removed-is b t′ h ok;
     }

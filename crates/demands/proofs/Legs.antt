@@ -1,6 +1,6 @@
 -- The list of a leg on the grid: its command has bytes, its answer is the split list, and that list is right.
 -- Assumes nothing.
-use mathlib.Core.Path.{_≡_, refl}
+use mathlib.Core.Path.{_≡_, refl, subst⁻¹}
 use mathlib.Core.Logic.{_≢_}
 use mathlib.Core.List.{List, [], _∷_}
 use native.Mathlib.Omega.{arith}
@@ -9,17 +9,20 @@ use Rattle.grid.specs.declared.Position.{Position}
 use Rattle.grid.specs.declared.Site.{Site}
 use Rattle.grid.specs.declared.Leg.{Leg}
 use Rattle.grid.specs.Position.{OnGrid, LegOnGrid}
-use Rattle.split.specs.SplitList.{Entry, IsSplitList, Stretches, Numbered}
+use Rattle.split.specs.SplitList.{Entry, IsSplitList, Stretches}
 use Rattle.split.specs.SplitOf.{splitOf}
 use Rattle.split.proofs.Closed.{closed}
 use Rattle.split.proofs.Exists.{split-is}
 use Rattle.book.specs.declared.Command.the-variants.{List as ListOf}
 use Rattle.book.specs.Book.{Book}
+use Rattle.book.specs.Proper.{Proper}
 use Rattle.book.specs.Reply.{listed}
 use Rattle.book.specs.Answer.{answer}
 use Rattle.book.proofs.Answers.{answer-list-done}
+use Rattle.book.proofs.ProperBooks.{proper-numbered}
+use Rattle.book.proofs.Lists.{list-read}
 use Rattle.book.proofs.ReadBack.{PositionSmall, Encodable}
-use Rattle.demands.specs.Demands.{AllNearest}
+use Rattle.demands.specs.Demands.{AllNearest, RightList}
 
 pub small : (p : Position) → OnGrid p → PositionSmall p
 small p h = record { east = omega (arith, h .east); north = omega (arith, h .north) }
@@ -39,7 +42,7 @@ all-nearest l s [] h = tt
 all-nearest l s (e ∷ es) h = (closed l s e es h, all-nearest l s es (h .1))
 
 -- THE LIST IS RIGHT
-pub list-right : (l : Leg) (s : List Site) → Numbered s → IsSplitList l s (splitOf l s) × AllNearest l s (splitOf l s)
-list-right l s n =
-    let h = split-is l s n in
-    (h, all-nearest l s (splitOf l s) (h .rules))
+pub list-right : (b : Book) → Proper b → (l : Leg) → LegOnGrid l → (es : List Entry) → es ≡ splitOf l (b .lines) → RightList l (b .lines) es
+list-right b ok l on es e =
+    let h : IsSplitList l (b .lines) es = subst⁻¹ (λ (x : List Entry). IsSplitList l (b .lines) x) e (split-is l (b .lines) (proper-numbered b ok)) in
+    record { is = e; rules = h; nearest = all-nearest l (b .lines) es (h .rules); read = list-read b ok l on es h }

@@ -7,12 +7,9 @@ use Prim.Native.Nat.{ℕ, _≤_}
 use lib.ListN.{length, getD}
 use native.Mathlib.Omega.{arith}
 use native.Mathlib.Decide.{decLe}
-use borrow.Author.Tests.{eq-eqb}
-use Rattle.limits.specs.Limits.{tableBytes, workBytes}
 use Rattle.book.specs.declared.Command.{Command}
 use Rattle.book.specs.declared.Reason.the-variants.{AllUsed}
 use Rattle.records.specs.ListRecord.{recordBytes}
-use Rattle.book.specs.Numbers.{reasonNumber}
 use Rattle.book.specs.Book.{Book}
 use Rattle.book.specs.Encode.{commandBytes}
 use Rattle.book.specs.Reply.{Reply, done, refused, listed, recordOf}
@@ -21,12 +18,11 @@ use Rattle.book.specs.Run.{Turn, Outcome, ends, run}
 use Rattle.book.proofs.Runs.{turnOf, records-one, call-right}
 use Rattle.book.proofs.ReadBack.{Encodable, run-one, run-one-full}
 use Rattle.table.specs.Table.{bookOf}
-use Rattle.table.proofs.Books.{sound-len}
-use Rattle.demands.specs.Step.{Holds, Step, Chain}
+use Rattle.demands.specs.Step.{Holds, keeps, Step, Chain}
 use Rattle.demands.specs.Step.Chain.{none, next}
-use Rattle.demands.specs.Batch.{lengthsOk}
 use Rattle.demands.specs.Whole.{Call, Said, said, asked, taken, saidBy, Asks, Room, Wrote}
-use Rattle.demands.proofs.WholeRun.{Answered, one-on}
+use Rattle.demands.proofs.Chains.{step-kept}
+use Rattle.demands.proofs.WholeRun.{Answered, one-on, served-call}
 
 -- a chain of one step
 chain-one : {t t′ : List ℕ} {u : Turn} → Chain t (u ∷ []) t′ → Step t (u .command) (u .reply) t′
@@ -53,7 +49,7 @@ module _ (t : List ℕ) (b : Book) (h : Holds t b) (c : Command) (ok : Encodable
   wrote-one =
       one .said-is ∙ ap saidBy taken-once
       ∙ (λ i. record {
-        reason = AllUsed;
+        reason = 0;
         used = length (sym (a .commands) i);
         written = length (records-one (turnOf b c) i);
         bytes = records-one (turnOf b c) i;
@@ -64,19 +60,17 @@ module _ (t : List ℕ) (b : Book) (h : Holds t b) (c : Command) (ok : Encodable
   unfolding once
   holds-one = subst (λ (o : Outcome). Holds t′ (o .book)) taken-once (one .holds)
 
-  lengths : lengthsOk t (k .work) ≡ true
-  lengths = rw (eq-eqb (length t) tableBytes (sound-len t (h .sound)), eq-eqb (length (k .work)) workBytes (a .work)) refl
-
   -- THE TABLE: the command's step
-  pub step-one : Step t c (answer b c) t′
+  step-one : Step t c (answer b c) t′
   unfolding once
   step-one =
-      let v = a .made .served lengths (h .sound) in
+      let v = served-call t (h .sound) k t′ (a .made) (a .work) in
       let e : run (k .commands) (length (k .report)) (bookOf t) ≡ once = (λ i. run (a .commands i) (length (k .report)) (h .book i)) ∙ run-one c (length (k .report)) b ok room in
       chain-one (subst (λ (o : Outcome). Chain t (o .turns) t′) e (v .table))
 
-  pub listed-keeps : (es : List _) → answer b c ≡ listed es → t′ ≡ t
-  listed-keeps es e = subst (λ (y : Reply). Step t c y t′) e step-one
+  -- a command that keeps the table leaves every byte
+  pub kept-one : keeps c (answer b c) ≡ true → t′ ≡ t
+  kept-one e = step-kept t c (answer b c) t′ e step-one
 
 -- ---- an accepted change, seen by its record
 
@@ -86,27 +80,25 @@ done-mark done e = refl
 done-mark (refused x) e = absurd (let z : _≡_ {A = ℕ} 0x21 0x2B = ap (λ (s : List ℕ). getD s 0 0) e in omega arith)
 done-mark (listed es) e = absurd (let z : _≡_ {A = ℕ} 0x3D 0x2B = ap (λ (s : List ℕ). getD s 0 0) e in omega arith)
 
-module _ (t : List ℕ) (b : Book) (h : Holds t b) (c : Command) (ok : Encodable c) (k : Call) (t′ : List ℕ) (a : Asks t (commandBytes c) k t′)
-    (w : Wrote k (0x2B ∷ [])) where
+module _ (t : List ℕ) (b : Book) (h : Holds t b) (c : Command) (ok : Encodable c) (k : Call) (t′ : List ℕ) (a : Asks t (commandBytes c) k t′) where
   run-was : said k ≡ saidBy (run (commandBytes c) (length (k .report)) b)
   run-was =
       one-on t b h k t′ (a .made) .said-is
       ∙ ap saidBy (call-right (length (k .work)) (k .commands) (length (k .report)) b (a .work) ∙ ap (λ (s : List ℕ). run s (length (k .report)) b) (a .commands))
 
-  -- THE COMMAND WAS ACCEPTED, and its record had room
-  pub accepted-one : (answer b c ≡ done) × Room k (recordOf (answer b c))
-  accepted-one = go (decLe (length (recordOf (answer b c))) (length (k .report)))
+  -- REASON 0: the record had room
+  pub room-one : k .result .reason ≡ 0 → Room k (recordOf (answer b c))
+  room-one z = go (decLe (length (recordOf (answer b c))) (length (k .report)))
     where
-      go : Dec (length (recordOf (answer b c)) ≤ length (k .report)) → (answer b c ≡ done) × Room k (recordOf (answer b c))
-      go (yes fits) = (
-        done-mark (answer b c)
-            (sym (records-one (turnOf b c))
-            ∙ sym (ap (λ (x : Said). x .bytes) (run-was ∙ ap saidBy (run-one c (length (k .report)) b ok fits)))
-            ∙ ap (λ (x : Said). x .bytes) w),
-        fits,
-      )
+      go : Dec (length (recordOf (answer b c)) ≤ length (k .report)) → Room k (recordOf (answer b c))
+      go (yes fits) = fits
       go (no long) =
           absurd
-          (let z : _≡_ {A = ℕ} 68 0 =
-          ap (λ (x : Said). reasonNumber (x .reason)) (sym (run-was ∙ ap saidBy (run-one-full c (length (k .report)) b ok (omega arith))) ∙ w) in
+          (let e : _≡_ {A = ℕ} 68 0 = ap (λ (x : Said). x .reason) (sym (run-was ∙ ap saidBy (run-one-full c (length (k .report)) b ok (omega arith)))) ∙ z in
           omega arith)
+
+  -- THE COMMAND WAS ACCEPTED, and its record had room
+  pub accepted-one : Wrote k (0x2B ∷ []) → (answer b c ≡ done) × Room k (recordOf (answer b c))
+  accepted-one w =
+      let fits = room-one (ap (λ (x : Said). x .reason) w) in
+      (done-mark (answer b c) (sym (ap (λ (x : Said). x .bytes) (wrote-one t b h c ok k t′ a fits)) ∙ ap (λ (x : Said). x .bytes) w), fits)

@@ -1,6 +1,7 @@
 -- The starred lines of document 01, one statement over the table, computed by the checker.
 -- Assumes nothing.
 use mathlib.Core.Path.{_≡_, refl}
+use mathlib.Core.List.{map}
 use native.Mathlib.Decide.{decLe, decLt}
 use Rattle.words.specs.Words.{wordAt}
 use Rattle.grid.specs.Position.{squaredDifference, distance}
@@ -13,9 +14,16 @@ use Rattle.book.specs.Book.{writeLine, strikeLine, moveLine, holds, change}
 use Rattle.book.specs.Command.{parseAt}
 use Rattle.book.specs.Answer.{answer}
 use Rattle.book.specs.Run.{records, turn, runFrom}
-use Rattle.demands.specs.Starred.{starredLines, written, given}
+use Rattle.records.specs.Decode.{read2, read4, readList, readRecord}
+use Rattle.demands.specs.Demands.{numberFrom}
+use Rattle.demands.specs.Starred.{starredLines, written, given, printedLines, namedLines, namesIn}
 
 -- THE STARRED LINES
 pub starred : given starredLines ≡ written starredLines
 unfolding records turn runFrom parseAt wordAt fromWord toWord answer holds change writeLine strikeLine moveLine splitOf build insert push hides? under? step? decLe decLt distance squaredDifference rank lowest gcdOf gcdBy entryBytes listBytes recordBytes
 starred = refl
+
+-- WHAT A PRINTED LIST NAMES, at its starts and ends
+pub named : map namesIn printedLines ≡ namedLines
+unfolding readRecord readList read2 read4 numberFrom decLe
+named = refl

@@ -1,8 +1,8 @@
 -- A whole list of calls on a table just laid out answers as the book does, and leaves a sound table of the book.
 -- Assumes nothing.
-use mathlib.Core.Path.{_≡_, refl, ap, subst}
+use mathlib.Core.Path.{_≡_, refl, sym, ap, subst, _∙_}
 use mathlib.Core.List.{List, [], _∷_, map}
-use mathlib.Core.Bool.{Bool, true, false, cond}
+use mathlib.Core.Bool.{Bool, true, false, cond, true≢false}
 use Prim.Native.Nat.{ℕ}
 use native.Mathlib.Omega.{arith}
 use lib.ListN.{length, take}
@@ -10,20 +10,45 @@ use lib.Seq.{take-append-seam}
 use lib.Dec.{eqb}
 use borrow.Author.Tests.{eq-eqb}
 use Rattle.limits.specs.Limits.{tableBytes, workBytes}
-use Rattle.book.specs.declared.Reason.the-variants.{AllUsed, WrongLength}
-use Rattle.book.specs.declared.BatchResult.{BatchResult}
+use Rattle.book.specs.declared.Reason.the-variants.{WrongLength}
 use Rattle.book.specs.Book.{Book, emptyBook}
-use Rattle.book.specs.Numbers.{reasonNumber}
 use Rattle.book.specs.Run.{Outcome, records, ends, run}
 use Rattle.book.proofs.Runs.{run-book}
 use Rattle.table.specs.Table.{Sound, bookOf}
 use Rattle.table.proofs.Books.{sound-len}
 use Rattle.table.proofs.Laid.{laid-sound, laid-book}
 use Rattle.demands.specs.Step.{Holds}
-use Rattle.demands.specs.Batch.{result, lengthsOk, Served, LaidOut}
+use Rattle.demands.specs.Batch.{Return, lengthsOk, Refused, Served, Batch, LaidOut, zeros}
+use Rattle.demands.specs.Batch.Batch.{wrong, broken, served}
+use Rattle.demands.specs.Batch.LaidOut.{wrong as not-laid, laid}
 use Rattle.demands.specs.Whole.{Call, MadeOn, Made, Ran, said, asked, taken, saidBy, replies, bookAfter, bookOfRun}
 use Rattle.demands.specs.Whole.Made.{none, next}
+use Rattle.demands.specs.Demands.{AskedAlike, Alike}
 use Rattle.demands.proofs.Chains.{chain-holds}
+
+-- ---- which of the three a call is
+
+module _ (t w cs rep : List ℕ) (r : Return) (t′ w′ rep′ : List ℕ) where
+  -- lengths that are both right and wrong
+  clash : {A : Type 0} → lengthsOk t w ≡ true → lengthsOk t w ≡ false → A
+  clash e f = absurd (true≢false (sym e ∙ f))
+
+  pub is-wrong : Batch t w cs rep r t′ w′ rep′ → lengthsOk t w ≡ false → Refused 64 t rep r t′ rep′ × (w′ ≡ w)
+  is-wrong (wrong e h k) f = (h, k)
+  is-wrong (broken e n h k) f = clash e f
+  is-wrong (served e s h) f = clash e f
+
+  pub is-broken : Batch t w cs rep r t′ w′ rep′ → lengthsOk t w ≡ true → (Sound t → ⊥) → Refused 65 t rep r t′ rep′ × (w′ ≡ zeros workBytes)
+  is-broken (wrong e h k) f n = clash f e
+  is-broken (broken e m h k) f n = (h, k)
+  is-broken (served e s h) f n = absurd (n s)
+
+  pub is-served : Batch t w cs rep r t′ w′ rep′ → lengthsOk t w ≡ true → Sound t → Served (run cs (length rep) (bookOf t)) t rep r t′ w′ rep′
+  is-served (wrong e h k) f s = clash f e
+  is-served (broken e n h k) f s = absurd (n s)
+  is-served (served e z h) f s = h
+
+-- ---- one call
 
 -- one call on a sound table of the book b
 pub record Answered (b : Book) (c : Call) (t′ : List ℕ) : Type 0 where
@@ -35,7 +60,7 @@ module _ (t : List ℕ) (s : Sound t) (c : Call) (t′ : List ℕ) (m : MadeOn t
   ok p e = rw (eq-eqb (length t) tableBytes (sound-len t s)) e
 
   front : (o : Outcome) → Served o t (c .report) (c .result) t′ (c .workAfter) (c .reportAfter) → take (c .result .written) (c .reportAfter) ≡ records (o .turns)
-  front o v = rw (ap (λ (r : BatchResult). r .written) (v .said), v .report) (take-append-seam (records (o .turns)) _)
+  front o v = rw (ap (λ (r : Return). r .written) (v .said), v .report) (take-append-seam (records (o .turns)) _)
 
   served-said : (o : Outcome) → Served o t (c .report) (c .result) t′ (c .workAfter) (c .reportAfter) → said c ≡ saidBy o
   served-said o v = λ i.
@@ -46,12 +71,12 @@ module _ (t : List ℕ) (s : Sound t) (c : Call) (t′ : List ℕ) (m : MadeOn t
       × Holds t′ (cond p (run (c .commands) (length (c .report)) (bookOf t)) (ends WrongLength 0 [] (bookOf t)) .book)
   unfolding records
   by-length false e =
-      let w = m .wrong (ok false e) in (
-        (λ i. record { reason = w .0 i .reason; used = w .0 i .used; written = w .0 i .written; bytes = take (w .0 i .written) (c .reportAfter) }),
-        rw (w .1) (record { sound = s; book = refl }),
+      let w = is-wrong t (c .work) (c .commands) (c .report) (c .result) t′ (c .workAfter) (c .reportAfter) m (ok false e) .0 in (
+        (λ i. record { reason = w .said i .reason; used = w .said i .used; written = w .said i .written; bytes = take (w .said i .written) (c .reportAfter) }),
+        rw (w .table) (record { sound = s; book = refl }),
       )
   by-length true e =
-      let v = m .served (ok true e) s in
+      let v = is-served t (c .work) (c .commands) (c .report) (c .result) t′ (c .workAfter) (c .reportAfter) m (ok true e) s in
       let o = run (c .commands) (length (c .report)) (bookOf t) in
       (served-said o v, rw (run-book (c .commands) (length (c .report)) (bookOf t)) (chain-holds t s (o .turns) t′ (v .table)))
 
@@ -59,13 +84,15 @@ module _ (t : List ℕ) (s : Sound t) (c : Call) (t′ : List ℕ) (m : MadeOn t
   pub one-call : Answered (bookOf t) c t′
   one-call = let h = by-length (eqb (length (c .work)) workBytes) refl in record { said-is = h .0; holds = h .1 }
 
--- with a work buffer of the right length it is the book's run
-pub served-call : (t : List ℕ) → Sound t → (c : Call) (t′ : List ℕ) → MadeOn t c t′ → length (c .work) ≡ workBytes
-    → Served (run (c .commands) (length (c .report)) (bookOf t)) t (c .report) (c .result) t′ (c .workAfter) (c .reportAfter)
-served-call t s c t′ m e = m .served (ok t s c t′ m true (eq-eqb (length (c .work)) workBytes e)) s
+  -- with a work buffer of the right length it is the book's run
+  pub served-call : length (c .work) ≡ workBytes → Served (run (c .commands) (length (c .report)) (bookOf t)) t (c .report) (c .result) t′ (c .workAfter) (c .reportAfter)
+  served-call e =
+      is-served t (c .work) (c .commands) (c .report) (c .result) t′ (c .workAfter) (c .reportAfter) m (ok true (eq-eqb (length (c .work)) workBytes e)) s
 
 pub one-on : (t : List ℕ) (b : Book) → Holds t b → (c : Call) (t′ : List ℕ) → MadeOn t c t′ → Answered b c t′
 one-on t b h c t′ m = subst (λ (x : Book). Answered x c t′) (h .book) (one-call t (h .sound) c t′ m)
+
+-- ---- all calls
 
 -- ALL CALLS answer as the book does
 pub all-calls : (t : List ℕ) (b : Book) → Holds t b → (cs : List Call) (t′ : List ℕ) → Made t cs t′
@@ -77,13 +104,20 @@ all-calls t b h (c ∷ cs) t′ (next {t₁ = t₁} m more) =
     let r = all-calls t₁ (taken (asked c) b .book) (a .holds) cs t′ more in
     ((λ i. a .said-is i ∷ r .0 i), r .1)
 
+-- TWO SOUND TABLES OF ONE BOOK answer alike
+pub alike : (t u : List ℕ) (cs ds : List Call) (t′ u′ : List ℕ) → AskedAlike t u cs ds t′ u′ → Alike cs ds t′ u′
+alike t u cs ds t′ u′ a =
+    let x = all-calls t (bookOf t) (record { sound = a .sound .0; book = refl }) cs t′ (a .made .0) in
+    let y = all-calls u (bookOf t) (record { sound = a .sound .1; book = sym (a .book) }) ds u′ (a .made .1) in
+    record {
+      said-same = x .0 ∙ ap (replies (bookOf t)) (a .asked-same) ∙ sym (y .0);
+      book = x .1 .book ∙ ap (bookAfter (bookOf t)) (a .asked-same) ∙ sym (y .1 .book);
+    }
+
 -- the table just laid out
-pub laid-holds : (t₀ t : List ℕ) → LaidOut t₀ AllUsed t → Holds t emptyBook
-laid-holds t₀ t l = go (eqb (length t₀) tableBytes) refl
-  where
-    go : (p : Bool) → eqb (length t₀) tableBytes ≡ p → Holds t emptyBook
-    go true e = rw (l .laid e .1) (record { sound = laid-sound; book = laid-book })
-    go false e = absurd (let z : _≡_ {A = ℕ} 0 64 = ap reasonNumber (l .wrong e .0) in omega arith)
+pub laid-holds : (t₀ t : List ℕ) → LaidOut t₀ 0 t → Holds t emptyBook
+laid-holds t₀ t (not-laid e r h) = absurd (omega arith)
+laid-holds t₀ t (laid e r h) = rw h (record { sound = laid-sound; book = laid-book })
 
 -- WHOLE RUNS leave a sound table of the book
 pub ran-holds : (cs : List Call) (t′ : List ℕ) → Ran cs t′ → Holds t′ (bookOfRun cs)

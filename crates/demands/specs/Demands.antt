@@ -1,33 +1,157 @@
--- THE DEMANDS, as document 01 has them, over the records of the calls (Batch.antt).
+-- THE DEMANDS, as document 01 has them, over the definitions of the calls (Batch.antt).
 -- Assumes nothing.
 use mathlib.Core.Path.{_≡_}
 use mathlib.Core.Logic.{_≢_, _⊎_}
-use mathlib.Core.Option.{none, some}
+use mathlib.Core.Option.{Option, none, some}
+use mathlib.Core.Bool.{Bool, true, false}
 use mathlib.Core.List.{List, [], _∷_, _++_, map, List·Memᴰ}
-use Prim.Native.Nat.{ℕ, _+_, _≤_}
-use lib.ListN.{length, drop}
-use Rattle.limits.specs.Limits.{workBytes}
+use Prim.Native.Nat.{ℕ, _+_, _*_, _≤_}
+use native.Mathlib.Decide.{decLe}
+use lib.ListN.{length, drop, getD}
+use lib.Dec.{eqb}
+use Rattle.limits.specs.Limits.{maxNumber, tableBytes, workBytes}
 use Rattle.grid.specs.declared.Site.{Site}
 use Rattle.grid.specs.declared.Leg.{Leg}
 use Rattle.grid.specs.declared.Fraction.{Fraction}
 use Rattle.grid.specs.Position.{OnGrid, LegOnGrid}
 use Rattle.grid.specs.Fraction.{IsFraction}
-use Rattle.split.specs.SplitList.{Entry, IsSplitList, NearestAt, CoversAt, nameAt}
+use Rattle.split.specs.SplitList.{Entry, IsSplitList, NearestAt, CoversAt}
 use Rattle.split.specs.SplitOf.{splitOf}
 use Rattle.records.specs.ListRecord.{recordBytes}
-use Rattle.records.specs.Decode.{listedOf, readRecord}
-use Rattle.book.specs.declared.Reason.the-variants.{AllUsed, Broken, UnknownCommand, CutShort, NoRoom}
+use Rattle.records.specs.Decode.{Listed, listedOf, readRecord}
+use Rattle.book.specs.declared.Command.{Command}
 use Rattle.book.specs.declared.Command.the-variants.{Add, Remove, List as ListOf, Print}
-use Rattle.book.specs.Book.{Book, emptyBook, standingList}
+use Rattle.book.specs.declared.Reason.{Reason}
+use Rattle.book.specs.declared.Reason.the-variants.{AllUsed}
+use Rattle.book.specs.Numbers.{reasonNumber}
+use Rattle.book.specs.Book.{Book, emptyBook, sitesOf, standingList}
 use Rattle.book.specs.Encode.{commandBytes}
 use Rattle.book.specs.Perm.{Perm}
 use Rattle.book.specs.Proper.{NumberOk}
-use Rattle.book.specs.Reply.{done, recordOf}
-use Rattle.book.specs.Answer.{answer}
-use Rattle.book.specs.Run.{Turn, Outcome, records, run}
+use Rattle.book.specs.Reply.{listed, recordOf}
+use Rattle.book.specs.Answer.{answer, legAsked}
+use Rattle.book.specs.Run.{Turn, Outcome, records, run, afterAll, StopsFor}
 use Rattle.table.specs.Table.{Sound, bookOf}
-use Rattle.demands.specs.Batch.{zeros}
-use Rattle.demands.specs.Whole.{Call, MadeOn, Ran, said, asked, replies, bookOfRun, Filled, Asks, Room, Wrote}
+use Rattle.empty_table.specs.EmptyTable.{emptyTable}
+use Rattle.demands.specs.Step.{keeps}
+use Rattle.demands.specs.Batch.{lengthsOk, zeros, Refused, LaidOut}
+use Rattle.demands.specs.Whole.{Call, MadeOn, Made, Ran, said, asked, replies, bookOfRun, Filled, Asks, Room, Wrote}
+
+-- ---- demand 1: no call brings it down
+
+-- the commands of a call on the table t, as the book takes them
+abbrev pub runOf : List ℕ → Call → Outcome
+runOf t c = run (c .commands) (length (c .report)) (bookOf t)
+
+-- none of these commands was accepted as a change: each was refused, or changes nothing
+abbrev pub AllKeep : List Turn → Type 0
+AllKeep [] = Unit {0}
+AllKeep (u ∷ us) = (keeps (u .command) (u .reply) ≡ true) × AllKeep us
+
+-- a call that takes commands ends with 0, 66, 67 or 68: with the number of this reason, under that reason's condition and no other (StopsFor)
+pub record Stops (t : List ℕ) (c : Call) : Type 0 where
+  pub reason : Reason
+  pub number : c .result .reason ≡ reasonNumber reason
+  pub for : StopsFor (c .commands) (length (c .report)) reason (c .result .used) (runOf t c .turns) (runOf t c .book)
+
+-- what every call that takes commands leaves and returns
+pub record Kept (t : List ℕ) (c : Call) (t′ : List ℕ) : Type 0 where
+  pub stops : Stops t c
+  -- reason 0 exactly when all command bytes are used
+  pub all-used : c .result .reason ≡ 0 → c .result .used ≡ length (c .commands)
+  pub used-all : c .result .used ≡ length (c .commands) → c .result .reason ≡ 0
+  -- no more bytes are used or written than there are
+  pub within : (c .result .used ≤ length (c .commands)) × (c .result .written ≤ length (c .report))
+  -- "Report bytes past the written ones are left"
+  pub past : drop (c .result .written) (c .reportAfter) ≡ drop (c .result .written) (c .report)
+  -- "The work buffer is all zero afterwards"
+  pub cleared : c .workAfter ≡ zeros workBytes
+  -- "Left as it was: table": a call without an accepted change leaves every byte of it
+  pub kept : AllKeep (runOf t c .turns) → t′ ≡ t
+
+-- DEMAND 1 of a batch call on any bytes: t and t′ are the table before and after.
+pub record Demand1 (t : List ℕ) (c : Call) (t′ : List ℕ) : Type 0 where
+  -- "Every call ends with a defined result": one of these numbers
+  pub ends : List·Memᴰ (c .result .reason) (0 ∷ 64 ∷ 65 ∷ 66 ∷ 67 ∷ 68 ∷ [])
+  -- 64 exactly for a table or work buffer of wrong length; "Left as it was: everything"
+  pub wrong : lengthsOk t (c .work) ≡ false → Refused 64 t (c .report) (c .result) t′ (c .reportAfter) × (c .workAfter ≡ c .work)
+  pub only64 : c .result .reason ≡ 64 → lengthsOk t (c .work) ≡ false
+  -- 65 exactly for a table that is not sound; "Left as it was: table, report", and the work buffer is all zero
+  pub broken : lengthsOk t (c .work) ≡ true → (Sound t → ⊥) → Refused 65 t (c .report) (c .result) t′ (c .reportAfter) × (c .workAfter ≡ zeros workBytes)
+  pub only65 : c .result .reason ≡ 65 → (lengthsOk t (c .work) ≡ true) × (Sound t → ⊥)
+  -- every other call takes commands
+  pub taken : lengthsOk t (c .work) ≡ true → Sound t → Kept t c t′
+
+-- DEMAND 1 of a laying-out call: the table before, the reason's number, the table after.
+pub record Demand1Laid (t : List ℕ) (r : ℕ) (t′ : List ℕ) : Type 0 where
+  pub ends : (r ≡ 0) ⊎ (r ≡ 64)
+  -- "The laying-out call writes an empty table with no standing leg", and returns 0
+  pub laid : length t ≡ tableBytes → (r ≡ 0) × (t′ ≡ emptyTable)
+  -- "or 64 and leaves the bytes"
+  pub wrong : length t ≢ tableBytes → (r ≡ 64) × (t′ ≡ t)
+
+-- ---- demand 2: every list is right
+
+-- every entry, at every fraction that it covers, both ends included, is nearest among these sites
+abbrev pub AllNearest : Leg → List Site → List Entry → Type 0
+AllNearest l s [] = Unit {0}
+AllNearest l s (e ∷ es) = ((t : Fraction) → IsFraction t → CoversAt e es t → NearestAt l s t (e .site)) × AllNearest l s es
+
+-- the list of the leg l over the sites s is document 01's
+pub record RightList (l : Leg) (s : List Site) (es : List Entry) : Type 0 where
+  pub is : es ≡ splitOf l s
+  -- it follows document 01's rules, which only one list does
+  pub rules : IsSplitList l s es
+  -- "Each entry's site is nearest .. at every fraction that the entry covers, both ends included."
+  pub nearest : AllNearest l s es
+  -- reading its record gives it back: no number and no fraction is cut off
+  pub read : readRecord (recordBytes es) ≡ map listedOf es
+
+-- a call that takes commands: work buffer and table have the right lengths, and the table is sound
+pub record IsServed (t : List ℕ) (c : Call) (t′ : List ℕ) : Type 0 where
+  pub sound : Sound t
+  pub made : MadeOn t c t′
+  pub work : length (c .work) ≡ workBytes
+
+-- the call comes to the command k: the command bytes before it were all used, which gave o, and its record has room. What stands behind it is anything.
+pub record ComesTo (t : List ℕ) (c : Call) (k : Command) (o : Outcome) : Type 0 where
+  pub before : List ℕ
+  pub behind : List ℕ
+  pub commands : c .commands ≡ before ++ (commandBytes k ++ behind)
+  pub so-far : run before (length (c .report)) (bookOf t) ≡ o
+  pub all : o .reason ≡ AllUsed
+  pub room : length (records (o .turns)) + length (recordOf (answer (o .book) k)) ≤ length (c .report)
+
+-- what the call wrote: the bytes `past`, then this record, then anything
+pub record Printed (c : Call) (past bytes : List ℕ) : Type 0 where
+  pub rest : List ℕ
+  pub written : said c .bytes ≡ (past ++ bytes) ++ rest
+
+-- the call answered u: the turns before it, and behind it
+pub record Answers (t : List ℕ) (c : Call) (past : List Turn) (u : Turn) : Type 0 where
+  pub behind : List Turn
+  pub turns : runOf t c .turns ≡ past ++ (u ∷ behind)
+
+-- a turn that was answered by the list es, on the book b that the turns before it left: the leg that its command asks for, and that list is right and was printed
+pub record ListedRight (c : Call) (b : Book) (past : List Turn) (k : Command) (es : List Entry) : Type 0 where
+  pub leg : Leg
+  pub asked : legAsked b k ≡ some leg
+  pub list : RightList leg (sitesOf b) es
+  pub printed : Printed c (records past) (recordBytes es)
+
+-- DEMAND 2 of a call that takes commands, on whatever sound table.
+pub record Demand2 (t : List ℕ) (c : Call) (t′ : List ℕ) : Type 0 where
+  -- whatever is answered by a list, wherever in the batch: the list is right
+  pub right : (past : List Turn) (u : Turn) → Answers t c past u → (es : List Entry) → u .reply ≡ listed es
+      → ListedRight c (afterAll (bookOf t) past) past (u .command) es
+  -- "a leg on the grid gets its list whenever a site is held and the report has room"
+  pub given : (l : Leg) (o : Outcome) → ComesTo t c (ListOf l) o → LegOnGrid l → sitesOf (o .book) ≢ []
+      → Printed c (records (o .turns)) (recordBytes (splitOf l (sitesOf (o .book))))
+  -- and so does the standing leg
+  pub given-standing : (l : Leg) (o : Outcome) → ComesTo t c Print o → o .book .leg ≡ some l → sitesOf (o .book) ≢ []
+      → Printed c (records (o .turns)) (recordBytes (splitOf l (sitesOf (o .book))))
+
+-- ---- demand 3: shape does not matter
 
 -- the bytes of a 4C
 abbrev pub list4C : Leg → List ℕ
@@ -41,113 +165,97 @@ print50 = commandBytes Print
 abbrev pub listRecord : Book → Leg → List ℕ
 listRecord b l = recordOf (answer b (ListOf l))
 
--- every entry, at every fraction that it covers, both ends included, is nearest among these sites
-abbrev pub AllNearest : Leg → List Site → List Entry → Type 0
-AllNearest l s [] = Unit {0}
-AllNearest l s (e ∷ es) = ((t : Fraction) → IsFraction t → CoversAt e es t → NearestAt l s t (e .site)) × AllNearest l s es
-
 -- what the additions of a fresh table are: those of the book's lines, in any order
-pub record FreshOf (cs fs : List Call) : Type 0 where
+pub record FreshOf (b : Book) (fs : List Call) : Type 0 where
   pub order : List Site
   pub filled : Filled (map asked fs) order
-  pub perm : Perm order (bookOfRun cs .lines)
+  pub perm : Perm order (b .lines)
 
--- a call that takes commands: work buffer and table have the right lengths, and the table is sound. What any other call does the record Batch says in a line each.
-pub record IsServed (t : List ℕ) (c : Call) (t′ : List ℕ) : Type 0 where
-  pub sound : Sound t
-  pub made : MadeOn t c t′
-  pub work : length (c .work) ≡ workBytes
+-- this list where the mark is that of a list, else none
+abbrev pub ifListed : Bool → List Listed → List Listed
+ifListed true es = es
+ifListed false es = []
 
--- none of these commands was accepted as a change: each was refused, or answered by a list
-abbrev pub NoneDone : List Turn → Type 0
-NoneDone [] = Unit {0}
-NoneDone (u ∷ us) = (u .reply ≢ done) × NoneDone us
+-- the list that a record tells: that of a 3D, none where the 50 was refused ("empty where that answers 21 06")
+abbrev pub listIn : List ℕ → List Listed
+listIn [] = []
+listIn (mark ∷ s) = ifListed (eqb mark 0x3D) (readRecord (mark ∷ s))
 
--- DEMAND 1, that no call brings it down, of the calls that take commands: their ends, and what they leave.
-pub record Demand1 : Type 0 where
-  -- it ends with 0, 66, 67 or 68
-  pub reason : (t t′ : List ℕ) (c : Call) → IsServed t c t′
-      → (c .result .reason ≡ AllUsed) ⊎ (c .result .reason ≡ UnknownCommand) ⊎ (c .result .reason ≡ CutShort) ⊎ (c .result .reason ≡ NoRoom)
-  -- 0 exactly when all command bytes are used
-  pub all-used : (t t′ : List ℕ) (c : Call) → IsServed t c t′ → c .result .reason ≡ AllUsed → c .result .used ≡ length (c .commands)
-  pub used-all : (t t′ : List ℕ) (c : Call) → IsServed t c t′ → c .result .used ≡ length (c .commands) → c .result .reason ≡ AllUsed
-  -- no more bytes are used or written than there are
-  pub within : (t t′ : List ℕ) (c : Call) → IsServed t c t′ → (c .result .used ≤ length (c .commands)) × (c .result .written ≤ length (c .report))
-  -- "Report bytes past the written ones are left"
-  pub past : (t t′ : List ℕ) (c : Call) → IsServed t c t′ → drop (c .result .written) (c .reportAfter) ≡ drop (c .result .written) (c .report)
-  -- "The work buffer is all zero afterwards"
-  pub cleared : (t t′ : List ℕ) (c : Call) → IsServed t c t′ → c .workAfter ≡ zeros workBytes
-  -- "Left as it was: table": a call without an accepted change leaves every byte of it
-  pub kept : (t t′ : List ℕ) (c : Call) → IsServed t c t′ → NoneDone (run (c .commands) (length (c .report)) (bookOf t) .turns) → t′ ≡ t
+-- "In demand 3 the standing list is what 50 prints as the next command with room enough"
+pub record Prints (t : List ℕ) (es : List Listed) : Type 0 where
+  pub call : Call
+  pub left : List ℕ
+  pub asks : Asks t print50 call left
+  pub room : call .result .reason ≡ 0
+  pub list : es ≡ listIn (said call .bytes)
 
--- A served call comes to the 4C of a leg on the grid: the command bytes before it were all used, which gave o; then a site is held,
--- and the report has room for the list. What stands behind the 4C is anything.
-pub record ComesTo (t : List ℕ) (c : Call) (t′ : List ℕ) (l : Leg) (o : Outcome) : Type 0 where
-  pub served : IsServed t c t′
-  pub before : List ℕ
-  pub behind : List ℕ
-  pub commands : c .commands ≡ before ++ (list4C l ++ behind)
-  pub so-far : run before (length (c .report)) (bookOf t) ≡ o
-  pub all : o .reason ≡ AllUsed
-  pub onGrid : LegOnGrid l
-  pub held : o .book .lines ≢ []
-  pub room : length (records (o .turns)) + length (recordBytes (splitOf l (o .book .lines))) ≤ length (c .report)
+-- "One addition or removal is one accepted 41 or 44 after such a list": the 50 printed `old` on the table t, then the command k was accepted, then the 50 printed `new`
+pub record Changed (t : List ℕ) (k : Command) (old new : List Listed) : Type 0 where
+  pub before : Prints t old
+  pub call : Call
+  pub table : List ℕ
+  pub asks : Asks (before .left) (commandBytes k) call table
+  pub accepted : Wrote call (0x2B ∷ [])
+  pub behind : Prints table new
 
--- what the call wrote: the bytes `past`, then this record, then anything
-pub record Printed (c : Call) (past bytes : List ℕ) : Type 0 where
-  pub rest : List ℕ
-  pub written : said c .bytes ≡ (past ++ bytes) ++ rest
+-- the first where the test holds, else the second
+abbrev pub orElse : {A : Type 0} → Dec A → ℕ → ℕ → ℕ
+orElse (yes h) m n = m
+orElse (no h) m n = n
 
--- DEMAND 2, that every list is right, wherever in a batch and on whatever sound table it is asked for.
-pub record Demand2 : Type 0 where
-  -- a leg on the grid gets its list whenever a site is held and the report has room
-  pub printed : (t t′ : List ℕ) (c : Call) (l : Leg) (o : Outcome) → ComesTo t c t′ l o → Printed c (records (o .turns)) (recordBytes (splitOf l (o .book .lines)))
-  -- the list is document 01's, and each entry's site is nearest at every fraction that it covers
-  pub right : (t t′ : List ℕ) (c : Call) (l : Leg) (o : Outcome) → ComesTo t c t′ l o
-      → IsSplitList l (o .book .lines) (splitOf l (o .book .lines)) × AllNearest l (o .book .lines) (splitOf l (o .book .lines))
-  -- reading the record gives the list: no number and no fraction is cut off
-  pub read : (t t′ : List ℕ) (c : Call) (l : Leg) (o : Outcome) → ComesTo t c t′ l o
-      → readRecord (recordBytes (splitOf l (o .book .lines))) ≡ map listedOf (splitOf l (o .book .lines))
+-- the number that a list names at t which begins with the entry e
+unfoldable pub numberFrom : Fraction → Listed → List Listed → ℕ
+numberFrom t e [] = e .number
+numberFrom t e (f ∷ fs) = orElse (decLe (f .start .num * t .den) (t .num * f .start .den)) (numberFrom t f fs) (e .number)
 
--- DEMAND 3, over whole lists of calls: cs are calls made on a table just laid out, t′ is the table then, and bookOfRun cs the book after the same calls.
-pub record Demand3 : Type 0 where
+-- "At t a list names the site of its last entry whose start is not above t": its number, none where the list has no entry
+abbrev pub numberAt : Fraction → List Listed → Option ℕ
+numberAt t [] = none
+numberAt t (e ∷ es) = some (numberFrom t e es)
+
+-- DEMAND 3 of the calls cs, made on a table just laid out: b is the site book after the same calls, t′ the table then.
+pub record Demand3 (cs : List Call) (b : Book) (t′ : List ℕ) : Type 0 where
   -- "each call returns and reports exactly what the site book gives"
-  pub answers : (cs : List Call) (t′ : List ℕ) → Ran cs t′ → map said cs ≡ replies emptyBook (map asked cs)
+  pub answers : map said cs ≡ replies emptyBook (map asked cs)
   -- "No table that came from laying out and batches is ever refused with 65."
-  pub never65 : (cs : List Call) (t′ : List ℕ) → Ran cs t′ → (c : Call) → List·Memᴰ c cs → c .result .reason ≢ Broken
+  pub never65 : (c : Call) → List·Memᴰ c cs → c .result .reason ≢ 65
   -- the list of a leg on the grid is answered whenever a site is held and the report has room; the table's bytes are left
-  pub listed : (cs : List Call) (t′ : List ℕ) → Ran cs t′ → (l : Leg) → LegOnGrid l → bookOfRun cs .lines ≢ []
-      → (c : Call) (t″ : List ℕ) → Asks t′ (list4C l) c t″ → Room c (recordBytes (splitOf l (bookOfRun cs .lines)))
-      → Wrote c (recordBytes (splitOf l (bookOfRun cs .lines))) × (t″ ≡ t′)
-  -- and it is the split list of document 01 over the book's lines; "Each entry's site is nearest, among the book's, at every fraction that the entry covers, both ends included."
-  pub right : (cs : List Call) (t′ : List ℕ) → Ran cs t′ → (l : Leg)
-      → IsSplitList l (bookOfRun cs .lines) (splitOf l (bookOfRun cs .lines)) × AllNearest l (bookOfRun cs .lines) (splitOf l (bookOfRun cs .lines))
+  pub listed : (l : Leg) → LegOnGrid l → sitesOf b ≢ [] → (c : Call) (t″ : List ℕ) → Asks t′ (list4C l) c t″
+      → Room c (recordBytes (splitOf l (sitesOf b))) → Wrote c (recordBytes (splitOf l (sitesOf b))) × (t″ ≡ t′)
+  -- and it is the split list of document 01 over the book's sites
+  pub right : (l : Leg) → LegOnGrid l → RightList l (sitesOf b) (splitOf l (sitesOf b))
   -- the fresh table's additions are all accepted: its book has the same lines
-  pub filled : (cs fs : List Call) (t′ u′ : List ℕ) → Ran cs t′ → Ran fs u′ → FreshOf cs fs → bookOfRun fs .lines ≡ bookOfRun cs .lines
+  pub filled : (fs : List Call) (u′ : List ℕ) → Ran fs u′ → FreshOf b fs → bookOfRun fs .lines ≡ b .lines
   -- "A 4C with the same leg and room enough then writes the same record on both."
-  pub fresh : (cs fs : List Call) (t′ u′ : List ℕ) → Ran cs t′ → Ran fs u′ → FreshOf cs fs
-      → (l : Leg) → LegOnGrid l → (c d : Call) (t″ u″ : List ℕ) → Asks t′ (list4C l) c t″ → Asks u′ (list4C l) d u″
-      → Room c (listRecord (bookOfRun cs) l) → Room d (listRecord (bookOfRun cs) l) → said c ≡ said d
+  pub fresh : (fs : List Call) (u′ : List ℕ) → Ran fs u′ → FreshOf b fs → (l : Leg) → LegOnGrid l
+      → (c d : Call) (t″ u″ : List ℕ) → Asks t′ (list4C l) c t″ → Asks u′ (list4C l) d u″
+      → Room c (listRecord b l) → Room d (listRecord b l) → said c ≡ said d
   -- "The standing list is always the list of the standing leg": with a site held the 50 and the 4C of that leg write the same bytes
-  pub standing : (cs : List Call) (t′ : List ℕ) → Ran cs t′ → (k : Leg) → bookOfRun cs .leg ≡ some k → bookOfRun cs .lines ≢ []
+  pub standing : (k : Leg) → b .leg ≡ some k → sitesOf b ≢ []
       → (c d : Call) (t″ u″ : List ℕ) → Asks t′ print50 c t″ → Asks t′ (list4C k) d u″
-      → Room c (recordBytes (standingList (bookOfRun cs))) → Room d (recordBytes (standingList (bookOfRun cs)))
-      → Wrote c (recordBytes (standingList (bookOfRun cs))) × Wrote d (recordBytes (standingList (bookOfRun cs)))
+      → Room c (recordBytes (standingList b)) → Room d (recordBytes (standingList b))
+      → Wrote c (recordBytes (standingList b)) × Wrote d (recordBytes (standingList b))
   -- "empty where that answers 21 06"
-  pub siteless : (cs : List Call) (t′ : List ℕ) → Ran cs t′ → (k : Leg) → bookOfRun cs .leg ≡ some k → bookOfRun cs .lines ≡ []
-      → (c : Call) (t″ : List ℕ) → Asks t′ print50 c t″ → 2 ≤ length (c .report) → Wrote c (0x21 ∷ 6 ∷ []) × (standingList (bookOfRun cs) ≡ [])
+  pub siteless : (k : Leg) → b .leg ≡ some k → sitesOf b ≡ []
+      → (c : Call) (t″ : List ℕ) → Asks t′ print50 c t″ → 2 ≤ length (c .report) → Wrote c (0x21 ∷ 6 ∷ [])
   -- without a standing leg the 50 is refused with 7
-  pub unset : (cs : List Call) (t′ : List ℕ) → Ran cs t′ → bookOfRun cs .leg ≡ none
-      → (c : Call) (t″ : List ℕ) → Asks t′ print50 c t″ → 2 ≤ length (c .report) → Wrote c (0x21 ∷ 7 ∷ [])
-  -- "One addition .. is one accepted 41": at every fraction the standing list names what it named before, or the new site
-  pub added : (cs : List Call) (t′ : List ℕ) → Ran cs t′ → (p : Site) → NumberOk p → OnGrid (p .position)
-      → (c : Call) (t″ : List ℕ) → Asks t′ (commandBytes (Add (p .number) (p .position))) c t″ → Wrote c (0x2B ∷ [])
-      → (t : Fraction) → IsFraction t
-      → (nameAt t (standingList (bookOfRun (cs ++ (c ∷ [])))) ≡ nameAt t (standingList (bookOfRun cs)))
-      ⊎ (nameAt t (standingList (bookOfRun (cs ++ (c ∷ [])))) ≡ some p)
-  -- "or removal .. 44": at every fraction the standing list names what it named before, or it named the site that is gone
-  pub removed : (cs : List Call) (t′ : List ℕ) → Ran cs t′ → (p : Site) → List·Memᴰ p (bookOfRun cs .lines)
-      → (c : Call) (t″ : List ℕ) → Asks t′ (commandBytes (Remove (p .number))) c t″ → Wrote c (0x2B ∷ [])
-      → (t : Fraction) → IsFraction t
-      → (nameAt t (standingList (bookOfRun (cs ++ (c ∷ [])))) ≡ nameAt t (standingList (bookOfRun cs)))
-      ⊎ (nameAt t (standingList (bookOfRun cs)) ≡ some p)
+  pub unset : b .leg ≡ none → (c : Call) (t″ : List ℕ) → Asks t′ print50 c t″ → 2 ≤ length (c .report) → Wrote c (0x21 ∷ 7 ∷ [])
+  -- one accepted 41: at every fraction the standing list names what it named before, or the new site
+  pub added : (p : Site) → NumberOk p → OnGrid (p .position) → (old new : List Listed) → Changed t′ (Add (p .number) (p .position)) old new
+      → (t : Fraction) → IsFraction t → (numberAt t new ≡ numberAt t old) ⊎ (numberAt t new ≡ some (p .number))
+  -- one accepted 44: at every fraction it names what it named before, or it named the site that is gone
+  pub removed : (n : ℕ) → n ≤ maxNumber → (old new : List Listed) → Changed t′ (Remove n) old new
+      → (t : Fraction) → IsFraction t → (numberAt t new ≡ numberAt t old) ⊎ (numberAt t old ≡ some n)
+
+-- the same calls were asked of two sound tables of one book
+pub record AskedAlike (t u : List ℕ) (cs ds : List Call) (t′ u′ : List ℕ) : Type 0 where
+  pub sound : Sound t × Sound u
+  pub book : bookOf t ≡ bookOf u
+  pub made : Made t cs t′ × Made u ds u′
+  pub asked-same : map asked cs ≡ map asked ds
+
+-- WHAT EVERY CHOICE OF BYTES HAS IN COMMON: such calls are answered alike, and leave tables of one book again. So the bytes that are the program's choice have no
+-- effect on any answer.
+pub record Alike (cs ds : List Call) (t′ u′ : List ℕ) : Type 0 where
+  pub said-same : map said cs ≡ map said ds
+  pub book : bookOf t′ ≡ bookOf u′

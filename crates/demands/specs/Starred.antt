@@ -1,15 +1,18 @@
 -- The starred lines of document 01, "Legs to try": command bytes and record bytes, the refusals 6 and 7 and the removals included.
 -- Assumes nothing.
-use mathlib.Core.List.{List, [], _∷_, _++_}
+use mathlib.Core.Option.{Option, none, some}
+use mathlib.Core.List.{List, [], _∷_, _++_, map}
 use Prim.Native.Nat.{ℕ, _+_}
 use Rattle.grid.specs.declared.Position.{Position}
 use Rattle.grid.specs.declared.Leg.{Leg}
+use Rattle.grid.specs.declared.Fraction.{Fraction}
 use Rattle.records.specs.Bytes.{bytes2, bytes4}
 use Rattle.book.specs.declared.Command.{Command}
 use Rattle.book.specs.declared.Command.the-variants.{Add, Remove, List as ListOf, Print}
 use Rattle.book.specs.Book.{emptyBook}
 use Rattle.book.specs.Encode.{commandBytes}
 use Rattle.book.specs.Run.{records, run}
+use Rattle.demands.specs.Demands.{listIn, numberAt}
 use Rattle.split.specs.Legs.{at, atSouth, atWest, southWest, northEast, leg, ten}
 
 -- commands, and the records that they get
@@ -73,3 +76,24 @@ written (x ∷ xs) = x .answers ∷ written xs
 abbrev pub given : List Line → List (List ℕ)
 given [] = []
 given (x ∷ xs) = records (run (bytesOf (x .commands)) 1000 emptyBook .turns) ∷ given xs
+
+-- the fractions 0, 36/100, 37/100, 99/100 and 1
+abbrev pub fractions : List Fraction
+fractions =
+    record { num = 0; den = 1 } ∷ record { num = 36; den = 100 } ∷ record { num = 37; den = 100 } ∷ record { num = 99; den = 100 } ∷ record { num = 1; den = 1 } ∷ []
+
+-- the numbers that a printed record names there: "At t a list names the site of its last entry whose start is not above t"
+abbrev pub namesIn : List ℕ → List (Option ℕ)
+namesIn bytes = map (λ (t : Fraction). numberAt t (listIn bytes)) fractions
+
+-- the first starred leg as the standing leg: printed with sites 1 and 2, and when 2 is removed and when 1 is removed, too
+abbrev pub printedLines : List (List ℕ)
+printedLines = two (since 1 0 1) (since 2 37 100) ∷ one (since 1 0 1) ∷ (0x21 ∷ 6 ∷ []) ∷ []
+
+-- what is named then: at a start the site that begins there; where 2 stood, its start included, 1 stands when 2 is gone; and none is named by a refusal
+abbrev pub namedLines : List (List (Option ℕ))
+namedLines =
+    (some 1 ∷ some 1 ∷ some 2 ∷ some 2 ∷ some 2 ∷ [])
+    ∷ (some 1 ∷ some 1 ∷ some 1 ∷ some 1 ∷ some 1 ∷ [])
+    ∷ (none ∷ none ∷ none ∷ none ∷ none ∷ [])
+    ∷ []

@@ -1,24 +1,36 @@
 -- What one command does to the table's bytes. Document 01, "Causes and numbers", the column "Left as it was".
 -- Assumes nothing.
 use mathlib.Core.Path.{_≡_}
+use mathlib.Core.Bool.{Bool, true, false}
 use mathlib.Core.List.{List, [], _∷_}
 use Prim.Native.Nat.{ℕ}
 use Rattle.book.specs.declared.Command.{Command}
 use Rattle.book.specs.Book.{Book, change}
 use Rattle.book.specs.Reply.{Reply, done, refused, listed}
+use Rattle.book.specs.Answer.{reads}
 use Rattle.book.specs.Run.{Turn}
 use Rattle.table.specs.Table.{Sound, bookOf}
 
--- t is a sound table of the book b. Which bytes it has is the program's choice, as far as the tree's shape is free.
+-- t is a sound table of the book b. Which bytes it has is the program's choice: the shape of the tree, the bytes that docs/LAYOUT.md calls free, records
+-- and words past a count, entries past a node's number of them, and free nodes. What all choices have in common: they answer alike (`Alike`).
 pub record Holds (t : List ℕ) (b : Book) : Type 0 where
   pub sound : Sound t
   pub book : bookOf t ≡ b
 
--- a refused command, 4C and 50 leave every byte; an accepted change leaves a sound table of the changed book
+-- a command that was refused, or that changes nothing, keeps the table
+abbrev pub keeps : Command → Reply → Bool
+keeps c done = reads c
+keeps c (refused x) = true
+keeps c (listed es) = reads c
+
+-- every byte is left; or the table is a sound one of the book b
+abbrev pub Left : Bool → List ℕ → Book → List ℕ → Type 0
+Left true t b t′ = t′ ≡ t
+Left false t b t′ = Holds t′ b
+
+-- what the command does: it leaves every byte, or a sound table of the changed book
 abbrev pub Step : List ℕ → Command → Reply → List ℕ → Type 0
-Step t c done t′ = Holds t′ (change c (bookOf t))
-Step t c (refused x) t′ = t′ ≡ t
-Step t c (listed es) t′ = t′ ≡ t
+Step t c y t′ = Left (keeps c y) t (change c (bookOf t)) t′
 
 -- "table as the commands before it left it": the commands that got a record, one after the other
 pub data Chain : List ℕ → List Turn → List ℕ → Type 0 where

@@ -6,20 +6,18 @@ use Prim.Native.Nat.{ℕ, _≤_}
 use lib.ListN.{length, take}
 use Rattle.limits.specs.Limits.{workBytes}
 use Rattle.grid.specs.declared.Site.{Site}
-use Rattle.book.specs.declared.Reason.{Reason}
-use Rattle.book.specs.declared.Reason.the-variants.{AllUsed}
-use Rattle.book.specs.declared.BatchResult.{BatchResult}
+use Rattle.book.specs.Numbers.{reasonNumber}
 use Rattle.book.specs.Book.{Book, emptyBook}
 use Rattle.book.specs.Encode.{additions}
 use Rattle.book.specs.Run.{Outcome, records, call}
-use Rattle.demands.specs.Batch.{Batch, LaidOut}
+use Rattle.demands.specs.Batch.{Return, Batch, LaidOut}
 
 -- a batch call as it was made and as it returned
 pub record Call : Type 0 where
   pub work : List ℕ
   pub commands : List ℕ
   pub report : List ℕ
-  pub result : BatchResult
+  pub result : Return
   pub workAfter : List ℕ
   pub reportAfter : List ℕ
 
@@ -36,12 +34,12 @@ pub data Made : List ℕ → List Call → List ℕ → Type 0 where
 pub record Ran (cs : List Call) (t′ : List ℕ) : Type 0 where
   pub before : List ℕ
   pub laid-table : List ℕ
-  pub laid : LaidOut before AllUsed laid-table
+  pub laid : LaidOut before 0 laid-table
   pub made : Made laid-table cs t′
 
 -- "Reason, used, written and the written report bytes are compared with the book's."
 pub record Said : Type 0 where
-  pub reason : Reason
+  pub reason : ℕ
   pub used : ℕ
   pub written : ℕ
   pub bytes : List ℕ
@@ -66,7 +64,7 @@ taken a b = call (a .work) (a .commands) (a .room) b
 
 -- what the book says
 abbrev pub saidBy : Outcome → Said
-saidBy o = record { reason = o .reason; used = o .used; written = length (records (o .turns)); bytes = records (o .turns) }
+saidBy o = record { reason = reasonNumber (o .reason); used = o .used; written = length (records (o .turns)); bytes = records (o .turns) }
 
 -- what the book says to a list of calls
 unfoldable pub replies : Book → List Ask → List Said
@@ -99,6 +97,6 @@ pub record Asks (t bytes : List ℕ) (c : Call) (t′ : List ℕ) : Type 0 where
 abbrev pub Room : Call → List ℕ → Type 0
 Room c bytes = length bytes ≤ length (c .report)
 
--- the call used all its commands and wrote just this record
+-- the call used all its commands, with reason 0, and wrote just this record
 abbrev pub Wrote : Call → List ℕ → Type 0
-Wrote c bytes = said c ≡ record { reason = AllUsed; used = length (c .commands); written = length bytes; bytes = bytes }
+Wrote c bytes = said c ≡ record { reason = 0; used = length (c .commands); written = length bytes; bytes = bytes }

@@ -1,20 +1,9 @@
--- The exported calls: what the proved calls say, with the reason's number for the reason. Document 01, "Causes and numbers".
+-- The exported calls say what the proved calls say: document 01's numbers are what they return. Document 01, "Causes and numbers".
 -- Assumes nothing.
-use mathlib.Core.Path.{_≡_}
 use mathlib.Core.List.{List}
 use Prim.Native.Nat.{ℕ}
-use Rattle.book.specs.declared.Reason.{Reason}
-use Rattle.book.specs.Numbers.{reasonNumber}
-use Rattle.demands.specs.Batch.{result, Batch, LaidOut}
+use Rattle.demands.specs.Batch.{returns, Batch}
 
--- laying out
-pub record ExportedLaidOut (t : List ℕ) (r : ℕ) (t′ : List ℕ) : Type 0 where
-  pub reason : Reason
-  pub number : r ≡ reasonNumber reason
-  pub call : LaidOut t reason t′
-
--- a batch: the counts are set, whatever the reason
-pub record ExportedBatch (t w cs rep : List ℕ) (r used written : ℕ) (t′ w′ rep′ : List ℕ) : Type 0 where
-  pub reason : Reason
-  pub number : r ≡ reasonNumber reason
-  pub call : Batch t w cs rep (result reason used written) t′ w′ rep′
+-- a batch: the reason's number is returned, and the counts are set, whatever it is
+abbrev pub ExportedBatch : List ℕ → List ℕ → List ℕ → List ℕ → ℕ → ℕ → ℕ → List ℕ → List ℕ → List ℕ → Type 0
+ExportedBatch t w cs rep r used written t′ w′ rep′ = Batch t w cs rep (returns r used written) t′ w′ rep′

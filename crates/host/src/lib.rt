@@ -1,11 +1,12 @@
 // The two calls as the depot server's host program links them (include/stops.h). Document 01: "The batch call is also exported to the host
 // program of the depot server".
-ghost use Rattle.host.specs.Exported.{ExportedLaidOut, ExportedBatch};
+ghost use Rattle.demands.specs.Batch.{LaidOut};
+ghost use Rattle.host.specs.Exported.{ExportedBatch};
 
 // Lays out an empty table, and gives the reason's number.
 #[no_mangle]
 pub extern "C" fn stops_lay_out(table: &mut [u8]) -> u32
-    ensures { λ r. ⌜ ExportedLaidOut (now (table .entry)) r (now (table .exit)) ⌝ }
+    ensures { λ r. ⌜ LaidOut (now (table .entry)) r (now (table .exit)) ⌝ }
 {
     let reason = service::lay_out(table);
     book::reason_number(reason)

@@ -1,22 +1,117 @@
--- Two batch calls on a table just laid out, beside the site book. Document 01, "The site book".
+-- A row of real calls beside the site book, and one leg asked of two tables. Document 01, "The site book" and "Legs to try".
 -- Assumes nothing.
 use mathlib.Core.Path.{_≡_}
-use mathlib.Core.List.{List}
+use mathlib.Core.List.{List, [], _∷_, map}
 use Prim.Native.Nat.{ℕ}
-use lib.ListN.{length, take}
-use Rattle.limits.specs.Limits.{tableBytes}
+use lib.ListN.{length}
+use Rattle.limits.specs.Limits.{workBytes}
+use Rattle.grid.specs.declared.Site.{Site}
+use Rattle.split.specs.Legs.{at, site, ten}
 use Rattle.book.specs.declared.BatchResult.{BatchResult}
-use Rattle.book.specs.Book.{emptyBook}
-use Rattle.demands.specs.Whole.{Said, Ask, taken, saidBy}
+use Rattle.demands.specs.Batch.{Return, returns, returnOf, LaidOut}
+use Rattle.demands.specs.Whole.{Call, MadeOn, Ran, Ask, asked, Filled, Asks}
+use Rattle.demands.specs.Demands.{list4C}
+use Rattle.replay.specs.declared.Opening.{Opening}
+use Rattle.replay.specs.declared.Closing.{Closing}
+use Rattle.replay.specs.declared.Row.{Row}
 
--- what the book is fed of a call with these buffers
-abbrev pub ask : List ℕ → List ℕ → List ℕ → Ask
-ask w cs rep = record { work = length w; commands = cs; room = length rep }
+-- a call as the book takes it
+abbrev pub ask : ℕ → List ℕ → ℕ → Ask
+ask work cs room = record { work = work; commands = cs; room = room }
 
--- what a call said that returned r and left this report
-abbrev pub saidWith : BatchResult → List ℕ → Said
-saidWith r rep = record { reason = r .reason; used = r .used; written = r .written; bytes = take (r .written) rep }
+-- a call was made on the table t: it was asked so, returned r, and left the table t′ and the report rep′
+pub record Called (a : Ask) (r : BatchResult) (t t′ rep′ : List ℕ) : Type 0 where
+  pub call : Call
+  pub made : MadeOn t call t′
+  pub asked-so : asked call ≡ a
+  pub result : call .result ≡ returnOf r
+  pub report : call .reportAfter ≡ rep′
 
--- the second call says what the book says that was fed the first, whatever the first said
-pub record Replayed (t w cs₁ rep₁ cs₂ rep₂ : List ℕ) (r : BatchResult) (rep₂′ : List ℕ) : Type 0 where
-  pub second : length t ≡ tableBytes → saidWith r rep₂′ ≡ saidBy (taken (ask w cs₂ rep₂) (taken (ask w cs₁ rep₁) emptyBook .book))
+-- the same, whatever the report
+pub record CallMade (a : Ask) (r : BatchResult) (t t′ : List ℕ) : Type 0 where
+  pub report : List ℕ
+  pub called : Called a r t t′ report
+
+-- two additions: sites 1 (2,3) and 2 (7,1)
+abbrev pub addBoth : List ℕ
+addBoth = 0x41 ∷ 1 ∷ 0 ∷ 2 ∷ 0 ∷ 3 ∷ 0 ∷ 0x41 ∷ 2 ∷ 0 ∷ 7 ∷ 0 ∷ 1 ∷ 0 ∷ []
+
+-- site 3 (9,-4), and FF, which is no command
+abbrev pub addUnknown : List ℕ
+addUnknown = 0x41 ∷ 3 ∷ 0 ∷ 9 ∷ 0 ∷ 0xFC ∷ 0xFF ∷ 0xFF ∷ []
+
+-- site 3 removed, and an addition that is cut short: "The bytes 41 01 00 alone: 67"
+abbrev pub removeCut : List ℕ
+removeCut = 0x44 ∷ 3 ∷ 0 ∷ 0x41 ∷ 1 ∷ 0 ∷ []
+
+-- the list of the leg (0,0) to (10,0)
+abbrev pub listTen : List ℕ
+listTen = 0x4C ∷ 0 ∷ 0 ∷ 0 ∷ 0 ∷ 10 ∷ 0 ∷ 0 ∷ 0 ∷ []
+
+-- the five calls
+abbrev pub endAsks : List Ask
+endAsks = ask 1 addBoth 2 ∷ ask workBytes addBoth 2 ∷ ask workBytes addUnknown 2 ∷ ask workBytes removeCut 2 ∷ ask workBytes listTen 2 ∷ []
+
+-- what they return, by the book: 64; 0 with both additions; 66 behind the addition; 67 behind the removal; 68, as the record has 23 bytes
+abbrev pub endReturns : List Return
+endReturns = returns 64 0 0 ∷ returns 0 14 2 ∷ returns 66 7 1 ∷ returns 67 3 1 ∷ returns 68 0 0 ∷ []
+
+-- "1 from 0/1, 2 from 37/100"
+abbrev pub tenBytes : List ℕ
+tenBytes = 0x3D ∷ 2 ∷ 0 ∷ 1 ∷ 0 ∷ 0 ∷ 0 ∷ 0 ∷ 0 ∷ 1 ∷ 0 ∷ 0 ∷ 0 ∷ 2 ∷ 0 ∷ 37 ∷ 0 ∷ 0 ∷ 0 ∷ 100 ∷ 0 ∷ 0 ∷ 0 ∷ []
+
+-- the results of the five
+abbrev pub results : Opening → Closing → List Return
+results o c = returnOf (o .short) ∷ returnOf (o .used) ∷ returnOf (c .unknown) ∷ returnOf (c .cut) ∷ returnOf (c .full) ∷ []
+
+-- the first two were made on a table just laid out, and left t′
+pub record Opened (r : Opening) (t′ : List ℕ) : Type 0 where
+  pub before : List ℕ
+  pub table : List ℕ
+  pub laid : LaidOut before 0 table
+  pub between : List ℕ
+  pub short : CallMade (ask 1 addBoth 2) (r .short) table between
+  pub used : CallMade (ask workBytes addBoth 2) (r .used) between t′
+
+-- the three behind them were made on the table t, and left t′
+pub record Closed (r : Closing) (t t′ : List ℕ) : Type 0 where
+  pub second : List ℕ
+  pub third : List ℕ
+  pub unknown : CallMade (ask workBytes addUnknown 2) (r .unknown) t second
+  pub cut : CallMade (ask workBytes removeCut 2) (r .cut) second third
+  pub full : CallMade (ask workBytes listTen 2) (r .full) third t′
+
+-- "Site 1 (2,3), 2 (7,1)"
+abbrev pub one : Site
+one = site 1 (at 2 3)
+
+-- and the other
+abbrev pub two : Site
+two = site 2 (at 7 1)
+
+-- the addition of each alone
+abbrev pub addOne : List ℕ
+addOne = 0x41 ∷ 1 ∷ 0 ∷ 2 ∷ 0 ∷ 3 ∷ 0 ∷ []
+
+-- the second
+abbrev pub addTwo : List ℕ
+addTwo = 0x41 ∷ 2 ∷ 0 ∷ 7 ∷ 0 ∷ 1 ∷ 0 ∷ []
+
+-- a table just laid out got them, the second first, in two batches
+pub record Refilled (t′ : List ℕ) : Type 0 where
+  pub calls : List Call
+  pub ran : Ran calls t′
+  pub filled : Filled (map asked calls) (two ∷ one ∷ [])
+
+-- the leg was asked of the table t, with just the room for that record, and this is the report
+pub record AskedTen (t rep t′ : List ℕ) : Type 0 where
+  pub call : Call
+  pub asks : Asks t (list4C ten) call t′
+  pub room : length (call .report) ≡ 23
+  pub report : call .reportAfter ≡ rep
+
+-- THE CALLS, as the theorem says of them: the book's returns, and on both tables the list that document 01 gives
+pub record Replayed (r : Row) : Type 0 where
+  pub ends : results (r .opening) (r .closing) ≡ endReturns
+  pub ours : r .ours ≡ tenBytes
+  pub theirs : r .theirs ≡ r .ours

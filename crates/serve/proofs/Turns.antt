@@ -14,6 +14,7 @@ use Rattle.book.specs.declared.Parsed.the-variants.{End, Unknown, Cut, Whole}
 use Rattle.book.specs.declared.Reason.{Reason}
 use Rattle.book.specs.declared.Reason.the-variants.{AllUsed, UnknownCommand, CutShort, NoRoom}
 use Rattle.book.specs.declared.BatchResult.{BatchResult}
+use Rattle.book.specs.Numbers.{reasonNumber}
 use Rattle.book.specs.Command.{parseAt}
 use Rattle.book.specs.Reply.{recordOf}
 use Rattle.book.specs.Answer.{answer}
@@ -22,7 +23,7 @@ use Rattle.book.proofs.Runs.{records-append, records-one, records-more, turnOf,
 use Rattle.table.specs.Table.{bookOf, Sound}
 use Rattle.demands.specs.Step.{Step, Chain}
 use Rattle.demands.specs.Step.Chain.{none, next}
-use Rattle.demands.specs.Batch.{result}
+use Rattle.demands.specs.Batch.{returns, returnOf}
 use Rattle.demands.proofs.Chains.{chain-holds}
 use Rattle.judge.specs.declared.Answer.{Answer}
 use Rattle.judge.specs.Judged.{Judged}
@@ -86,19 +87,19 @@ module _ (cs t₀ rep₀ : List ℕ) (used written : ℕ) (t rep : List ℕ) (s 
   serving-fits = omega (arith, room, s .count, s .steps .fits)
 
   ended : (reason : Reason) → run cs (length rep₀) (bookOf t₀) ≡ ends reason used (s .past) (bookOf t)
-      → (r : BatchResult) → r ≡ result reason used written → Answered cs t₀ rep₀ r t rep
+      → (r : BatchResult) → returnOf r ≡ returns (reasonNumber reason) used written → Answered cs t₀ rep₀ r t rep
   ended reason e r h =
       subst (λ (o : Outcome). EndsAs o t₀ rep₀ r t rep) (sym e)
-      (record { said = h ∙ ap (λ (n : ℕ). result reason used n) (s .count); report = s .report; table = s .chain })
+      (record { said = h ∙ ap (λ (n : ℕ). returns (reasonNumber reason) used n) (s .count); report = s .report; table = s .chain })
 
   module _ (p : Parsed) (hp : p ≡ parseAt cs used) where
-    pub ended-all : p ≡ End → (r : BatchResult) → r ≡ result AllUsed used written → Answered cs t₀ rep₀ r t rep
+    pub ended-all : p ≡ End → (r : BatchResult) → returnOf r ≡ returns (reasonNumber AllUsed) used written → Answered cs t₀ rep₀ r t rep
     ended-all e = ended AllUsed (ends-all cs (length rep₀) (bookOf t₀) used (s .past) (bookOf t) (s .steps) p hp e)
 
-    pub ended-unknown : p ≡ Unknown → (r : BatchResult) → r ≡ result UnknownCommand used written → Answered cs t₀ rep₀ r t rep
+    pub ended-unknown : p ≡ Unknown → (r : BatchResult) → returnOf r ≡ returns (reasonNumber UnknownCommand) used written → Answered cs t₀ rep₀ r t rep
     ended-unknown e = ended UnknownCommand (ends-unknown cs (length rep₀) (bookOf t₀) used (s .past) (bookOf t) (s .steps) p hp e)
 
-    pub ended-cut : p ≡ Cut → (r : BatchResult) → r ≡ result CutShort used written → Answered cs t₀ rep₀ r t rep
+    pub ended-cut : p ≡ Cut → (r : BatchResult) → returnOf r ≡ returns (reasonNumber CutShort) used written → Answered cs t₀ rep₀ r t rep
     ended-cut e = ended CutShort (ends-cut cs (length rep₀) (bookOf t₀) used (s .past) (bookOf t) (s .steps) p hp e)
 
     module _ (c : Command) (after-it : ℕ) (hc : p ≡ Whole c after-it) where
@@ -106,7 +107,7 @@ module _ (cs t₀ rep₀ : List ℕ) (used written : ℕ) (t rep : List ℕ) (s 
       fewer-left = steps-less cs (length rep₀) (bookOf t₀) used (s .past) (bookOf t) (s .steps) p hp c after-it hc
 
       module _ (a : Answer) (w : List ℕ) (j : Judged a c t w) (size : ℕ) (hs : size ≡ sizeOf a) where
-        pub ended-full : length rep - written < size → (r : BatchResult) → r ≡ result NoRoom used written → Answered cs t₀ rep₀ r t rep
+        pub ended-full : length rep - written < size → (r : BatchResult) → returnOf r ≡ returns (reasonNumber NoRoom) used written → Answered cs t₀ rep₀ r t rep
         ended-full h =
             ended NoRoom
             (ends-full cs (length rep₀) (bookOf t₀) used (s .past) (bookOf t) (s .steps) p hp c after-it hc

@@ -8,12 +8,13 @@ use Rattle.limits.specs.Limits.{maxSites}
 use Rattle.records.specs.Bytes.{write}
 use Rattle.book.specs.declared.Command.{Command}
 use Rattle.book.specs.declared.BatchResult.{BatchResult}
+use Rattle.book.specs.Numbers.{reasonNumber}
 use Rattle.book.specs.Reply.{recordOf}
 use Rattle.book.specs.Answer.{answer}
 use Rattle.book.specs.Run.{Outcome, records, run}
 use Rattle.table.specs.Table.{bookOf}
 use Rattle.demands.specs.Step.{Step, Chain}
-use Rattle.demands.specs.Batch.{result}
+use Rattle.demands.specs.Batch.{returns, returnOf}
 use Rattle.judge.specs.declared.Answer.{Answer}
 
 -- the length of an answer's record
@@ -35,7 +36,7 @@ pub record Obeyed (c : Command) (t t′ rep : List ℕ) (at : ℕ) (rep′ : Lis
 
 -- a batch ended as the outcome o says: result, report and table
 pub record EndsAs (o : Outcome) (t rep : List ℕ) (r : BatchResult) (t′ rep′ : List ℕ) : Type 0 where
-  pub said : r ≡ result (o .reason) (o .used) (length (records (o .turns)))
+  pub said : returnOf r ≡ returns (reasonNumber (o .reason)) (o .used) (length (records (o .turns)))
   pub report : rep′ ≡ records (o .turns) ++ drop (length (records (o .turns))) rep
   pub table : Chain t (o .turns) t′
 

@@ -12,7 +12,8 @@ ghost use Prim.Native.Nat.{_+_, _*_, _≤_};
 ghost use lib.ListN.{length};
 ghost use Rattle.row.specs.Vertices.{rowBytes};
 ghost use Rattle.table.specs.Table.{Sound};
-ghost use Rattle.demands.specs.Batch.{result};
+ghost use Rattle.book.specs.Numbers.{reasonNumber};
+ghost use Rattle.demands.specs.Batch.{returns, returnOf};
 ghost use Rattle.judge.specs.Judged.{Judged};
 ghost use Rattle.serve.specs.Serving.{sizeOf, Obeyed, Answered};
 
@@ -30,7 +31,7 @@ fn obey(t: &mut [u8], work: &mut [u8], c: Command, a: Answer, report: &mut [u8],
 
 // The result of a batch that ends here.
 fn ended(reason: Reason, used: usize, written: usize) -> BatchResult
-    ensures { λ r. ⌜ r ≡ result reason used written ⌝ }
+    ensures { λ r. ⌜ returnOf r ≡ returns (reasonNumber reason) used written ⌝ }
 {
     BatchResult {
         reason: reason,

@@ -2,15 +2,16 @@
 use book::BatchResult;
 use book::Reason;
 ghost use mathlib.Core.Path.{_≡_};
-ghost use Rattle.demands.specs.Batch.{result, Served, Batch, LaidOut};
+ghost use Rattle.demands.specs.Batch.{returns, returnOf, Served, Batch, LaidOut};
 ghost use lib.ListN.{length};
 ghost use Rattle.limits.specs.Limits.{workBytes};
+ghost use Rattle.book.specs.Numbers.{reasonNumber};
 ghost use Rattle.book.specs.Run.{run};
 ghost use Rattle.table.specs.Table.{bookOf, Sound};
 
 // Lays out an empty table.
 pub fn lay_out(table: &mut [u8]) -> Reason
-    ensures { λ r. ⌜ LaidOut (now (table .entry)) r (now (table .exit)) ⌝ }
+    ensures { λ r. ⌜ LaidOut (now (table .entry)) (reasonNumber r) (now (table .exit)) ⌝ }
 {
     if table.len() != limits::TABLE_BYTES {
         return Reason::WrongLength;
@@ -21,7 +22,7 @@ pub fn lay_out(table: &mut [u8]) -> Reason
 
 // The result of a call that takes no command.
 fn refused(reason: Reason) -> BatchResult
-    ensures { λ r. ⌜ r ≡ result reason 0 0 ⌝ }
+    ensures { λ r. ⌜ returnOf r ≡ returns (reasonNumber reason) 0 0 ⌝ }
 {
     BatchResult {
         reason: reason,
@@ -33,7 +34,7 @@ fn refused(reason: Reason) -> BatchResult
 // Carries out commands on a sound table, and clears the work buffer.
 fn carry_out(table: &mut [u8], work: &mut [u8], commands: &[u8], report: &mut [u8]) -> BatchResult
     requires { ⌜ Sound (now table) × (length (now work) ≡ workBytes) ⌝ }
-    ensures { λ r. ⌜ Served (run (now (commands .entry)) (length (now (report .entry))) (bookOf (now (table .entry)))) (now (table .entry)) (now (report .entry)) r (now (table .exit)) (now (work .exit)) (now (report .exit)) ⌝ }
+    ensures { λ r. ⌜ Served (run (now (commands .entry)) (length (now (report .entry))) (bookOf (now (table .entry)))) (now (table .entry)) (now (report .entry)) (returnOf r) (now (table .exit)) (now (work .exit)) (now (report .exit)) ⌝ }
 {
     let r = serve::serve(table, work, commands, report);
     empty_table::clear(work);
@@ -42,7 +43,7 @@ fn carry_out(table: &mut [u8], work: &mut [u8], commands: &[u8], report: &mut [u
 
 // Carries out commands on a table, with a report for their records and a work buffer, which is left all zero.
 pub fn batch(table: &mut [u8], work: &mut [u8], commands: &[u8], report: &mut [u8]) -> BatchResult
-    ensures { λ r. ⌜ Batch (now (table .entry)) (now (work .entry)) (now (commands .entry)) (now (report .entry)) r (now (table .exit)) (now (work .exit)) (now (report .exit)) ⌝ }
+    ensures { λ r. ⌜ Batch (now (table .entry)) (now (work .entry)) (now (commands .entry)) (now (report .entry)) (returnOf r) (now (table .exit)) (now (work .exit)) (now (report .exit)) ⌝ }
 {
     if table.len() != limits::TABLE_BYTES {
         return refused(Reason::WrongLength);

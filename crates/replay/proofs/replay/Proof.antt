@@ -1,41 +1,53 @@
-use Rattle.replay.proofs.Citing.{cited}
+use Rattle.replay.proofs.Citing.{replayed}
 use borrow.Author.Needs.{needs}
 use Rattle.replay.proofs.replay.Statement.{statement}
 use Rattle.replay.proofs.replay.Tie as tie
 
-lay-out-requires : tie.Need-lay-out-requires
-lay-out-requires c κs = search needs
+slice-aggregate-begin : tie.Need-slice-aggregate-begin
+slice-aggregate-begin c = search needs
 
-batch-requires : tie.Need-batch-requires
-batch-requires c κs = search needs
+begin-requires : tie.Need-begin-requires
+begin-requires c κs = search needs
 
-batch-requires-2 : tie.Need-batch-requires-2
-batch-requires-2 c κs = search needs
+slice-aggregate-go-on : tie.Need-slice-aggregate-go-on
+slice-aggregate-go-on c = search needs
 
-same-length : tie.Need-same-length
-same-length c = search needs
+go-on-requires : tie.Need-go-on-requires
+go-on-requires c κs = search needs
 
-same-length-2 : tie.Need-same-length-2
-same-length-2 c = search needs
+slice-aggregate-ask-ten : tie.Need-slice-aggregate-ask-ten
+slice-aggregate-ask-ten c = search needs
 
-same-length-3 : tie.Need-same-length-3
-same-length-3 c = search needs
+ask-ten-requires : tie.Need-ask-ten-requires
+ask-ten-requires c κs = search needs
 
-same-length-4 : tie.Need-same-length-4
-same-length-4 c = search needs
+slice-aggregate-refill : tie.Need-slice-aggregate-refill
+slice-aggregate-refill c = search needs
+
+refill-requires : tie.Need-refill-requires
+refill-requires c κs = search needs
+
+slice-aggregate-ask-ten-2 : tie.Need-slice-aggregate-ask-ten-2
+slice-aggregate-ask-ten-2 c = search needs
+
+ask-ten-requires-2 : tie.Need-ask-ten-requires-2
+ask-ten-requires-2 c κs = search needs
 
 returns : tie.Need-returns
-returns c = search (needs, cited)
+returns c = search (needs, replayed)
 
 pub replay-spec : {M : Type 1} → statement M
 replay-spec =
     tie.close
     (tie.spec
-    lay-out-requires
-    batch-requires
-    batch-requires-2
-    same-length
-    same-length-2
-    same-length-3
-    same-length-4
+    slice-aggregate-begin
+    begin-requires
+    slice-aggregate-go-on
+    go-on-requires
+    slice-aggregate-ask-ten
+    ask-ten-requires
+    slice-aggregate-refill
+    refill-requires
+    slice-aggregate-ask-ten-2
+    ask-ten-requires-2
     returns)

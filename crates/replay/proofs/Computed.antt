@@ -1,0 +1,43 @@
+-- What the book says to the calls, computed by the checker.
+-- Assumes nothing.
+use mathlib.Core.Path.{_≡_, refl}
+use mathlib.Core.List.{[], _∷_, map}
+use native.Mathlib.Decide.{decLe, decLt}
+use native.Mathlib.Omega.{arith}
+use Rattle.words.specs.Words.{wordAt}
+use Rattle.grid.specs.Position.{squaredDifference, distance, LegOnGrid}
+use Rattle.grid.specs.Coordinate.{fromWord, toWord}
+use Rattle.grid.specs.Fraction.{gcdBy, gcdOf, lowest}
+use Rattle.split.specs.Legs.{ten}
+use Rattle.split.specs.SplitList.{rank}
+use Rattle.split.specs.SplitOf.{hides?, step?, under?, push, insert, build, splitOf}
+use Rattle.records.specs.ListRecord.{entryBytes, listBytes, recordBytes}
+use Rattle.book.specs.Book.{emptyBook, writeLine, strikeLine, holds, change}
+use Rattle.book.specs.Command.{parseAt}
+use Rattle.book.specs.Answer.{answer}
+use Rattle.book.specs.Run.{records, turn, runFrom}
+use Rattle.demands.specs.Batch.{Return, returns}
+use Rattle.demands.specs.Whole.{Said, replies, bookAfter}
+use Rattle.replay.specs.Replayed.{one, two, endAsks, endReturns, tenBytes}
+
+-- what a call said, without its bytes
+abbrev pub returned : Said → Return
+returned s = returns (s .reason) (s .used) (s .written)
+
+-- 64, 0, 66, 67 and 68
+pub end-replies : map returned (replies emptyBook endAsks) ≡ endReturns
+unfolding replies bookAfter records turn runFrom parseAt wordAt fromWord toWord answer holds change writeLine strikeLine splitOf build insert push hides? under? step? decLe decLt distance squaredDifference rank lowest gcdOf gcdBy entryBytes listBytes recordBytes
+end-replies = refl
+
+-- site 3 has come and gone
+pub end-lines : bookAfter emptyBook endAsks .lines ≡ one ∷ two ∷ []
+unfolding replies bookAfter records turn runFrom parseAt wordAt fromWord toWord answer holds change writeLine strikeLine splitOf build insert push hides? under? step? decLe decLt distance squaredDifference rank lowest gcdOf gcdBy entryBytes listBytes recordBytes
+end-lines = refl
+
+-- "1 from 0/1, 2 from 37/100"
+pub ten-list : recordBytes (splitOf ten (one ∷ two ∷ [])) ≡ tenBytes
+unfolding splitOf build insert push hides? under? step? decLe decLt distance squaredDifference rank lowest gcdOf gcdBy entryBytes listBytes recordBytes
+ten-list = refl
+
+pub ten-on : LegOnGrid ten
+ten-on = record { s = record { east = omega arith; north = omega arith }; e = record { east = omega arith; north = omega arith } }
