@@ -1,4 +1,5 @@
-// The addition below the root: down to a leaf, and splits on the way up.
+// The addition below the root: down to a leaf, and splits on the way up. "An entry above the leaves" is read "by reading
+// its child node", by two functions that call each other.
 use crate::Room;
 use crate::choose;
 use limits::MAX_ENTRIES;
@@ -8,9 +9,9 @@ use node::pool;
 ghost use mathlib.Core.Path.{_≡_};
 ghost use mathlib.Core.List.{[], _∷_, _++_};
 ghost use Prim.Native.Nat.{_+_, _≤_, _<_};
-ghost use lib.ListN.{length, set};
+ghost use lib.ListN.{length, getD, set};
 ghost use Rattle.limits.specs.Limits.{maxEntries, maxNodes, tableBytes};
-ghost use Rattle.node.specs.Node.{entries, Wrote};
+ghost use Rattle.node.specs.Node.{entries, noEntry, Wrote};
 ghost use Rattle.node.specs.Free.{free};
 ghost use Rattle.node.specs.Boxes.{hull};
 ghost use Rattle.node.specs.Tally.{hit, tally};
@@ -51,17 +52,13 @@ fn halve(table: &mut [u8], h: usize, n: usize, k: usize, c: usize, x: Entry) -> 
     put_in(table, n, g)
 }
 
-// Adds the leaf entry e under node n, whose entries stand at height h, or hands back the ninth entry of n.
-// A child that is not split has its old box, grown by e's: its entries need not be read again.
-pub fn insert(table: &mut [u8], h: usize, n: usize, e: Entry) -> Room
-    requires { ⌜ Ready h n (now table) × (h ≤ length (free (now table))) × ((h ≡ 0 → ⊥) → 0 < length (entries (now table) n)) ⌝ }
+// Adds the leaf entry e under f, which is entry k of node n and stands at height h, above the leaves; or hands back the
+// ninth entry of n. A child that is not split has its old box, grown by e's: its entries need not be read again.
+fn insert_under(table: &mut [u8], h: usize, n: usize, k: usize, f: Entry, e: Entry) -> Room
+    requires { ⌜ Ready h n (now table) × (h ≡ 0 → ⊥) × (h ≤ length (free (now table))) ⌝ }
+    requires { ⌜ (k < length (entries (now table) n)) × (f ≡ getD (entries (now table) n) k noEntry) ⌝ }
     ensures { λ r. ⌜ Inserted r h n e (now (table .entry)) (now (table .exit)) ⌝ }
 {
-    if h == 0 {
-        return put_in(table, n, e);
-    }
-    let k = choose::choose(table, n, e);
-    let f = pool::entry_at(table, n, k);
     let c = f.reference as usize;
     let r = insert(table, h - 1, c, e);
     match r {
@@ -72,4 +69,17 @@ pub fn insert(table: &mut [u8], h: usize, n: usize, e: Entry) -> Room
         }
         Room::Over(x) => halve(table, h - 1, n, k, c, x),
     }
+}
+
+// Adds the leaf entry e under node n, whose entries stand at height h, or hands back the ninth entry of n.
+pub fn insert(table: &mut [u8], h: usize, n: usize, e: Entry) -> Room
+    requires { ⌜ Ready h n (now table) × (h ≤ length (free (now table))) × ((h ≡ 0 → ⊥) → 0 < length (entries (now table) n)) ⌝ }
+    ensures { λ r. ⌜ Inserted r h n e (now (table .entry)) (now (table .exit)) ⌝ }
+{
+    if h == 0 {
+        return put_in(table, n, e);
+    }
+    let k = choose::choose(table, n, e);
+    let f = pool::entry_at(table, n, k);
+    insert_under(table, h, n, k, f, e)
 }
