@@ -4,7 +4,6 @@ pub mod ProperBooks
 pub mod Lists
 pub mod Parsing
 pub mod Runs
-pub mod ProperRuns
 pub mod ReadBack
 pub mod Orders
 pub mod Refill
