@@ -420,15 +420,3 @@ pub strike-length : (n : ℕ) (s : List Site) → Rising s → holds n s ≡ tru
 strike-length n s r h =
     let p : Position = record { east = 0; north = 0 } in
     sym (write-length (siteAs n p) (strikeLine n s)) ∙ ap length (sym (move-is n p s r h)) ∙ move-length n p s
-
--- THE SITES OF A MOVED BOOK are those left by striking and the site at its new position
-pub move-sites : (n : ℕ) (p : Position) (s : List Site) → Rising s → holds n s ≡ true → SameSites (siteAs n p ∷ strikeLine n s) (moveLine n p s)
-move-sites n p s r h = rw (move-is n p s r h) (write-sites (siteAs n p) (strikeLine n s))
-
--- NUMBERS STILL RISE where a line is moved
-pub rising-move : (n : ℕ) (p : Position) (s : List Site) → Rising s → Rising (moveLine n p s)
-rising-move n p s r = go (holds n s) refl
-  where
-    go : (c : Bool) → holds n s ≡ c → Rising (moveLine n p s)
-    go true h = rw (move-is n p s r h) (rising-write (siteAs n p) (strikeLine n s) (holds-strike n s) (rising-strike n s r))
-    go false h = rw (move-none n p s h) r

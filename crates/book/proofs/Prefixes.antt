@@ -2,22 +2,24 @@
 -- Assumes nothing.
 use mathlib.Core.Path.{_≡_, refl, sym, ap, _∙_, subst, subst⁻¹}
 use mathlib.Core.Bool.{Bool, true, false, cond}
+use mathlib.Core.Option.{Option, none, some}
 use mathlib.Core.List.{List, [], _∷_, _++_, append-assoc, append-nil}
 use Prim.Native.Nat.{ℕ, zero, suc, _+_, _≤_, _<_}
 use native.Mathlib.Omega.{arith}
 use lib.ListN.{length, getD, length-append, List·getD-append}
-use lib.Dec.{eqb, leb, ltb}
+use lib.Dec.{leb, ltb}
 use borrow.Author.Tests.{ltb-false, leb-true, leb-false, le-ltb, lt-leb}
 use Rattle.words.specs.Words.{wordAt}
 use Rattle.grid.specs.Coordinate.{fromWord}
 use Rattle.book.specs.declared.Command.{Command}
-use Rattle.book.specs.declared.Command.the-variants.{Add, Remove, Move, List as ListOf, Stand, Print}
 use Rattle.book.specs.declared.Parsed.{Parsed}
 use Rattle.book.specs.declared.Parsed.the-variants.{End, Unknown, Cut, Whole}
 use Rattle.book.specs.declared.Reason.{Reason}
 use Rattle.book.specs.declared.Reason.the-variants.{AllUsed, UnknownCommand, CutShort, NoRoom}
 use Rattle.book.specs.Numbers.{reasonNumber}
-use Rattle.book.specs.Command.{positionAt, legAt, whole, parseAt}
+use Rattle.book.specs.declared.Shape.{Shape}
+use Rattle.book.specs.declared.Shape.the-variants.{Nothing, Number, NumberPosition, TwoPositions}
+use Rattle.book.specs.Command.{Maker, operandBytes, positionAt, legAt, madeAt, Form, formBytes, formOf, whole, commandAt, parseAt}
 use Rattle.book.specs.Book.{Book}
 use Rattle.book.specs.Encode.{commandBytes}
 use Rattle.book.specs.Reply.{recordOf}
@@ -47,53 +49,34 @@ module _ (s more : List ℕ) where
   leg-front : (i : ℕ) → i + 8 ≤ length s → legAt (s ++ more) i ≡ legAt s i
   leg-front i h = λ j. record { s = position-front i (omega arith) j; e = position-front (i + 4) (omega arith) j }
 
-  module _ (at : ℕ) (d : Command) (next : ℕ) where
-    whole-front : (n : ℕ) (c c′ : Command) → (at + n ≤ length s → c′ ≡ c) → whole s at n c ≡ Whole d next → whole (s ++ more) at n c′ ≡ Whole d next
-    whole-front n c c′ same h = go (ltb (length s) (at + n)) refl h
-      where
-        go : (t : Bool) → ltb (length s) (at + n) ≡ t → cond t Cut (Whole c (at + n)) ≡ Whole d next → whole (s ++ more) at n c′ ≡ Whole d next
-        go true e x = absurd (subst⁻¹ IsWhole x tt)
-        go false e x =
-            let l : at + n ≤ length s = ltb-false (length s) (at + n) e in
-            rw (le-ltb (length (s ++ more)) (at + n) (omega (arith, length-append s more))) (ap (λ (y : Command). Whole y (at + n)) (same l) ∙ x)
+  made-front : (x : Shape) (f : Maker x) (i : ℕ) → i + operandBytes x ≤ length s → madeAt x f (s ++ more) i ≡ madeAt x f s i
+  made-front Nothing f i h = refl
+  made-front Number f i h = ap f (word-front i h)
+  made-front NumberPosition f i h = λ j. f (word-front i (omega arith) j) (position-front (i + 2) (omega arith) j)
+  made-front TwoPositions f i h = ap f (leg-front i h)
 
-    -- A WHOLE COMMAND STAYS, whatever stands behind it
-    pub parse-front : parseAt s at ≡ Whole d next → parseAt (s ++ more) at ≡ Whole d next
-    unfolding parseAt
-    parse-front h = go (leb (length s) at) refl h
-      where
-        byte : (l : at < length s) (a b c e f g : Bool)
-            → cond a (whole s at 7 (Add (wordAt s (at + 1)) (positionAt s (at + 3))))
-            (cond b (whole s at 3 (Remove (wordAt s (at + 1))))
-            (cond c (whole s at 7 (Move (wordAt s (at + 1)) (positionAt s (at + 3))))
-            (cond e (whole s at 9 (ListOf (legAt s (at + 1)))) (cond f (whole s at 9 (Stand (legAt s (at + 1)))) (cond g (whole s at 1 Print) Unknown))))) ≡ Whole d next
-            → cond a (whole (s ++ more) at 7 (Add (wordAt (s ++ more) (at + 1)) (positionAt (s ++ more) (at + 3))))
-            (cond b (whole (s ++ more) at 3 (Remove (wordAt (s ++ more) (at + 1))))
-            (cond c (whole (s ++ more) at 7 (Move (wordAt (s ++ more) (at + 1)) (positionAt (s ++ more) (at + 3))))
-            (cond e (whole (s ++ more) at 9 (ListOf (legAt (s ++ more) (at + 1))))
-            (cond f (whole (s ++ more) at 9 (Stand (legAt (s ++ more) (at + 1)))) (cond g (whole (s ++ more) at 1 Print) Unknown))))) ≡ Whole d next
-        byte l true b c e f g x = whole-front 7 _ _ (λ k i. Add (word-front (at + 1) (omega arith) i) (position-front (at + 3) (omega arith) i)) x
-        byte l false true c e f g x = whole-front 3 _ _ (λ k i. Remove (word-front (at + 1) (omega arith) i)) x
-        byte l false false true e f g x = whole-front 7 _ _ (λ k i. Move (word-front (at + 1) (omega arith) i) (position-front (at + 3) (omega arith) i)) x
-        byte l false false false true f g x = whole-front 9 _ _ (λ k i. ListOf (leg-front (at + 1) (omega arith) i)) x
-        byte l false false false false true g x = whole-front 9 _ _ (λ k i. Stand (leg-front (at + 1) (omega arith) i)) x
-        byte l false false false false false true x = whole-front 1 _ _ (λ k. refl) x
-        byte l false false false false false false x = absurd (subst⁻¹ IsWhole x tt)
+  -- A WHOLE COMMAND STAYS, whatever stands behind it
+  pub parse-front : (at : ℕ) (d : Command) (next : ℕ) → parseAt s at ≡ Whole d next → parseAt (s ++ more) at ≡ Whole d next
+  unfolding parseAt
+  parse-front at d next h = go (leb (length s) at) refl h
+    where
+      here : (f : Form) (t : Bool) → ltb (length s) (at + formBytes f) ≡ t
+          → cond t Cut (Whole (madeAt (f .shape) (f .maker) s (at + 1)) (at + formBytes f)) ≡ Whole d next → whole (s ++ more) at f ≡ Whole d next
+      here f true e x = absurd (subst⁻¹ IsWhole x tt)
+      here f false e x =
+          let l : at + formBytes f ≤ length s = ltb-false (length s) (at + formBytes f) e in
+          rw (le-ltb (length (s ++ more)) (at + formBytes f) (omega (arith, length-append s more)))
+          (ap (λ (y : Command). Whole y (at + formBytes f)) (made-front (f .shape) (f .maker) (at + 1) (omega arith)) ∙ x)
 
-        go : (t : Bool) → leb (length s) at ≡ t
-            → cond t End
-            (cond (eqb (getD s at 0) 0x41) (whole s at 7 (Add (wordAt s (at + 1)) (positionAt s (at + 3))))
-            (cond (eqb (getD s at 0) 0x44) (whole s at 3 (Remove (wordAt s (at + 1))))
-            (cond (eqb (getD s at 0) 0x4D) (whole s at 7 (Move (wordAt s (at + 1)) (positionAt s (at + 3))))
-            (cond (eqb (getD s at 0) 0x4C) (whole s at 9 (ListOf (legAt s (at + 1))))
-            (cond (eqb (getD s at 0) 0x53) (whole s at 9 (Stand (legAt s (at + 1))))
-            (cond (eqb (getD s at 0) 0x50) (whole s at 1 Print) Unknown)))))) ≡ Whole d next
-            → parseAt (s ++ more) at ≡ Whole d next
-        go true e x = absurd (subst⁻¹ IsWhole x tt)
-        go false e x =
-            let l : at < length s = leb-false (length s) at e in
-            rw (lt-leb (length (s ++ more)) at (omega (arith, length-append s more)), List·getD-append s more 0 at l)
-            (byte l (eqb (getD s at 0) 0x41) (eqb (getD s at 0) 0x44) (eqb (getD s at 0) 0x4D) (eqb (getD s at 0) 0x4C) (eqb (getD s at 0) 0x53) (eqb (getD s at 0) 0x50) x)
+      found : (f : Option Form) → commandAt s at f ≡ Whole d next → commandAt (s ++ more) at f ≡ Whole d next
+      found none x = x
+      found (some f) x = here f (ltb (length s) (at + formBytes f)) refl x
+
+      go : (t : Bool) → leb (length s) at ≡ t → cond t End (commandAt s at (formOf (getD s at 0))) ≡ Whole d next → parseAt (s ++ more) at ≡ Whole d next
+      go true e x = absurd (subst⁻¹ IsWhole x tt)
+      go false e x =
+          let l : at < length s = leb-false (length s) at e in
+          rw (lt-leb (length (s ++ more)) at (omega (arith, length-append s more)), List·getD-append s more 0 at l) (found (formOf (getD s at 0)) x)
 
 -- ---- a call that has run the bytes before
 

@@ -2,6 +2,7 @@
 -- Assumes nothing.
 use mathlib.Core.Path.{_≡_, refl, sym, ap, _∙_, subst}
 use mathlib.Core.List.{List, [], _∷_, _++_, append-assoc, append-nil}
+use mathlib.Core.Option.{some}
 use Prim.Native.Nat.{ℕ, _+_, _*_, _/_, _%_, _≤_, _<_}
 use native.Mathlib.Nat.{add-assoc, zero-add}
 use native.Mathlib.Omega.{arith}
@@ -12,18 +13,21 @@ use Rattle.grid.specs.declared.Position.{Position}
 use Rattle.grid.specs.declared.Leg.{Leg}
 use Rattle.grid.specs.Coordinate.{fromWord, toWord}
 use Rattle.grid.proofs.Signed.{word-of}
+use Rattle.records.specs.Bytes.{bytes2}
 use Rattle.records.proofs.ReadBack.{bytes2-hold}
 use Rattle.book.specs.declared.Command.{Command}
 use Rattle.book.specs.declared.Command.the-variants.{Add, Remove, Move, List as ListOf, Stand, Print}
 use Rattle.book.specs.declared.Parsed.the-variants.{End, Whole}
 use Rattle.book.specs.declared.Reason.the-variants.{AllUsed, NoRoom}
-use Rattle.book.specs.Command.{positionAt, legAt, parseAt}
+use Rattle.book.specs.declared.Shape.{Shape}
+use Rattle.book.specs.declared.Shape.the-variants.{Nothing, Number, NumberPosition, TwoPositions}
+use Rattle.book.specs.Command.{Maker, operandBytes, positionAt, legAt, madeAt, Form, form, formBytes, formOf, parseAt}
 use Rattle.book.specs.Encode.{positionBytes, legBytes, commandBytes}
 use Rattle.book.specs.Book.{Book}
 use Rattle.book.specs.Reply.{recordOf}
 use Rattle.book.specs.Answer.{answer, after}
 use Rattle.book.specs.Run.{Turn, records, ends, run, afterAll}
-use Rattle.book.proofs.Parsing.{parse-end, parse-add, parse-remove, parse-move, parse-list, parse-stand, parse-print}
+use Rattle.book.proofs.Parsing.{parse-end, parse-whole}
 use Rattle.book.proofs.Runs.{turnOf, records-one, records-more, Steps, steps-none, steps-one, ends-all, ends-full}
 
 -- two 16-bit numbers hold the position
@@ -81,41 +85,51 @@ leg-back x l t g h = λ j. record {
 
 -- ---- commands
 
+-- what is made of operands behind other bytes
+made-behind : (x : Shape) (f : Maker x) (pre s : List ℕ) (i : ℕ) → madeAt x f (pre ++ s) (length pre + i) ≡ madeAt x f s i
+made-behind Nothing f pre s i = refl
+made-behind Number f pre s i = ap f (word-behind pre s i)
+made-behind NumberPosition f pre s i =
+    let e : length pre + i + 2 ≡ length pre + (i + 2) = omega arith in
+    λ j. f (word-behind pre s i j) ((ap (positionAt (pre ++ s)) e ∙ position-behind pre s (i + 2)) j)
+made-behind TwoPositions f pre s i = ap f (leg-behind pre s i)
+
 module _ (pre : List ℕ) (t : List ℕ) where
-  inside : (s : List ℕ) (k : ℕ) → k ≤ length s → length pre + k ≤ length (pre ++ s)
-  inside s k h = omega (arith, length-append pre s)
+  -- a mark and its operands, whatever their shape
+  behind : (m : ℕ) (os : List ℕ) (f : Form) → formOf m ≡ some f → length os ≡ operandBytes (f .shape)
+      → (c : Command) → madeAt (f .shape) (f .maker) (m ∷ os ++ t) 1 ≡ c
+      → parseAt (pre ++ (m ∷ os ++ t)) (length pre) ≡ Whole c (length pre + (1 + length os))
+  behind m os f e n c h =
+      let s : List ℕ = m ∷ os ++ t in
+      let k : length pre + formBytes f ≤ length (pre ++ s) = omega (arith, length-append pre s, length-append os t) in
+      parse-whole (pre ++ s) (length pre) (omega arith) f (ap formOf (getD-append-seam pre m (os ++ t) 0) ∙ e) k
+      ∙ (λ j. Whole ((made-behind (f .shape) (f .maker) pre s 1 ∙ h) j) (length pre + (1 + sym n j)))
+
+  number-behind : (m : ℕ) (f : Maker Number) → formOf m ≡ some (form m Number f) → (n : ℕ) → n < 65536
+      → parseAt (pre ++ (m ∷ bytes2 n ++ t)) (length pre) ≡ Whole (f n) (length pre + 3)
+  number-behind m f e n h = behind m (bytes2 n) (form m Number f) e refl (f n) (ap f (number-back m n t h))
+
+  number-position-behind : (m : ℕ) (f : Maker NumberPosition) → formOf m ≡ some (form m NumberPosition f)
+      → (n : ℕ) (p : Position) → (n < 65536) × PositionSmall p
+      → parseAt (pre ++ (m ∷ bytes2 n ++ positionBytes p ++ t)) (length pre) ≡ Whole (f n p) (length pre + 7)
+  number-position-behind m f e n p h =
+      behind m (bytes2 n ++ positionBytes p) (form m NumberPosition f) e refl (f n p)
+      (λ j. f (number-back m n (positionBytes p ++ t) (h .0) j) (position-back m (n % 256) (n / 256 % 256) p t (h .1) j))
+
+  two-positions-behind : (m : ℕ) (f : Maker TwoPositions) → formOf m ≡ some (form m TwoPositions f)
+      → (l : Leg) → PositionSmall (l .s) × PositionSmall (l .e)
+      → parseAt (pre ++ (m ∷ legBytes l ++ t)) (length pre) ≡ Whole (f l) (length pre + 9)
+  two-positions-behind m f e l h = behind m (legBytes l) (form m TwoPositions f) e refl (f l) (ap f (leg-back m l t (h .0) (h .1)))
 
   -- A COMMAND IS READ BACK, with whatever bytes before it and behind it
   pub read-back : (c : Command) → Encodable c → parseAt (pre ++ (commandBytes c ++ t)) (length pre) ≡ Whole c (length pre + length (commandBytes c))
-  read-back (Add n p) h =
-      let s : List ℕ = commandBytes (Add n p) ++ t in
-      let k : length pre + 7 ≤ length (pre ++ s) = inside s 7 (omega arith) in
-      parse-add (pre ++ s) (length pre) (omega arith) (getD-append-seam pre 0x41 _ 0) k n p
-      (sym (word-behind pre s 1 ∙ number-back 0x41 n _ (h .0))) (sym (position-behind pre s 3 ∙ position-back _ _ _ p t (h .1)))
-  read-back (Remove n) h =
-      let s : List ℕ = commandBytes (Remove n) ++ t in
-      let k : length pre + 3 ≤ length (pre ++ s) = inside s 3 (omega arith) in
-      parse-remove (pre ++ s) (length pre) (omega arith) (getD-append-seam pre 0x44 _ 0) k n
-      (sym (word-behind pre s 1 ∙ number-back 0x44 n _ h))
-  read-back (Move n p) h =
-      let s : List ℕ = commandBytes (Move n p) ++ t in
-      let k : length pre + 7 ≤ length (pre ++ s) = inside s 7 (omega arith) in
-      parse-move (pre ++ s) (length pre) (omega arith) (getD-append-seam pre 0x4D _ 0) k n p
-      (sym (word-behind pre s 1 ∙ number-back 0x4D n _ (h .0))) (sym (position-behind pre s 3 ∙ position-back _ _ _ p t (h .1)))
-  read-back (ListOf l) h =
-      let s : List ℕ = commandBytes (ListOf l) ++ t in
-      let k : length pre + 9 ≤ length (pre ++ s) = inside s 9 (omega arith) in
-      parse-list (pre ++ s) (length pre) (omega arith) (getD-append-seam pre 0x4C _ 0) k l
-      (sym (leg-behind pre s 1 ∙ leg-back 0x4C l t (h .0) (h .1)))
-  read-back (Stand l) h =
-      let s : List ℕ = commandBytes (Stand l) ++ t in
-      let k : length pre + 9 ≤ length (pre ++ s) = inside s 9 (omega arith) in
-      parse-stand (pre ++ s) (length pre) (omega arith) (getD-append-seam pre 0x53 _ 0) k l
-      (sym (leg-behind pre s 1 ∙ leg-back 0x53 l t (h .0) (h .1)))
-  read-back Print h =
-      let s : List ℕ = commandBytes Print ++ t in
-      let k : length pre + 1 ≤ length (pre ++ s) = inside s 1 (omega arith) in
-      parse-print (pre ++ s) (length pre) (omega arith) (getD-append-seam pre 0x50 _ 0)
+  unfolding formOf
+  read-back (Add n p) h = number-position-behind 0x41 Add refl n p h
+  read-back (Remove n) h = number-behind 0x44 Remove refl n h
+  read-back (Move n p) h = number-position-behind 0x4D Move refl n p h
+  read-back (ListOf l) h = two-positions-behind 0x4C ListOf refl l h
+  read-back (Stand l) h = two-positions-behind 0x53 Stand refl l h
+  read-back Print h = behind 0x50 [] (form 0x50 Nothing Print) refl refl Print refl
 
 -- a command alone
 pub read-one : (c : Command) → Encodable c → parseAt (commandBytes c) 0 ≡ Whole c (length (commandBytes c))

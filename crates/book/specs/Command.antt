@@ -1,7 +1,8 @@
 -- Command bytes. Document 01, "Buffers and batches": the table of commands, and "Multi-byte numbers stand lowest byte first;
 -- positions are two signed 16-bit numbers, site numbers unsigned 16-bit".
 -- Assumes nothing.
-use mathlib.Core.List.{List}
+use mathlib.Core.List.{List, [], _∷_}
+use mathlib.Core.Option.{Option, none, some}
 use mathlib.Core.Bool.{cond}
 use Prim.Native.Nat.{ℕ, _+_}
 use lib.ListN.{length, getD}
@@ -12,8 +13,26 @@ use Rattle.grid.specs.declared.Leg.{Leg}
 use Rattle.grid.specs.Coordinate.{fromWord}
 use Rattle.book.specs.declared.Command.{Command}
 use Rattle.book.specs.declared.Command.the-variants.{Add, Remove, Move, List as ListOf, Stand, Print}
+use Rattle.book.specs.declared.Shape.{Shape}
+use Rattle.book.specs.declared.Shape.the-variants.{Nothing, Number, NumberPosition, TwoPositions}
 use Rattle.book.specs.declared.Parsed.{Parsed}
 use Rattle.book.specs.declared.Parsed.the-variants.{End, Unknown, Cut, Whole}
+
+-- ---- operands, by their shape
+
+-- what makes a command of operands of this shape
+abbrev pub Maker : Shape → Type 0
+Maker Nothing = Command
+Maker Number = ℕ → Command
+Maker NumberPosition = ℕ → Position → Command
+Maker TwoPositions = Leg → Command
+
+-- the bytes that they take: a number 2, a position 4
+abbrev pub operandBytes : Shape → ℕ
+operandBytes Nothing = 0
+operandBytes Number = 2
+operandBytes NumberPosition = 6
+operandBytes TwoPositions = 8
 
 -- the position at byte i
 abbrev pub positionAt : List ℕ → ℕ → Position
@@ -23,18 +42,65 @@ positionAt s i = record { east = fromWord (wordAt s i); north = fromWord (wordAt
 abbrev pub legAt : List ℕ → ℕ → Leg
 legAt s i = record { s = positionAt s i; e = positionAt s (i + 4) }
 
--- a known command of n bytes: "operands cut short" where they are not all there
-abbrev pub whole : List ℕ → ℕ → ℕ → Command → Parsed
-whole s at n c = cond (ltb (length s) (at + n)) Cut (Whole c (at + n))
+-- the command of the operands at byte i
+abbrev pub madeAt : (x : Shape) → Maker x → List ℕ → ℕ → Command
+madeAt Nothing c s i = c
+madeAt Number f s i = f (wordAt s i)
+madeAt NumberPosition f s i = f (wordAt s i) (positionAt s (i + 2))
+madeAt TwoPositions f s i = f (legAt s i)
+
+-- ---- the table of commands
+
+-- the form of a command, a row of the table: the command byte, its operands, the command that they make
+pub record Form : Type 0 where
+  pub mark : ℕ
+  pub shape : Shape
+  pub maker : Maker shape
+
+-- the same, written in one line
+abbrev pub form : ℕ → (x : Shape) → Maker x → Form
+form m x f = record { mark = m; shape = x; maker = f }
+
+-- document 01's table: "Command", "Operands", "Meaning"
+abbrev pub commandTable : List Form
+commandTable =
+    form 0x41 NumberPosition Add
+    ∷ form 0x44 Number Remove
+    ∷ form 0x4D NumberPosition Move
+    ∷ form 0x4C TwoPositions ListOf
+    ∷ form 0x53 TwoPositions Stand
+    ∷ form 0x50 Nothing Print
+    ∷ []
+
+-- the bytes of a command of this form: its mark and its operands
+abbrev pub formBytes : Form → ℕ
+formBytes r = 1 + operandBytes (r .shape)
+
+-- the form of a command byte, or none, among some rows
+abbrev pub formIn : List Form → ℕ → Option Form
+formIn [] m = none
+formIn (r ∷ rs) m = cond (eqb m (r .mark)) (some r) (formIn rs m)
+
+-- in the table
+unfoldable pub formOf : ℕ → Option Form
+formOf m = formIn commandTable m
+
+-- the bytes of the longest command of some rows
+abbrev pub longestIn : List Form → ℕ
+longestIn [] = 0
+longestIn (r ∷ rs) = cond (leb (longestIn rs) (formBytes r)) (formBytes r) (longestIn rs)
+
+-- ---- what stands at a byte
+
+-- a command of this form, or "operands cut short" where they are not all there
+abbrev pub whole : List ℕ → ℕ → Form → Parsed
+whole s at r = cond (ltb (length s) (at + formBytes r)) Cut (Whole (madeAt (r .shape) (r .maker) s (at + 1)) (at + formBytes r))
+
+-- "For each command 66 is tested first, then 67"
+abbrev pub commandAt : List ℕ → ℕ → Option Form → Parsed
+commandAt s at none = Unknown
+commandAt s at (some r) = whole s at r
 
 -- what stands at byte `at`
 unfoldable pub parseAt : List ℕ → ℕ → Parsed
-parseAt s at =
-    cond (leb (length s) at) End
-    (cond (eqb (getD s at 0) 0x41) (whole s at 7 (Add (wordAt s (at + 1)) (positionAt s (at + 3))))
-    (cond (eqb (getD s at 0) 0x44) (whole s at 3 (Remove (wordAt s (at + 1))))
-    (cond (eqb (getD s at 0) 0x4D) (whole s at 7 (Move (wordAt s (at + 1)) (positionAt s (at + 3))))
-    (cond (eqb (getD s at 0) 0x4C) (whole s at 9 (ListOf (legAt s (at + 1))))
-    (cond (eqb (getD s at 0) 0x53) (whole s at 9 (Stand (legAt s (at + 1))))
-    (cond (eqb (getD s at 0) 0x50) (whole s at 1 Print)
-    Unknown))))))
+parseAt s at = cond (leb (length s) at) End (commandAt s at (formOf (getD s at 0)))

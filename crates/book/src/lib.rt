@@ -12,6 +12,14 @@ pub enum Command {
     Print,
 }
 
+// The operands of a command. Document 01, the column "Operands": none; number; number, position; S, E.
+pub enum Shape {
+    Nothing,
+    Number,
+    NumberPosition,
+    TwoPositions,
+}
+
 // What stands at a byte of the commands: their end, no command, a command that is cut short, or a whole one and where the next begins.
 pub enum Parsed {
     End,

@@ -11,7 +11,7 @@ use Rattle.split.specs.SplitList.{rank}
 use Rattle.split.specs.SplitOf.{hides?, step?, under?, push, insert, build, splitOf}
 use Rattle.records.specs.ListRecord.{entryBytes, listBytes, recordBytes}
 use Rattle.book.specs.Book.{writeLine, strikeLine, moveLine, holds, change}
-use Rattle.book.specs.Command.{parseAt}
+use Rattle.book.specs.Command.{formOf, parseAt}
 use Rattle.book.specs.Answer.{answer}
 use Rattle.book.specs.Run.{records, turn, runFrom}
 use Rattle.records.specs.Decode.{read2, read4, readList, readRecord}
@@ -20,7 +20,7 @@ use Rattle.demands.specs.Starred.{starredLines, written, given, printedL
 
 -- THE STARRED LINES
 pub starred : given starredLines ≡ written starredLines
-unfolding records turn runFrom parseAt wordAt fromWord toWord answer holds change writeLine strikeLine moveLine splitOf build insert push hides? under? step? decLe decLt distance squaredDifference rank lowest gcdOf gcdBy entryBytes listBytes recordBytes
+unfolding records turn runFrom parseAt formOf wordAt fromWord toWord answer holds change writeLine strikeLine moveLine splitOf build insert push hides? under? step? decLe decLt distance squaredDifference rank lowest gcdOf gcdBy entryBytes listBytes recordBytes
 starred = refl
 
 -- WHAT A PRINTED LIST NAMES, at its starts and ends

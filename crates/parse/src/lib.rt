@@ -1,12 +1,67 @@
 // Reads the command that stands at a byte of the commands. Document 01, "Buffers and batches": the table of commands.
 use book::Command;
 use book::Parsed;
+use book::Shape;
 use grid::Leg;
 use grid::Position;
 ghost use mathlib.Core.Path.{_≡_};
-ghost use Prim.Native.Nat.{_+_, _<_, _≤_};
-ghost use lib.ListN.{length, getD};
-ghost use Rattle.book.specs.Command.{positionAt, legAt, parseAt};
+ghost use Prim.Native.Nat.{_+_, _≤_};
+ghost use lib.ListN.{length};
+ghost use Rattle.book.specs.Command.{operandBytes, positionAt, legAt, formOf, parseAt};
+ghost use Rattle.parse.specs.Operands.{markOf, Reads, Makes};
+
+// What a byte says: it is no command's, or it is that of one with operands of this shape.
+enum Mark {
+    Unknown,
+    Takes(Shape),
+}
+
+// The operands of a command: number, position and leg. Those that its shape does not have are 0.
+struct Operands(u16, Position, Leg);
+
+// The table of commands: the operands of each.
+fn mark_of(byte: u8) -> Mark
+    ensures { λ r. ⌜ r ≡ markOf (formOf byte) ⌝ }
+{
+    match byte {
+        0x41 => Mark::Takes(Shape::NumberPosition),
+        0x44 => Mark::Takes(Shape::Number),
+        0x4D => Mark::Takes(Shape::NumberPosition),
+        0x4C => Mark::Takes(Shape::TwoPositions),
+        0x53 => Mark::Takes(Shape::TwoPositions),
+        0x50 => Mark::Takes(Shape::Nothing),
+        _ => Mark::Unknown,
+    }
+}
+
+// The table of commands: what each is, with its operands. The last arm is 50, and what no caller asks.
+fn command(byte: u8, o: Operands) -> Command
+    ensures { λ r. ⌜ Makes (formOf byte) o r ⌝ }
+{
+    let number = o.0;
+    let position = o.1;
+    let leg = o.2;
+    match byte {
+        0x41 => Command::Add(number, position),
+        0x44 => Command::Remove(number),
+        0x4D => Command::Move(number, position),
+        0x4C => Command::List(leg),
+        0x53 => Command::Stand(leg),
+        _ => Command::Print,
+    }
+}
+
+// The bytes that operands take.
+fn size_of(x: Shape) -> usize
+    ensures { λ r. ⌜ r ≡ operandBytes x ⌝ }
+{
+    match x {
+        Shape::Nothing => 0,
+        Shape::Number => 2,
+        Shape::NumberPosition => 6,
+        Shape::TwoPositions => 8,
+    }
+}
 
 // The position at byte i.
 fn position_at(s: &[u8], i: usize) -> Position
@@ -31,66 +86,32 @@ fn leg_at(s: &[u8], i: usize) -> Leg
     Leg { s: from, e: to }
 }
 
-// An addition at a byte.
-fn addition(s: &[u8], at: usize) -> Parsed
-    requires { ⌜ (at < length (now s)) × (getD (now s) at 0 ≡ 0x41) ⌝ }
-    ensures { λ r. ⌜ r ≡ parseAt (now (s .entry)) at ⌝ }
+// The operands at byte i.
+fn operands_at(s: &[u8], i: usize, x: Shape) -> Operands
+    requires { ⌜ i + operandBytes x ≤ length (now s) ⌝ }
+    ensures { λ r. ⌜ Reads x (now (s .entry)) i r ⌝ }
 {
-    if s.len() - at < 7 {
-        return Parsed::Cut;
+    let corner = Position { east: 0, north: 0 };
+    let point = Leg {
+        s: corner,
+        e: corner,
+    };
+    match x {
+        Shape::Nothing => Operands(0, corner, point),
+        Shape::Number => {
+            let number = words::word(s, i);
+            Operands(number, corner, point)
+        }
+        Shape::NumberPosition => {
+            let number = words::word(s, i);
+            let position = position_at(s, i + 2);
+            Operands(number, position, point)
+        }
+        Shape::TwoPositions => {
+            let leg = leg_at(s, i);
+            Operands(0, corner, leg)
+        }
     }
-    let n = words::word(s, at + 1);
-    let p = position_at(s, at + 3);
-    Parsed::Whole(Command::Add(n, p), at + 7)
-}
-
-// A removal at a byte.
-fn removal(s: &[u8], at: usize) -> Parsed
-    requires { ⌜ (at < length (now s)) × (getD (now s) at 0 ≡ 0x44) ⌝ }
-    ensures { λ r. ⌜ r ≡ parseAt (now (s .entry)) at ⌝ }
-{
-    if s.len() - at < 3 {
-        return Parsed::Cut;
-    }
-    let n = words::word(s, at + 1);
-    Parsed::Whole(Command::Remove(n), at + 3)
-}
-
-// A move at a byte.
-fn relocation(s: &[u8], at: usize) -> Parsed
-    requires { ⌜ (at < length (now s)) × (getD (now s) at 0 ≡ 0x4D) ⌝ }
-    ensures { λ r. ⌜ r ≡ parseAt (now (s .entry)) at ⌝ }
-{
-    if s.len() - at < 7 {
-        return Parsed::Cut;
-    }
-    let n = words::word(s, at + 1);
-    let p = position_at(s, at + 3);
-    Parsed::Whole(Command::Move(n, p), at + 7)
-}
-
-// The list of a leg, asked for at a byte.
-fn listing(s: &[u8], at: usize) -> Parsed
-    requires { ⌜ (at < length (now s)) × (getD (now s) at 0 ≡ 0x4C) ⌝ }
-    ensures { λ r. ⌜ r ≡ parseAt (now (s .entry)) at ⌝ }
-{
-    if s.len() - at < 9 {
-        return Parsed::Cut;
-    }
-    let asked = leg_at(s, at + 1);
-    Parsed::Whole(Command::List(asked), at + 9)
-}
-
-// A standing leg at a byte.
-fn standing(s: &[u8], at: usize) -> Parsed
-    requires { ⌜ (at < length (now s)) × (getD (now s) at 0 ≡ 0x53) ⌝ }
-    ensures { λ r. ⌜ r ≡ parseAt (now (s .entry)) at ⌝ }
-{
-    if s.len() - at < 9 {
-        return Parsed::Cut;
-    }
-    let along = leg_at(s, at + 1);
-    Parsed::Whole(Command::Stand(along), at + 9)
 }
 
 // What stands at a byte.
@@ -100,14 +121,17 @@ pub fn parse(s: &[u8], at: usize) -> Parsed
     if s.len() <= at {
         return Parsed::End;
     }
-    let mark = s[at];
-    match mark {
-        0x41 => addition(s, at),
-        0x44 => removal(s, at),
-        0x4D => relocation(s, at),
-        0x4C => listing(s, at),
-        0x53 => standing(s, at),
-        0x50 => Parsed::Whole(Command::Print, at + 1),
-        _ => Parsed::Unknown,
+    let byte = s[at];
+    let mark = mark_of(byte);
+    let Mark::Takes(shape) = mark else {
+        return Parsed::Unknown;
+    };
+    let i = at + 1;
+    let size = size_of(shape);
+    if s.len() - i < size {
+        return Parsed::Cut;
     }
+    let o = operands_at(s, i, shape);
+    let c = command(byte, o);
+    Parsed::Whole(c, i + size)
 }

@@ -13,7 +13,7 @@ use Rattle.split.specs.SplitList.{rank}
 use Rattle.split.specs.SplitOf.{hides?, step?, under?, push, insert, build, splitOf}
 use Rattle.records.specs.ListRecord.{entryBytes, listBytes, recordBytes}
 use Rattle.book.specs.Book.{emptyBook, writeLine, strikeLine, holds, change}
-use Rattle.book.specs.Command.{parseAt}
+use Rattle.book.specs.Command.{formOf, parseAt}
 use Rattle.book.specs.Answer.{answer}
 use Rattle.book.specs.Run.{records, turn, runFrom}
 use Rattle.demands.specs.Batch.{Return, returns}
@@ -26,12 +26,12 @@ returned s = returns (s .reason) (s .used) (s .written)
 
 -- 64, 0, 66, 67 and 68
 pub end-replies : map returned (replies emptyBook endAsks) ≡ endReturns
-unfolding replies bookAfter records turn runFrom parseAt wordAt fromWord toWord answer holds change writeLine strikeLine splitOf build insert push hides? under? step? decLe decLt distance squaredDifference rank lowest gcdOf gcdBy entryBytes listBytes recordBytes
+unfolding replies bookAfter records turn runFrom parseAt formOf wordAt fromWord toWord answer holds change writeLine strikeLine splitOf build insert push hides? under? step? decLe decLt distance squaredDifference rank lowest gcdOf gcdBy entryBytes listBytes recordBytes
 end-replies = refl
 
 -- site 3 has come and gone
 pub end-lines : bookAfter emptyBook endAsks .lines ≡ one ∷ two ∷ []
-unfolding replies bookAfter records turn runFrom parseAt wordAt fromWord toWord answer holds change writeLine strikeLine splitOf build insert push hides? under? step? decLe decLt distance squaredDifference rank lowest gcdOf gcdBy entryBytes listBytes recordBytes
+unfolding replies bookAfter records turn runFrom parseAt formOf wordAt fromWord toWord answer holds change writeLine strikeLine splitOf build insert push hides? under? step? decLe decLt distance squaredDifference rank lowest gcdOf gcdBy entryBytes listBytes recordBytes
 end-lines = refl
 
 -- "1 from 0/1, 2 from 37/100"

@@ -9,15 +9,16 @@ use Rattle.limits.specs.Limits.{maxSites, workBytes}
 use Rattle.book.specs.declared.Reason.{Reason}
 use Rattle.book.specs.declared.Reason.the-variants.{AllUsed, WrongLength, Broken, UnknownCommand, CutShort, NoRoom}
 use Rattle.book.specs.declared.BatchResult.{BatchResult}
+use Rattle.book.specs.Command.{commandTable, longestIn}
 use Rattle.demands.specs.Batch.{Batch}
 use Rattle.demands.specs.Whole.{Call, Made, Ran}
 use Rattle.stops.specs.declared.Batched.{Batched}
 use Rattle.stops.specs.declared.Next.{Next}
 use Rattle.stops.specs.declared.Next.the-variants.{More, End, Closed}
 
--- the bytes of the longest commands, 4C and 53 with S and E
+-- the bytes of the longest command
 abbrev pub longestCommand : ℕ
-longestCommand = 9
+longestCommand = longestIn commandTable
 
 -- the bytes of a list of all sites
 abbrev pub longestRecord : ℕ

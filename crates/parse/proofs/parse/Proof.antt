@@ -1,4 +1,4 @@
-use Rattle.parse.proofs.Finding.{end-is, print-is, unknown-is}
+use Rattle.parse.proofs.Finding.{end-is, unknown-is, cut-is, whole-is}
 use borrow.Author.Needs.{needs}
 use Rattle.parse.proofs.parse.Statement.{statement}
 use Rattle.parse.proofs.parse.Tie as tie
@@ -6,64 +6,60 @@ use Rattle.parse.proofs.parse.Tie as tie
 returns : tie.Need-returns
 returns c = search (needs, end-is)
 
-shared-slice-read-mark : tie.Need-shared-slice-read-mark
-shared-slice-read-mark c = search needs
+shared-slice-read-byte : tie.Need-shared-slice-read-byte
+shared-slice-read-byte c = search needs
 
-addition-requires : tie.Need-addition-requires
-addition-requires c κs = search needs
+mark-of-requires : tie.Need-mark-of-requires
+mark-of-requires c κs = search needs
 
-removal-requires : tie.Need-removal-requires
-removal-requires c κs = search needs
+enum-known-mark : tie.Need-enum-known-mark
+enum-known-mark c = search needs
 
-relocation-requires : tie.Need-relocation-requires
-relocation-requires c κs = search needs
+enum-told : tie.Need-enum-told
+enum-told c = search needs
 
-listing-requires : tie.Need-listing-requires
-listing-requires c κs = search needs
+returns-2 : tie.Need-returns-2
+returns-2 c = search (needs, unknown-is)
 
-standing-requires : tie.Need-standing-requires
-standing-requires c κs = search needs
+add-i : tie.Need-add-i
+add-i c = search needs
+
+size-of-requires : tie.Need-size-of-requires
+size-of-requires c κs = search needs
+
+sub-if2 : tie.Need-sub-if2
+sub-if2 c = search needs
+
+returns-3 : tie.Need-returns-3
+returns-3 c = search (needs, cut-is)
+
+operands-at-requires : tie.Need-operands-at-requires
+operands-at-requires c κs = search needs
+
+command-requires : tie.Need-command-requires
+command-requires c κs = search needs
 
 add-t10 : tie.Need-add-t10
 add-t10 c = search needs
 
-returns-2 : tie.Need-returns-2
-returns-2 c = search needs
-
-returns-3 : tie.Need-returns-3
-returns-3 c = search needs
-
 returns-4 : tie.Need-returns-4
-returns-4 c = search needs
-
-returns-5 : tie.Need-returns-5
-returns-5 c = search needs
-
-returns-6 : tie.Need-returns-6
-returns-6 c = search needs
-
-returns-7 : tie.Need-returns-7
-returns-7 c = search (needs, print-is)
-
-returns-8 : tie.Need-returns-8
-returns-8 c = search (needs, unknown-is)
+returns-4 c = search (needs, whole-is)
 
 pub parse-spec : {M : Type 1} → statement M
 parse-spec =
     tie.close
     (tie.spec
     returns
-    shared-slice-read-mark
-    addition-requires
-    removal-requires
-    relocation-requires
-    listing-requires
-    standing-requires
-    add-t10
+    shared-slice-read-byte
+    mark-of-requires
+    enum-known-mark
+    enum-told
     returns-2
+    add-i
+    size-of-requires
+    sub-if2
     returns-3
-    returns-4
-    returns-5
-    returns-6
-    returns-7
-    returns-8)
+    operands-at-requires
+    command-requires
+    add-t10
+    returns-4)
