@@ -27,7 +27,3 @@ RowOk (Answer.Listed l k) t w = LegOnGrid l × Held l t w k
 pub record Judged (a : Answer) (c : Command) (t w : List ℕ) : Type 0 where
   pub said : replyOf a t w ≡ answer (bookOf t) c
   pub row : RowOk a t w
-
--- the answer is the book's, whatever stands in the row
-pub record Settled (a : Answer) (c : Command) (t : List ℕ) : Type 0 where
-  pub judged : (w : List ℕ) → Judged a c t w

@@ -1,65 +1,104 @@
 // The changes of sites: added, removed, moved.
-use crate::Answer;
+use crate::Verdict;
 use book::Cause;
 use grid::Position;
+use grid::Site;
 use sites::Found;
+ghost use Rattle.grid.specs.Position.{OnGrid};
 ghost use Rattle.book.specs.declared.Command.{Command};
+ghost use Rattle.book.specs.Proper.{NumberOk};
 ghost use Rattle.table.specs.Table.{Sound};
-ghost use Rattle.judge.specs.Judged.{Settled};
+ghost use Rattle.judge.specs.Verdict.{TestedAs, Settled};
+
+// What the tests of a number and a position find: a cause, or the site that they make.
+pub enum Tested {
+    Bad(Cause),
+    Good(Site),
+}
+
+// The tests that an addition and a move begin with: number, position.
+fn test(n: u16, p: Position) -> Tested
+    ensures { λ r. ⌜ TestedAs r n p ⌝ }
+{
+    if n == 0 {
+        return Tested::Bad(Cause::NumberZero);
+    }
+    if grid::coordinate::on_grid(p) {
+        return Tested::Good(Site {
+            number: n,
+            position: p,
+        });
+    }
+    Tested::Bad(Cause::OffGrid)
+}
+
+// An addition of this site: held, full.
+fn add_site(t: &[u8], site: Site) -> Verdict
+    requires { ⌜ Sound (now t) × NumberOk site × OnGrid (site .position) ⌝ }
+    ensures { λ r. ⌜ Settled r (Command.Add (site .number) (site .position)) (now (t .entry)) ⌝ }
+{
+    let n = site.number;
+    let found = sites::find(t, n);
+    let k = sites::count(t);
+    match found {
+        Found::At(_) => Verdict::Refuse(Cause::Held),
+        Found::Absent(at) => {
+            if k == limits::MAX_SITES {
+                return Verdict::Refuse(Cause::Full);
+            }
+            Verdict::Insert(at, site)
+        }
+    }
+}
+
+// A move of this site: held.
+fn place_site(t: &[u8], site: Site) -> Verdict
+    requires { ⌜ Sound (now t) × NumberOk site × OnGrid (site .position) ⌝ }
+    ensures { λ r. ⌜ Settled r (Command.Move (site .number) (site .position)) (now (t .entry)) ⌝ }
+{
+    let n = site.number;
+    let found = sites::find(t, n);
+    match found {
+        Found::At(at) => Verdict::Place(at, site),
+        Found::Absent(_) => Verdict::Refuse(Cause::NotHeld),
+    }
+}
 
 // An addition: number, position, held, full.
-pub fn add(t: &[u8], n: u16, p: Position) -> Answer
+pub fn add(t: &[u8], n: u16, p: Position) -> Verdict
     requires { ⌜ Sound (now t) ⌝ }
     ensures { λ r. ⌜ Settled r (Command.Add n p) (now (t .entry)) ⌝ }
 {
-    if n == 0 {
-        return Answer::Refused(Cause::NumberZero);
+    let tested = test(n, p);
+    match tested {
+        Tested::Bad(cause) => Verdict::Refuse(cause),
+        Tested::Good(site) => add_site(t, site),
     }
-    if grid::coordinate::on_grid(p) {
-        let found = sites::find(t, n);
-        let k = sites::count(t);
-        match found {
-            Found::At(_) => return Answer::Refused(Cause::Held),
-            Found::Absent(_) => {
-                if k == limits::MAX_SITES {
-                    return Answer::Refused(Cause::Full);
-                }
-                return Answer::Done;
-            }
-        }
-    }
-    Answer::Refused(Cause::OffGrid)
 }
 
 // A removal: number, held.
-pub fn remove(t: &[u8], n: u16) -> Answer
+pub fn remove(t: &[u8], n: u16) -> Verdict
     requires { ⌜ Sound (now t) ⌝ }
     ensures { λ r. ⌜ Settled r (Command.Remove n) (now (t .entry)) ⌝ }
 {
     if n == 0 {
-        return Answer::Refused(Cause::NumberZero);
+        return Verdict::Refuse(Cause::NumberZero);
     }
     let found = sites::find(t, n);
     match found {
-        Found::At(_) => Answer::Done,
-        Found::Absent(_) => Answer::Refused(Cause::NotHeld),
+        Found::At(at) => Verdict::Delete(at, n),
+        Found::Absent(_) => Verdict::Refuse(Cause::NotHeld),
     }
 }
 
 // A move: number, position, held.
-pub fn relocate(t: &[u8], n: u16, p: Position) -> Answer
+pub fn place(t: &[u8], n: u16, p: Position) -> Verdict
     requires { ⌜ Sound (now t) ⌝ }
     ensures { λ r. ⌜ Settled r (Command.Move n p) (now (t .entry)) ⌝ }
 {
-    if n == 0 {
-        return Answer::Refused(Cause::NumberZero);
+    let tested = test(n, p);
+    match tested {
+        Tested::Bad(cause) => Verdict::Refuse(cause),
+        Tested::Good(site) => place_site(t, site),
     }
-    if grid::coordinate::on_grid(p) {
-        let found = sites::find(t, n);
-        match found {
-            Found::At(_) => return Answer::Done,
-            Found::Absent(_) => return Answer::Refused(Cause::NotHeld),
-        }
-    }
-    Answer::Refused(Cause::OffGrid)
 }

@@ -41,8 +41,9 @@ use Rattle.demands.specs.Step.{Holds}
 use Rattle.stored_list.specs.Loading.{PlaceOf, NumbersHeld, PlacesOf, EntryShuts}
 use Rattle.stored_list.proofs.Rows.{standing-length, numbers-length, Stored, stored-few, stored-held, places-held, places-list}
 use Rattle.stored_list.proofs.Ends.{shut-true, entry-shuts-out}
+use Rattle.table_search.proofs.Listing.{whole-numbered}
 use Rattle.list_change.specs.Patching.{ListsOthers, Patchable}
-use Rattle.list_change.proofs.Restanding.{whole-numbered, stored-holds}
+use Rattle.list_change.proofs.Restanding.{stored-holds}
 
 numbered-same : (s u : List Site) → SameSites u s → Numbered u → Numbered s
 numbered-same s u w n =

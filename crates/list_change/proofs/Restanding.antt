@@ -12,11 +12,10 @@ use Rattle.words.proofs.Frame.{only-putWord, word-putWord}
 use Rattle.grid.specs.declared.Site.{Site}
 use Rattle.grid.specs.declared.Leg.{Leg}
 use Rattle.grid.specs.Position.{LegOnGrid}
-use Rattle.split.specs.SplitList.{Entry, Numbered}
+use Rattle.split.specs.SplitList.{Entry}
 use Rattle.row.specs.Vertices.{entriesIn}
 use Rattle.book.specs.Book.{listOf}
 use Rattle.book.specs.Proper.{LegOk}
-use Rattle.book.proofs.Lines.{rising-one}
 use Rattle.sites.specs.Lines.{countIn, linesIn}
 use Rattle.standing.specs.declared.Standing.{Standing}
 use Rattle.standing.specs.Layout.{lengthStart, listStart}
@@ -24,18 +23,12 @@ use Rattle.standing.specs.Standing.{legIn, wordsFrom, standingIn, numbersOf, as
 use Rattle.node.specs.Layout.{treeStart}
 use Rattle.node.specs.Tally.{total}
 use Rattle.rtree.proofs.Outside.{rooted-below, leaves-below}
-use Rattle.tree_search.specs.Searching.{Found}
-use Rattle.tree_search.proofs.Finding.{found-is}
 use Rattle.tree_check.specs.Tied.{Tied}
 use Rattle.table.specs.Table.{bookOf, leafEntries, Whole}
+use Rattle.table.specs.Listing.{ListsTable}
 use Rattle.table.proofs.Same.{lines-same, sites-same, leg-same, header-same}
 use Rattle.table.proofs.Leaves.{tied-lines, lines-tied}
 use Rattle.demands.specs.Step.{Holds}
-use Rattle.list_change.proofs.Points.{tree-sites}
-
--- no number is held twice
-pub whole-numbered : (b : List ℕ) → Whole b → Numbered (linesIn b)
-whole-numbered b w = record { small = λ p m. w .sites .numbers p m .most; one = rising-one (linesIn b) (w .sites .rising) }
 
 -- a change below the tree keeps the tree's rules and leaf entries, if the lines stay
 pub tied-below : {lo : ℕ} (b b′ : List ℕ) → Only lo treeStart b b′ → linesIn b′ ≡ linesIn b → Tied (countIn b) b → Tied (countIn b′) b′
@@ -105,9 +98,8 @@ restood-none b b′ s w leg q u e =
 pub along-leg : (b : List ℕ) (s : Standing) (l : Leg) → LegOk (legIn b) → asOption s ≡ legIn b → s ≡ Standing.Along l → LegOnGrid l
 along-leg b s l leg q u = subst LegOk (sym q ∙ ap asOption u) leg
 
-pub restood-list : (b b′ : List ℕ) (s : Standing) (l : Leg) (r r′ : List ℕ) (k : ℕ) → Whole b → LegOk (legIn b) → asOption s ≡ legIn b → s ≡ Standing.Along l
-    → Found l b r r′ k → ListStored (entriesIn l b r′ k) b b′ → Holds b′ (bookOf b)
-restood-list b b′ s l r r′ k w leg q u f st =
+pub restood-list : (b b′ : List ℕ) (s : Standing) (l : Leg) (r : List ℕ) (k : ℕ) → Whole b → LegOk (legIn b) → asOption s ≡ legIn b → s ≡ Standing.Along l
+    → ListsTable l b r k → ListStored (entriesIn l b r k) b b′ → Holds b′ (bookOf b)
+restood-list b b′ s l r k w leg q u f st =
     let n : legIn b ≡ some l = sym q ∙ ap asOption u in
-    stored-holds b b′ w (entriesIn l b r′ k) st leg
-    (ap numbersOf (found-is f (linesIn b) (whole-numbered b w) (tree-sites b w)) ∙ sym (ap (λ (o : Option Leg). numbersOf (listOf o (linesIn b))) n))
+    stored-holds b b′ w (entriesIn l b r k) st leg (ap numbersOf (f .list) ∙ sym (ap (λ (o : Option Leg). numbersOf (listOf o (linesIn b))) n))

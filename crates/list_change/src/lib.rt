@@ -25,7 +25,7 @@ pub fn restand(t: &mut [u8], work: &mut [u8])
     match s {
         Standing::Unset => words::put_word(t, standing::LENGTH_START, 0),
         Standing::Along(leg) => {
-            let k = tree_search::search(t, leg, work);
+            let k = table_search::search(t, leg, work);
             standing::store_list(t, work, leg, k);
         }
     }

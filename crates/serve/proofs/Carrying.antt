@@ -1,88 +1,94 @@
--- A judged command, done: the table as the book's answer demands.
+-- A verdict, carried out: the table as the book's answer demands.
 -- Assumes nothing.
-use mathlib.Core.Path.{_≡_, refl, sym, ap, subst, subst⁻¹, _∙_}
-use mathlib.Core.Bool.{Bool, true, false}
+use mathlib.Core.Path.{_≡_, sym, ap, subst, subst⁻¹}
+use mathlib.Core.Bool.{Bool}
 use mathlib.Core.List.{List}
-use Prim.Native.Nat.{ℕ}
+use Prim.Native.Nat.{ℕ, _<_}
+use lib.ListN.{length}
+use Rattle.limits.specs.Limits.{maxSites}
+use Rattle.grid.specs.declared.Site.{Site}
 use Rattle.grid.specs.declared.Leg.{Leg}
-use Rattle.grid.specs.Says.{Says}
-use Rattle.grid.proofs.Says.{says-yes, says-no}
-use Rattle.split.specs.SplitList.{Entry}
-use Rattle.records.specs.Bytes.{write}
-use Rattle.row.specs.Vertices.{entriesIn}
+use Rattle.grid.specs.Position.{OnGrid, LegOnGrid}
+use Rattle.book.specs.declared.Cause.{Cause}
 use Rattle.book.specs.declared.Command.{Command}
-use Rattle.book.specs.declared.Command.the-variants.{Add, Remove, Move, List as ListOf, Stand, Print}
+use Rattle.book.specs.declared.Command.the-variants.{Add, Remove, Move, Stand}
 use Rattle.book.specs.Book.{change}
-use Rattle.book.specs.Reply.{Reply, done, listed, recordOf}
-use Rattle.book.specs.Answer.{answer, reads}
-use Rattle.book.proofs.Answers.{list-not-done, print-not-done, add-not-listed, remove-not-listed, move-not-listed, stand-not-listed}
+use Rattle.book.specs.Proper.{NumberOk}
+use Rattle.book.specs.Reply.{Reply, done, listed}
+use Rattle.book.specs.Answer.{answer}
+use Rattle.row.specs.Vertices.{entriesIn}
+use Rattle.sites.specs.Lines.{linesIn, StandsAt, StandsNowhere}
 use Rattle.table.specs.Table.{bookOf}
 use Rattle.demands.specs.Step.{Holds, Left, Step}
-use Rattle.judge.specs.declared.Answer.{Answer}
-use Rattle.judge.specs.Judged.{replyOf, Judged}
-use Rattle.serve.specs.Serving.{Obeyed}
+use Rattle.judge.specs.declared.Verdict.{Verdict}
+use Rattle.judge.specs.Verdict.{Insertable, Findings, Decided}
+use Rattle.serve.specs.Serving.{Carried}
 
--- ---- accepted commands
+-- ---- each verdict
 
-module _ (t : List ℕ) (c d : Command) (e : c ≡ d) where
-  pub done-same : answer (bookOf t) c ≡ done → answer (bookOf t) d ≡ done
-  done-same h = ap (answer (bookOf t)) (sym e) ∙ h
+module _ (t t′ : List ℕ) (v : Verdict) where
+  pub refused-left : (x : Cause) → v ≡ Verdict.Refuse x → Carried v t t
+  refused-left x e = subst⁻¹ (λ (y : Verdict). Carried y t t) e (λ i. t)
 
-  pub carried : (t′ : List ℕ) → Holds t′ (change d (bookOf t)) → Holds t′ (change c (bookOf t))
-  carried t′ h = subst (λ (x : Command). Holds t′ (change x (bookOf t))) (sym e) h
+  pub shown-left : (l : Leg) (k : ℕ) → v ≡ Verdict.Show l k → Carried v t t
+  shown-left l k e = subst⁻¹ (λ (y : Verdict). Carried y t t) e (λ i. t)
 
-module _ (t : List ℕ) (c : Command) (h : answer (bookOf t) c ≡ done) where
-  pub never-list : (l : Leg) → c ≡ ListOf l → Holds t (change c (bookOf t))
-  never-list l e = absurd (list-not-done (bookOf t) l (ap (answer (bookOf t)) (sym e) ∙ h))
+  module _ (k : ℕ) (p : Site) (e : v ≡ Verdict.Insert k p) where
+    insertable : Findings v t → Insertable k p t
+    insertable f = subst (λ (y : Verdict). Findings y t) e f
 
-  pub never-print : c ≡ Print → Holds t (change c (bookOf t))
-  never-print e = absurd (print-not-done (bookOf t) (ap (answer (bookOf t)) (sym e) ∙ h))
+    pub insert-nowhere : Findings v t → StandsNowhere k (p .number) (linesIn t)
+    insert-nowhere f = insertable f .nowhere
 
--- ---- judged commands
+    pub insert-room : Findings v t → length (linesIn t) < maxSites
+    insert-room f = insertable f .room
 
-module _ (a : Answer) (c : Command) (t w : List ℕ) (j : Judged a c t w) where
-  pub judged-done : (q : Bool) → Says q (a ≡ Answer.Done) → q ≡ true → answer (bookOf t) c ≡ done
-  judged-done q s e = sym (j .said) ∙ ap (λ (y : Answer). replyOf y t w) (says-yes q s e)
+    pub insert-number : Findings v t → NumberOk p
+    insert-number f = insertable f .number
 
-  module _ (rep rep′ : List ℕ) (at : ℕ) (p : rep′ ≡ write rep at (recordOf (replyOf a t w))) where
-    written : rep′ ≡ write rep at (recordOf (answer (bookOf t) c))
-    written = p ∙ ap (λ (y : Reply). write rep at (recordOf y)) (j .said)
+    pub insert-grid : Findings v t → OnGrid (p .position)
+    insert-grid f = insertable f .onGrid
 
-    -- what is answered by 2B changes the table
-    done-changes : (x : Command) → answer (bookOf t) x ≡ done → reads x ≡ false
-    done-changes (Add n q) h = refl
-    done-changes (Remove n) h = refl
-    done-changes (Move n q) h = refl
-    done-changes (ListOf l) h = absurd (list-not-done (bookOf t) l h)
-    done-changes (Stand l) h = refl
-    done-changes Print h = absurd (print-not-done (bookOf t) h)
+    pub inserted : Holds t′ (change (Add (p .number) (p .position)) (bookOf t)) → Carried v t t′
+    inserted h = subst⁻¹ (λ (y : Verdict). Carried y t t′) e h
 
-    -- what is answered by a list does not
-    listed-reads : (x : Command) (es : List Entry) → answer (bookOf t) x ≡ listed es → reads x ≡ true
-    listed-reads (Add n q) es h = absurd (add-not-listed (bookOf t) n q es h)
-    listed-reads (Remove n) es h = absurd (remove-not-listed (bookOf t) n es h)
-    listed-reads (Move n q) es h = absurd (move-not-listed (bookOf t) n q es h)
-    listed-reads (ListOf l) es h = refl
-    listed-reads (Stand l) es h = absurd (stand-not-listed (bookOf t) l es h)
-    listed-reads Print es h = refl
+  module _ (k n : ℕ) (e : v ≡ Verdict.Delete k n) where
+    pub delete-at : Findings v t → StandsAt k n (linesIn t)
+    delete-at f = subst (λ (y : Verdict). Findings y t) e f
 
-    stepped : (t′ : List ℕ) → Step t c (replyOf a t w) t′ → Obeyed c t t′ rep at rep′
-    stepped t′ s = record { step = subst (λ (y : Reply). Step t c y t′) (j .said) s; report = written }
+    pub deleted : Holds t′ (change (Remove n) (bookOf t)) → Carried v t t′
+    deleted h = subst⁻¹ (λ (y : Verdict). Carried y t t′) e h
 
-    pub obeyed-done : (t′ : List ℕ) (q : Bool) → Says q (a ≡ Answer.Done) → q ≡ true → Holds t′ (change c (bookOf t)) → Obeyed c t t′ rep at rep′
-    obeyed-done t′ q s e h =
-        stepped t′
-        (subst (λ (y : Answer). Step t c (replyOf y t w) t′) (sym (says-yes q s e))
-        (subst⁻¹ (λ (k : Bool). Left k t (change c (bookOf t)) t′) (done-changes c (judged-done q s e)) h))
+  module _ (k : ℕ) (p : Site) (e : v ≡ Verdict.Place k p) where
+    pub place-at : Findings v t → StandsAt k (p .number) (linesIn t)
+    place-at f = subst (λ (y : Verdict). Findings y t) e f .0
 
-    pub obeyed-kept : (q : Bool) → Says q (a ≡ Answer.Done) → q ≡ false → Obeyed c t t rep at rep′
-    obeyed-kept q s e = go a refl
-      where
-        go : (y : Answer) → a ≡ y → Obeyed c t t rep at rep′
-        go Answer.Done k = absurd (says-no q s e k)
-        go (Answer.Refused x) k = stepped t (subst (λ (y : Answer). Step t c (replyOf y t w) t) (sym k) refl)
-        go (Answer.Listed l n) k =
-            stepped t
-            (subst (λ (y : Answer). Step t c (replyOf y t w) t) (sym k)
-            (subst⁻¹ (λ (z : Bool). Left z t (change c (bookOf t)) t)
-            (listed-reads c (entriesIn l t w n) (sym (j .said) ∙ ap (λ (y : Answer). replyOf y t w) k)) refl))
+    pub place-grid : Findings v t → OnGrid (p .position)
+    place-grid f = subst (λ (y : Verdict). Findings y t) e f .1
+
+    pub placed : Holds t′ (change (Move (p .number) (p .position)) (bookOf t)) → Carried v t t′
+    placed h = subst⁻¹ (λ (y : Verdict). Carried y t t′) e h
+
+  module _ (l : Leg) (e : v ≡ Verdict.Stand l) where
+    pub stand-grid : Findings v t → LegOnGrid l
+    stand-grid f = subst (λ (y : Verdict). Findings y t) e f
+
+    pub stood : Holds t′ (change (Stand l) (bookOf t)) → Carried v t t′
+    stood h = subst⁻¹ (λ (y : Verdict). Carried y t t′) e h
+
+-- ---- the book's step
+
+module _ (c : Command) (t w t′ : List ℕ) where
+  -- an accepted command that changes the table
+  accepted-step : (d : Command) → c ≡ d → done ≡ answer (bookOf t) c → Step t d done t′ → Step t c (answer (bookOf t) c) t′
+  accepted-step d e a s = subst (λ (y : Reply). Step t c y t′) a (subst⁻¹ (λ (x : Command). Step t x done t′) e s)
+
+  -- A VERDICT DOES WHAT THE BOOK'S ANSWER DEMANDS
+  pub carried-step : (v : Verdict) → Decided v c t w → Carried v t t′ → Step t c (answer (bookOf t) c) t′
+  carried-step (Verdict.Refuse x) d h = subst (λ (y : Reply). Step t c y t′) (d .judged .said) h
+  carried-step (Verdict.Show l k) d h =
+      subst (λ (y : Reply). Step t c y t′) (d .judged .said) (subst⁻¹ (λ (q : Bool). Left q t (change c (bookOf t)) t′) (d .command) h)
+  carried-step (Verdict.Insert k p) d h = accepted-step (Add (p .number) (p .position)) (d .command) (d .judged .said) h
+  carried-step (Verdict.Delete k n) d h = accepted-step (Remove n) (d .command) (d .judged .said) h
+  carried-step (Verdict.Place k p) d h = accepted-step (Move (p .number) (p .position)) (d .command) (d .judged .said) h
+  carried-step (Verdict.Stand l) d h = accepted-step (Stand l) (d .command) (d .judged .said) h

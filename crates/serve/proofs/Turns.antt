@@ -26,9 +26,11 @@ use Rattle.demands.specs.Step.Chain.{none, next}
 use Rattle.demands.specs.Batch.{returns, returnOf}
 use Rattle.demands.proofs.Chains.{chain-holds}
 use Rattle.judge.specs.declared.Answer.{Answer}
-use Rattle.judge.specs.Judged.{Judged}
+use Rattle.judge.specs.declared.Verdict.{Verdict}
+use Rattle.judge.specs.Verdict.{answerOf, Decided}
 use Rattle.serve.specs.Serving.{sizeOf, Obeyed, EndsAs, Answered}
 use Rattle.serve.proofs.Recording.{size-is}
+use Rattle.serve.proofs.Carrying.{carried-step}
 
 -- a chain, and one step more
 chain-more : (t : List ℕ) (us : List Turn) (t₁ t′ : List ℕ) (u : Turn) → Chain t us t₁ → Step t₁ (u .command) (u .reply) t′ → Chain t (us ++ (u ∷ [])) t′
@@ -45,8 +47,8 @@ report-more r x rep₀ h =
     ∙ sym (append-assoc r x (drop (length r + length x) rep₀))
 
 -- the record has room
-pub turn-fits : (a : Answer) (n written size : ℕ) → written ≤ n → size ≡ sizeOf a → size ≤ n - written → written + sizeOf a ≤ n
-turn-fits a n written size w e h = omega arith
+pub turn-fits : (v : Verdict) (a : Answer) (n written size : ℕ) → written ≤ n → a ≡ answerOf v → size ≡ sizeOf a → size ≤ n - written → written + sizeOf (answerOf v) ≤ n
+turn-fits v a n written size w ha e h = omega (arith, ap sizeOf ha)
 
 -- what is written then is no more than the report
 pub turn-room : (n written size : ℕ) → written ≤ n → size ≤ n - written → written + size ≤ n
@@ -106,29 +108,34 @@ module _ (cs t₀ rep₀ : List ℕ) (used written : ℕ) (t rep : List ℕ) (s 
       pub fewer-left : length cs - after-it < length cs - used
       fewer-left = steps-less cs (length rep₀) (bookOf t₀) used (s .past) (bookOf t) (s .steps) p hp c after-it hc
 
-      module _ (a : Answer) (w : List ℕ) (j : Judged a c t w) (size : ℕ) (hs : size ≡ sizeOf a) where
+      module _ (v : Verdict) (a : Answer) (w : List ℕ) (d : Decided v c t w) (ha : a ≡ answerOf v) (size : ℕ) (hs : size ≡ sizeOf a) where
+        long : size ≡ length (recordOf (answer (bookOf t) c))
+        long = hs ∙ ap sizeOf ha ∙ size-is (answerOf v) c t w (d .judged)
+
         pub ended-full : length rep - written < size → (r : BatchResult) → returnOf r ≡ returns (reasonNumber NoRoom) used written → Answered cs t₀ rep₀ r t rep
         ended-full h =
             ended NoRoom
             (ends-full cs (length rep₀) (bookOf t₀) used (s .past) (bookOf t) (s .steps) p hp c after-it hc
-            (omega (arith, room, s .count, serving-fits, size-is a c t w j)))
+            (omega (arith, room, s .count, serving-fits, long)))
 
         -- ONE TURN
-        pub serving-one : size ≤ length rep - written → (t′ rep′ : List ℕ) → Obeyed c t t′ rep written rep′
+        pub serving-one : size ≤ length rep - written → (t′ rep′ : List ℕ) → Obeyed v t w t′ rep written rep′
             → Serving cs t₀ rep₀ after-it (written + size) t′ rep′
         serving-one h t′ rep′ o =
             let u = turnOf (bookOf t) c in
-            let b = chain-holds t (s .sound) (u ∷ []) t′ (next (o .step) none) in
+            let step : Step t c (answer (bookOf t) c) t′ = carried-step c t w t′ v d (o .carried) in
+            let b = chain-holds t (s .sound) (u ∷ []) t′ (next step none) in
             let fits : length (records (s .past)) + length (recordOf (answer (bookOf t) c)) ≤ length rep₀ =
-            omega (arith, room, s .count, serving-fits, size-is a c t w j)
+            omega (arith, room, s .count, serving-fits, long)
             in
             record {
               past = s .past ++ (u ∷ []);
               steps = rw (b .book) (steps-one cs (length rep₀) (bookOf t₀) used (s .past) (bookOf t) (s .steps) p hp c after-it hc fits);
-              chain = chain-more t₀ (s .past) t t′ u (s .chain) (o .step);
+              chain = chain-more t₀ (s .past) t t′ u (s .chain) step;
               sound = b .sound;
-              count = omega (arith, s .count, records-more (s .past) u, size-is a c t w j);
-              report = o .report ∙ (λ i. write (s .report i) (s .count i) (recordOf (answer (bookOf t) c)))
+              count = omega (arith, s .count, records-more (s .past) u, long);
+              report = o .report
+                  ∙ (λ i. write (s .report i) (s .count i) (recordOf (d .judged .said i)))
                   ∙ report-more (records (s .past)) (recordOf (answer (bookOf t) c)) rep₀ fits
                   ∙ (λ i. (ap (λ (y : List ℕ). records (s .past) ++ y) (sym (records-one u)) ∙ sym (records-append (s .past) (u ∷ []))) i ++ drop (sym (records-more (s .past) u) i) rep₀);
             }

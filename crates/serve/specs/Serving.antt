@@ -6,16 +6,19 @@ use Prim.Native.Nat.{ℕ, _+_, _*_, _≤_}
 use lib.ListN.{length, drop}
 use Rattle.limits.specs.Limits.{maxSites}
 use Rattle.records.specs.Bytes.{write}
-use Rattle.book.specs.declared.Command.{Command}
+use Rattle.book.specs.declared.Command.the-variants.{Add, Remove, Move, Stand}
 use Rattle.book.specs.declared.BatchResult.{BatchResult}
 use Rattle.book.specs.Numbers.{reasonNumber}
+use Rattle.book.specs.Book.{change}
 use Rattle.book.specs.Reply.{recordOf}
-use Rattle.book.specs.Answer.{answer}
 use Rattle.book.specs.Run.{Outcome, records, run}
 use Rattle.table.specs.Table.{bookOf}
-use Rattle.demands.specs.Step.{Step, Chain}
+use Rattle.demands.specs.Step.{Holds, Chain}
 use Rattle.demands.specs.Batch.{returns, returnOf}
 use Rattle.judge.specs.declared.Answer.{Answer}
+use Rattle.judge.specs.declared.Verdict.{Verdict}
+use Rattle.judge.specs.Judged.{replyOf}
+use Rattle.judge.specs.Verdict.{answerOf}
 
 -- the length of an answer's record
 abbrev pub sizeOf : Answer → ℕ
@@ -29,10 +32,19 @@ Few Answer.Done = Unit {0}
 Few (Answer.Refused x) = Unit {0}
 Few (Answer.Listed l k) = k ≤ maxSites
 
--- one command done: the table as the answer demands, the record at byte `at` of the report
-pub record Obeyed (c : Command) (t t′ rep : List ℕ) (at : ℕ) (rep′ : List ℕ) : Type 0 where
-  pub step : Step t c (answer (bookOf t) c) t′
-  pub report : rep′ ≡ write rep at (recordOf (answer (bookOf t) c))
+-- what a verdict does to the table: nothing, or what the book does for its command
+abbrev pub Carried : Verdict → List ℕ → List ℕ → Type 0
+Carried (Verdict.Refuse x) t t′ = t′ ≡ t
+Carried (Verdict.Show l k) t t′ = t′ ≡ t
+Carried (Verdict.Insert k p) t t′ = Holds t′ (change (Add (p .number) (p .position)) (bookOf t))
+Carried (Verdict.Delete k n) t t′ = Holds t′ (change (Remove n) (bookOf t))
+Carried (Verdict.Place k p) t t′ = Holds t′ (change (Move (p .number) (p .position)) (bookOf t))
+Carried (Verdict.Stand l) t t′ = Holds t′ (change (Stand l) (bookOf t))
+
+-- a verdict carried out: the table, and the record at byte `at` of the report
+pub record Obeyed (v : Verdict) (t w t′ rep : List ℕ) (at : ℕ) (rep′ : List ℕ) : Type 0 where
+  pub carried : Carried v t t′
+  pub report : rep′ ≡ write rep at (recordOf (replyOf (answerOf v) t w))
 
 -- a batch ended as the outcome o says: result, report and table
 pub record EndsAs (o : Outcome) (t rep : List ℕ) (r : BatchResult) (t′ rep′ : List ℕ) : Type 0 where

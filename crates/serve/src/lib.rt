@@ -3,10 +3,9 @@ pub mod carry;
 pub mod record;
 
 use book::BatchResult;
-use book::Command;
 use book::Parsed;
 use book::Reason;
-use judge::Answer;
+use judge::Verdict;
 ghost use mathlib.Core.Path.{_≡_};
 ghost use Prim.Native.Nat.{_+_, _*_, _≤_};
 ghost use lib.ListN.{length};
@@ -14,19 +13,19 @@ ghost use Rattle.row.specs.Vertices.{rowBytes};
 ghost use Rattle.table.specs.Table.{Sound};
 ghost use Rattle.book.specs.Numbers.{reasonNumber};
 ghost use Rattle.demands.specs.Batch.{returns, returnOf};
-ghost use Rattle.judge.specs.Judged.{Judged};
+ghost use Rattle.judge.specs.Judged.{RowOk};
+ghost use Rattle.judge.specs.Verdict.{answerOf, Findings};
 ghost use Rattle.serve.specs.Serving.{sizeOf, Obeyed, Answered};
 
-// Writes the record of a judged command, and carries it out if it is accepted.
-fn obey(t: &mut [u8], work: &mut [u8], c: Command, a: Answer, report: &mut [u8], at: usize)
-    requires { ⌜ Sound (now t) × (2 * rowBytes ≤ length (now work)) × Judged a c (now t) (now work) × (at + sizeOf a ≤ length (now report)) ⌝ }
-    ensures { λ _. ⌜ Obeyed c (now (t .entry)) (now (t .exit)) (now (report .entry)) at (now (report .exit)) ⌝ }
+// Writes the record of a verdict, and does what it says.
+fn obey(t: &mut [u8], work: &mut [u8], v: Verdict, report: &mut [u8], at: usize)
+    requires { ⌜ Sound (now t) × (2 * rowBytes ≤ length (now work)) ⌝ }
+    requires { ⌜ Findings v (now t) × RowOk (answerOf v) (now t) (now work) × (at + sizeOf (answerOf v) ≤ length (now report)) ⌝ }
+    ensures { λ _. ⌜ Obeyed v (now (t .entry)) (now (work .entry)) (now (t .exit)) (now (report .entry)) at (now (report .exit)) ⌝ }
 {
+    let a = judge::reply(v);
     record::put(t, work, a, report, at);
-    let accepted = judge::accepted(a);
-    if accepted {
-        carry::carry(t, work, c);
-    }
+    carry::carry(t, work, v);
 }
 
 // The result of a batch that ends here.
@@ -54,13 +53,14 @@ pub fn serve(t: &mut [u8], work: &mut [u8], commands: &[u8], report: &mut [u8]) 
             Parsed::Unknown => return ended(Reason::UnknownCommand, used, written),
             Parsed::Cut => return ended(Reason::CutShort, used, written),
             Parsed::Whole(c, next) => {
-                let a = judge::judge(t, work, c);
+                let v = judge::judge(t, work, c);
+                let a = judge::reply(v);
                 let size = record::size(a);
                 if report.len() - written < size {
                     return ended(Reason::NoRoom, used, written);
                 }
                 let upto = written + size;
-                obey(t, work, c, a, report, written);
+                obey(t, work, v, report, written);
                 used = next;
                 written = upto;
             }

@@ -30,7 +30,8 @@ use Rattle.sites.proofs.Reading.{lines-length}
 use Rattle.standing.specs.Layout.{lengthStart, listStart}
 use Rattle.standing.specs.Standing.{legIn, wordsFrom, standingIn, numbersOf}
 use Rattle.table.specs.Table.{Sound}
-use Rattle.stored_list.specs.Loading.{PlaceOf, NumbersHeld, PlacesOf, Loaded}
+use Rattle.table.specs.Listing.{ListsTable}
+use Rattle.stored_list.specs.Loading.{PlaceOf, NumbersHeld, PlacesOf}
 
 -- the numbers of points
 abbrev pub numbersIn : List Point → List ℕ
@@ -258,11 +259,10 @@ module _ (b : List ℕ) (l : Leg) (s : Sound b) (set : legIn b ≡ some l) where
   pub sound-held : NumbersHeld b
   sound-held = stored-held l (linesIn b) b sound-stored
 
-  pub loaded : (k : ℕ) (r r′ : List ℕ) → rowBytes ≤ length r → PlacesOf b r r′ k → Loaded l b r r′ k
+  pub loaded : (k : ℕ) (r r′ : List ℕ) → rowBytes ≤ length r → PlacesOf b r r′ k → ListsTable l b r′ k
   unfolding splitOf
   loaded k r r′ room m =
       record {
         held = places-held l (linesIn b) b sound-stored k r r′ room m;
         list = ap entriesOf (stack-is l (linesIn b) b sound-stored k r r′ room m);
-        only = m .only;
       }

@@ -7,10 +7,9 @@ use Prim.Native.Nat.{ℕ, _+_, _*_, _≤_, _<_}
 use Rattle.limits.specs.Limits.{maxSites}
 use Rattle.words.specs.Words.{wordAt, Only}
 use Rattle.grid.specs.declared.Leg.{Leg}
-use Rattle.split.specs.SplitOf.{splitOf}
 use Rattle.split.specs.Skip.{Shut}
 use Rattle.row.specs.Places.{siteAt, HasSite}
-use Rattle.row.specs.Vertices.{pointAt, rowBytes, placeAt, Held, entriesIn}
+use Rattle.row.specs.Vertices.{pointAt, rowBytes, placeAt}
 use Rattle.book.specs.Book.{holds}
 use Rattle.sites.specs.Lines.{linesIn}
 use Rattle.standing.specs.Layout.{lengthStart, listStart}
@@ -30,12 +29,6 @@ pub record NumbersHeld (b : List ℕ) : Type 0 where
 pub record PlacesOf (b r r′ : List ℕ) (k : ℕ) : Type 0 where
   pub count : k ≡ wordAt b lengthStart
   pub places : (i : ℕ) → i < k → PlaceOf b (wordAt b (listStart + 2 * i)) (placeAt r′ i)
-  pub only : Only 0 rowBytes r r′
-
--- the first k of the row are the list of the leg over the lines: what "50 prints"
-pub record Loaded (l : Leg) (b r r′ : List ℕ) (k : ℕ) : Type 0 where
-  pub held : Held l b r′ k
-  pub list : entriesIn l b r′ k ≡ splitOf l (linesIn b)
   pub only : Only 0 rowBytes r r′
 
 -- the site of one entry shuts out all that is at or beyond the corner (a, c)

@@ -21,7 +21,8 @@ ghost use Rattle.sites.specs.Rules.{SitesOk};
 ghost use Rattle.standing.specs.Layout.{lengthStart};
 ghost use Rattle.standing.specs.Standing.{legIn, standingIn};
 ghost use Rattle.table.specs.Table.{Sound};
-ghost use Rattle.stored_list.specs.Loading.{PlaceOf, NumbersHeld, PlacesOf, Loaded, EntryShuts};
+ghost use Rattle.table.specs.Listing.{ListsTable};
+ghost use Rattle.stored_list.specs.Loading.{PlaceOf, NumbersHeld, PlacesOf, EntryShuts};
 
 // The place of record k.
 fn record_place(k: usize) -> usize
@@ -71,7 +72,7 @@ pub fn places(t: &[u8], work: &mut [u8]) -> usize
 // Loads the standing list into the row that begins the work buffer.
 pub fn load(t: &[u8], work: &mut [u8], leg: Leg) -> usize
     requires { ⌜ Sound (now t) × (legIn (now t) ≡ some leg) × (rowBytes ≤ length (now work)) ⌝ }
-    ensures { λ r. ⌜ Loaded leg (now (t .entry)) (now (work .entry)) (now (work .exit)) r ⌝ }
+    ensures { λ r. ⌜ ListsTable leg (now (t .entry)) (now (work .exit)) r ⌝ }
 {
     places(t, work)
 }

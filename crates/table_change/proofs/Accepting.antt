@@ -1,28 +1,20 @@
 -- An accepted change, carried out: the table holds the changed book.
 -- Assumes nothing.
 use mathlib.Core.Path.{_≡_, sym, ap, subst, _∙_}
-use mathlib.Core.Bool.{true, false, true≢false}
+use mathlib.Core.Bool.{false}
 use mathlib.Core.List.{List}
-use Prim.Native.Nat.{ℕ, _<_}
+use Prim.Native.Nat.{ℕ}
 use native.Mathlib.Omega.{arith}
-use lib.ListN.{length}
-use Rattle.limits.specs.Limits.{maxSites}
 use Rattle.words.specs.Words.{Only}
 use Rattle.grid.specs.declared.Position.{Position}
 use Rattle.grid.specs.declared.Site.{Site}
 use Rattle.grid.specs.declared.Leg.{Leg}
-use Rattle.grid.specs.Position.{OnGrid}
+use Rattle.grid.specs.Position.{LegOnGrid}
 use Rattle.book.specs.declared.Command.the-variants.{Add, Remove, Move, Stand}
 use Rattle.book.specs.Book.{writeLine, strikeLine, moveLine, holds, change}
-use Rattle.book.specs.Proper.{LegOk, NumberOk}
-use Rattle.book.specs.Reply.{done}
-use Rattle.book.specs.Answer.{answer}
-use Rattle.book.proofs.Lines.{siteAs, strike-none, holds-strike}
-use Rattle.book.proofs.Answers.{add-accepted, remove-accepted, move-accepted, stand-accepted}
-use Rattle.sites.specs.declared.Found.{Found}
-use Rattle.sites.specs.Lines.{linesIn, StandsAt, StandsNowhere, FoundAs}
-use Rattle.sites.proofs.Reading.{lines-length}
-use Rattle.sites.proofs.Finding.{found-at, found-absent, at-held, absent-held}
+use Rattle.book.specs.Proper.{LegOk}
+use Rattle.book.proofs.Lines.{strike-none, holds-strike}
+use Rattle.sites.specs.Lines.{linesIn, StandsAt, StandsNowhere}
 use Rattle.standing.specs.Layout.{flagStart}
 use Rattle.standing.specs.Standing.{legIn, ZeroFrom, LegStored}
 use Rattle.node.specs.Layout.{treeStart}
@@ -47,73 +39,43 @@ module _ (b b₁ : List ℕ) (l : List Site) (s : Sound b) (r : Relined l b b₁
   pub relined-holds : (b₂ : List ℕ) → Holds b₂ (bookOf b₁) → Holds b₂ (record { lines = l; leg = legIn b })
   relined-holds b₂ h = subst (Holds b₂) relined-book h
 
-module _ (b : List ℕ) (n : ℕ) (p : Position) (s : Sound b) (acc : answer (bookOf b) (Add n p) ≡ done) where
-  pub add-nowhere : (f : Found) (k : ℕ) → f ≡ Found.Absent k → FoundAs f n (linesIn b) → StandsNowhere k n (linesIn b)
-  add-nowhere f k e a = found-absent e a
+module _ (b b₁ : List ℕ) (p : Site) (s : Sound b) (r : Relined (writeLine p (linesIn b)) b b₁) where
+  pub add-patch : Patchable (p .number) b₁
+  add-patch = relined-patch b b₁ (writeLine p (linesIn b)) s r (p .number) (strike-written p (linesIn b))
 
-  pub add-room : length (linesIn b) < maxSites
-  add-room = let room = add-accepted (bookOf b) n p acc .room in omega (arith, lines-length b, s .whole .sites .few)
-
-  pub add-number : n < 65536 → NumberOk (siteAs n p)
-  add-number small = let pos = add-accepted (bookOf b) n p acc .positive in record { least = omega arith; most = omega arith }
-
-  pub add-grid : OnGrid p
-  add-grid = add-accepted (bookOf b) n p acc .onGrid
-
-  pub add-never : (f : Found) (k : ℕ) → f ≡ Found.At k → FoundAs f n (linesIn b) → Holds b (change (Add n p) (bookOf b))
-  add-never f k e a = absurd (true≢false (sym (at-held (found-at e a)) ∙ add-accepted (bookOf b) n p acc .new))
-
-  pub add-patch : (b₁ : List ℕ) → Relined (writeLine (siteAs n p) (linesIn b)) b b₁ → Patchable n b₁
-  add-patch b₁ r = relined-patch b b₁ (writeLine (siteAs n p) (linesIn b)) s r n (strike-written (siteAs n p) (linesIn b))
-
-  pub add-stands : (f : Found) (k : ℕ) → f ≡ Found.Absent k → FoundAs f n (linesIn b) → (b₁ : List ℕ) → Relined (writeLine (siteAs n p) (linesIn b)) b b₁ → StandsAt k n (linesIn b₁)
-  add-stands f k e a b₁ r = subst (StandsAt k n) (sym (r .lines)) (written-at k (siteAs n p) (linesIn b) (found-absent e a))
+  pub add-stands : (k : ℕ) → StandsNowhere k (p .number) (linesIn b) → StandsAt k (p .number) (linesIn b₁)
+  add-stands k h = subst (StandsAt k (p .number)) (sym (r .lines)) (written-at k p (linesIn b) h)
 
   -- ADDED
-  pub add-done : (b₁ b₂ : List ℕ) → Relined (writeLine (siteAs n p) (linesIn b)) b b₁ → Holds b₂ (bookOf b₁) → Holds b₂ (change (Add n p) (bookOf b))
+  pub add-done : (b₂ : List ℕ) → Holds b₂ (bookOf b₁) → Holds b₂ (change (Add (p .number) (p .position)) (bookOf b))
   unfolding change
-  add-done b₁ b₂ r h = relined-holds b b₁ (writeLine (siteAs n p) (linesIn b)) s r b₂ h
+  add-done b₂ h = relined-holds b b₁ (writeLine p (linesIn b)) s r b₂ h
 
-module _ (b : List ℕ) (n : ℕ) (s : Sound b) (acc : answer (bookOf b) (Remove n) ≡ done) where
-  pub remove-at : (f : Found) (k : ℕ) → f ≡ Found.At k → FoundAs f n (linesIn b) → StandsAt k n (linesIn b)
-  remove-at f k e a = found-at e a
+module _ (b b₁ : List ℕ) (n : ℕ) (s : Sound b) (r : Relined (strikeLine n (linesIn b)) b b₁) where
+  pub remove-patch : Patchable n b₁
+  remove-patch = relined-patch b b₁ (strikeLine n (linesIn b)) s r n (strike-none n (strikeLine n (linesIn b)) (holds-strike n (linesIn b)))
 
-  pub remove-never : (f : Found) (k : ℕ) → f ≡ Found.Absent k → FoundAs f n (linesIn b) → Holds b (change (Remove n) (bookOf b))
-  remove-never f k e a = absurd (true≢false (sym (remove-accepted (bookOf b) n acc .held) ∙ absent-held (found-absent e a)))
-
-  pub remove-patch : (b₁ : List ℕ) → Relined (strikeLine n (linesIn b)) b b₁ → Patchable n b₁
-  remove-patch b₁ r = relined-patch b b₁ (strikeLine n (linesIn b)) s r n (strike-none n (strikeLine n (linesIn b)) (holds-strike n (linesIn b)))
-
-  pub remove-gone : (b₁ : List ℕ) → Relined (strikeLine n (linesIn b)) b b₁ → holds n (linesIn b₁) ≡ false
-  remove-gone b₁ r = ap (holds n) (r .lines) ∙ holds-strike n (linesIn b)
+  pub remove-gone : holds n (linesIn b₁) ≡ false
+  remove-gone = ap (holds n) (r .lines) ∙ holds-strike n (linesIn b)
 
   -- REMOVED
-  pub remove-done : (b₁ b₂ : List ℕ) → Relined (strikeLine n (linesIn b)) b b₁ → Holds b₂ (bookOf b₁) → Holds b₂ (change (Remove n) (bookOf b))
+  pub remove-done : (b₂ : List ℕ) → Holds b₂ (bookOf b₁) → Holds b₂ (change (Remove n) (bookOf b))
   unfolding change
-  remove-done b₁ b₂ r h = relined-holds b b₁ (strikeLine n (linesIn b)) s r b₂ h
+  remove-done b₂ h = relined-holds b b₁ (strikeLine n (linesIn b)) s r b₂ h
 
-module _ (b : List ℕ) (n : ℕ) (p : Position) (s : Sound b) (acc : answer (bookOf b) (Move n p) ≡ done) where
-  pub move-grid : OnGrid p
-  move-grid = move-accepted (bookOf b) n p acc .onGrid
+module _ (b b₁ : List ℕ) (n : ℕ) (p : Position) (s : Sound b) (r : Relined (moveLine n p (linesIn b)) b b₁) where
+  pub move-patch : Patchable n b₁
+  move-patch = relined-patch b b₁ (moveLine n p (linesIn b)) s r n (strike-moved n p (linesIn b))
 
-  pub move-at : (f : Found) (k : ℕ) → f ≡ Found.At k → FoundAs f n (linesIn b) → StandsAt k n (linesIn b)
-  move-at f k e a = found-at e a
-
-  pub move-never : (f : Found) (k : ℕ) → f ≡ Found.Absent k → FoundAs f n (linesIn b) → Holds b (change (Move n p) (bookOf b))
-  move-never f k e a = absurd (true≢false (sym (move-accepted (bookOf b) n p acc .held) ∙ absent-held (found-absent e a)))
-
-  pub move-patch : (b₁ : List ℕ) → Relined (moveLine n p (linesIn b)) b b₁ → Patchable n b₁
-  move-patch b₁ r = relined-patch b b₁ (moveLine n p (linesIn b)) s r n (strike-moved n p (linesIn b))
-
-  pub move-stands : (f : Found) (k : ℕ) → f ≡ Found.At k → FoundAs f n (linesIn b) → (b₁ : List ℕ) → Relined (moveLine n p (linesIn b)) b b₁ → StandsAt k n (linesIn b₁)
-  move-stands f k e a b₁ r = subst (StandsAt k n) (sym (r .lines)) (moved-at k n p (linesIn b) (found-at e a))
+  pub move-stands : (k : ℕ) → StandsAt k n (linesIn b) → StandsAt k n (linesIn b₁)
+  move-stands k h = subst (StandsAt k n) (sym (r .lines)) (moved-at k n p (linesIn b) h)
 
   -- MOVED
-  pub move-done : (b₁ b₂ : List ℕ) → Relined (moveLine n p (linesIn b)) b b₁ → Holds b₂ (bookOf b₁) → Holds b₂ (change (Move n p) (bookOf b))
+  pub move-done : (b₂ : List ℕ) → Holds b₂ (bookOf b₁) → Holds b₂ (change (Move n p) (bookOf b))
   unfolding change
-  move-done b₁ b₂ r h = relined-holds b b₁ (moveLine n p (linesIn b)) s r b₂ h
+  move-done b₂ h = relined-holds b b₁ (moveLine n p (linesIn b)) s r b₂ h
 
-module _ (b b₁ : List ℕ) (l : Leg) (s : Sound b) (acc : answer (bookOf b) (Stand l) ≡ done) (st : LegStored l b b₁) where
+module _ (b b₁ : List ℕ) (l : Leg) (s : Sound b) (on : LegOnGrid l) (st : LegStored l b b₁) where
   lines-stay : linesIn b₁ ≡ linesIn b
   lines-stay = lines-same b b₁ (λ i x h. st .only .low i h) (λ i x h. st .only .high i (omega arith)) (s .whole .sites .few)
 
@@ -135,7 +97,7 @@ module _ (b b₁ : List ℕ) (l : Leg) (s : Sound b) (acc : answer (bookOf b) (S
       below = record { len = st .only .len; low = st .only .low; high = λ i h. st .only .high i (omega arith) }
 
   pub stand-leg : LegOk (legIn b₁)
-  stand-leg = subst LegOk (sym (st .leg)) (stand-accepted (bookOf b) l acc)
+  stand-leg = subst LegOk (sym (st .leg)) on
 
   -- SET
   pub stand-done : (b₂ : List ℕ) → Holds b₂ (bookOf b₁) → Holds b₂ (change (Stand l) (bookOf b))

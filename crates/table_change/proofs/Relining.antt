@@ -38,7 +38,7 @@ use Rattle.table.proofs.Same.{lines-same, sites-same, leg-same, list-same, head
 use Rattle.table.proofs.Leaves.{tied-lines, lines-tied, leaves-append}
 use Rattle.table.proofs.Totals.{total-ones}
 use Rattle.table_change.specs.Changes.{Swapped, Relined}
-use Rattle.list_change.proofs.Points.{leaf-count, line-leaf}
+use Rattle.table_search.proofs.Points.{leaf-count, line-leaf}
 
 -- ---- totals of lines
 

@@ -3,18 +3,15 @@ use grid::Leg;
 use grid::Position;
 use grid::Site;
 use node::Entry;
-use sites::Found;
 ghost use mathlib.Core.Path.{_≡_};
 ghost use Prim.Native.Nat.{_*_, _<_, _≤_};
 ghost use lib.ListN.{length};
 ghost use Rattle.limits.specs.Limits.{maxSites};
-ghost use Rattle.grid.specs.Position.{OnGrid};
+ghost use Rattle.grid.specs.Position.{OnGrid, LegOnGrid};
 ghost use Rattle.row.specs.Vertices.{rowBytes};
 ghost use Rattle.book.specs.declared.Command.{Command};
 ghost use Rattle.book.specs.Book.{writeLine, strikeLine, moveLine, change};
 ghost use Rattle.book.specs.Proper.{NumberOk};
-ghost use Rattle.book.specs.Reply.{Reply};
-ghost use Rattle.book.specs.Answer.{answer};
 ghost use Rattle.sites.specs.Lines.{linesIn, StandsAt, StandsNowhere};
 ghost use Rattle.table.specs.Table.{bookOf, leafEntry, Whole, Sound};
 ghost use Rattle.demands.specs.Step.{Holds};
@@ -83,61 +80,40 @@ fn relocate(t: &mut [u8], k: usize, n: u16, p: Position)
     swap_leaf(t, old, new);
 }
 
-// Adds a site. Document 01, command 41.
-pub fn add(t: &mut [u8], work: &mut [u8], n: u16, p: Position)
-    requires { ⌜ Sound (now t) × (answer (bookOf (now t)) (Command.Add n p) ≡ Reply.done) × (2 * rowBytes ≤ length (now work)) ⌝ }
-    ensures { λ _. ⌜ Holds (now (t .exit)) (change (Command.Add n p) (bookOf (now (t .entry)))) ⌝ }
+// Adds a site whose record goes before record k. Document 01, command 41.
+pub fn insert(t: &mut [u8], work: &mut [u8], k: usize, site: Site)
+    requires { ⌜ Sound (now t) × StandsNowhere k (site .number) (linesIn (now t)) × (length (linesIn (now t)) < maxSites) ⌝ }
+    requires { ⌜ NumberOk site × OnGrid (site .position) × (2 * rowBytes ≤ length (now work)) ⌝ }
+    ensures { λ _. ⌜ Holds (now (t .exit)) (change (Command.Add (site .number) (site .position)) (bookOf (now (t .entry)))) ⌝ }
 {
-    let found = sites::find(t, n);
-    match found {
-        Found::Absent(k) => {
-            grow(
-                t,
-                k,
-                Site {
-                    number: n,
-                    position: p,
-                },
-            );
-            list_change::patch_held(t, work, n, k);
-        }
-        Found::At(_) => {}
-    }
+    grow(t, k, site);
+    let n = site.number;
+    list_change::patch_held(t, work, n, k);
 }
 
-// Removes a site. Document 01, command 44.
-pub fn remove(t: &mut [u8], work: &mut [u8], n: u16)
-    requires { ⌜ Sound (now t) × (answer (bookOf (now t)) (Command.Remove n) ≡ Reply.done) × (2 * rowBytes ≤ length (now work)) ⌝ }
+// Removes site n, of record k. Document 01, command 44.
+pub fn delete(t: &mut [u8], work: &mut [u8], k: usize, n: u16)
+    requires { ⌜ Sound (now t) × StandsAt k n (linesIn (now t)) × (2 * rowBytes ≤ length (now work)) ⌝ }
     ensures { λ _. ⌜ Holds (now (t .exit)) (change (Command.Remove n) (bookOf (now (t .entry)))) ⌝ }
 {
-    let found = sites::find(t, n);
-    match found {
-        Found::At(k) => {
-            shrink(t, k, n);
-            list_change::patch_gone(t, work, n);
-        }
-        Found::Absent(_) => {}
-    }
+    shrink(t, k, n);
+    list_change::patch_gone(t, work, n);
 }
 
-// Moves a site. Document 01, command 4D.
-pub fn replace(t: &mut [u8], work: &mut [u8], n: u16, p: Position)
-    requires { ⌜ Sound (now t) × (answer (bookOf (now t)) (Command.Move n p) ≡ Reply.done) × (2 * rowBytes ≤ length (now work)) ⌝ }
-    ensures { λ _. ⌜ Holds (now (t .exit)) (change (Command.Move n p) (bookOf (now (t .entry)))) ⌝ }
+// Gives the site of record k a new position. Document 01, command 4D.
+pub fn place(t: &mut [u8], work: &mut [u8], k: usize, site: Site)
+    requires { ⌜ Sound (now t) × StandsAt k (site .number) (linesIn (now t)) × OnGrid (site .position) × (2 * rowBytes ≤ length (now work)) ⌝ }
+    ensures { λ _. ⌜ Holds (now (t .exit)) (change (Command.Move (site .number) (site .position)) (bookOf (now (t .entry)))) ⌝ }
 {
-    let found = sites::find(t, n);
-    match found {
-        Found::At(k) => {
-            relocate(t, k, n, p);
-            list_change::patch_held(t, work, n, k);
-        }
-        Found::Absent(_) => {}
-    }
+    let n = site.number;
+    let p = site.position;
+    relocate(t, k, n, p);
+    list_change::patch_held(t, work, n, k);
 }
 
 // Sets the standing leg. Document 01, command 53.
 pub fn stand(t: &mut [u8], work: &mut [u8], leg: Leg)
-    requires { ⌜ Sound (now t) × (answer (bookOf (now t)) (Command.Stand leg) ≡ Reply.done) × (2 * rowBytes ≤ length (now work)) ⌝ }
+    requires { ⌜ Sound (now t) × LegOnGrid leg × (2 * rowBytes ≤ length (now work)) ⌝ }
     ensures { λ _. ⌜ Holds (now (t .exit)) (change (Command.Stand leg) (bookOf (now (t .entry)))) ⌝ }
 {
     standing::store_leg(t, leg);

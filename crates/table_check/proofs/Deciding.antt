@@ -26,14 +26,11 @@ use Rattle.standing.specs.declared.Standing.{Standing}
 use Rattle.standing.specs.Layout.{lengthStart, listStart}
 use Rattle.standing.specs.Standing.{legIn, wordsFrom, standingIn, numbersOf, HeaderOk, asOption}
 use Rattle.node.specs.Told.{Told}
-use Rattle.tree_search.specs.Searching.{Found}
-use Rattle.tree_search.proofs.Finding.{found-is}
 use Rattle.tree_check.specs.Sites.{numberAt, Rising}
 use Rattle.tree_check.specs.Tied.{Tied}
 use Rattle.table.specs.Table.{bookOf, Whole, StandingOk, Sound}
+use Rattle.table.specs.Listing.{ListsTable}
 use Rattle.table_check.proofs.Matching.{words-length}
-use Rattle.list_change.proofs.Points.{tree-sites}
-use Rattle.list_change.proofs.Restanding.{whole-numbered}
 
 -- ---- the standing leg and list
 
@@ -66,17 +63,17 @@ module _ (b : List ℕ) (s : Standing) (w : Whole b) (q : asOption s ≡ legIn b
     pub along-grid : (t : Bool) → Says t (LegOnGrid l) → t ≡ true → LegOnGrid l
     along-grid t h e = says-yes t h e
 
-    pub along-says : (t u : Bool) (r r′ : List ℕ) (k : ℕ) → Says t (LegOnGrid l) → t ≡ true → Found l b r r′ k
-        → Says u (standingIn b ≡ numbersOf (entriesIn l b r′ k)) → Says u (StandingOk b)
-    along-says t u r r′ k h e f m =
+    pub along-says : (t u : Bool) (r : List ℕ) (k : ℕ) → Says t (LegOnGrid l) → t ≡ true → ListsTable l b r k
+        → Says u (standingIn b ≡ numbersOf (entriesIn l b r k)) → Says u (StandingOk b)
+    along-says t u r k h e f m =
         says-map u
         (λ x. record { leg = subst LegOk (sym leg-is) (says-yes t h e); list = x ∙ right })
         (λ x. x .list ∙ sym right)
         m
       where
-        right : numbersOf (entriesIn l b r′ k) ≡ numbersOf (standingList (bookOf b))
+        right : numbersOf (entriesIn l b r k) ≡ numbersOf (standingList (bookOf b))
         right =
-            ap numbersOf (found-is f (linesIn b) (whole-numbered b w) (tree-sites b w))
+            ap numbersOf (f .list)
             ∙ sym (ap (λ (o : Option Leg). numbersOf (listOf o (linesIn b))) leg-is)
 
 -- ---- sites, header and tree

@@ -46,7 +46,7 @@ fn standing_ok(t: &[u8], work: &mut [u8]) -> bool
         }
         Standing::Along(leg) => {
             if grid::coordinate::leg_on_grid(leg) {
-                let k = tree_search::search(t, leg, work);
+                let k = table_search::search(t, leg, work);
                 return list_matches(t, work, leg, k);
             }
             false

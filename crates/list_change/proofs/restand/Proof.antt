@@ -1,4 +1,3 @@
-use Rattle.list_change.proofs.Points.{leaf-points, leaf-few}
 use Rattle.list_change.proofs.Restanding.{along-leg, restood-none, restood-list}
 use borrow.Author.Needs.{needs}
 use Rattle.list_change.proofs.restand.Statement.{statement}
@@ -17,7 +16,7 @@ enum-known-s : tie.Need-enum-known-s
 enum-known-s c = search needs
 
 search-requires : tie.Need-search-requires
-search-requires c κs = ((search needs, search (needs, leaf-points), search (needs, leaf-few)), (search (needs, along-leg), search needs))
+search-requires c κs = (search needs, search (needs, along-leg), search needs)
 
 store-list-requires : tie.Need-store-list-requires
 store-list-requires c κs = search needs

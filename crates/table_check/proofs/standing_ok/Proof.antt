@@ -1,4 +1,3 @@
-use Rattle.list_change.proofs.Points.{leaf-points, leaf-few}
 use Rattle.table_check.proofs.Deciding.{unset-says, along-off, along-grid, along-says}
 use borrow.Author.Needs.{needs}
 use Rattle.table_check.proofs.standing_ok.Statement.{statement}
@@ -20,7 +19,7 @@ leg-on-grid-requires : tie.Need-leg-on-grid-requires
 leg-on-grid-requires c κs = search needs
 
 search-requires : tie.Need-search-requires
-search-requires c κs = ((search needs, search (needs, leaf-points), search (needs, leaf-few)), (search (needs, along-grid), search needs))
+search-requires c κs = (search needs, search (needs, along-grid), search needs)
 
 list-matches-requires : tie.Need-list-matches-requires
 list-matches-requires c κs = search needs
