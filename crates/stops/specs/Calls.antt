@@ -1,5 +1,6 @@
--- A run of the batch program as the batch calls that it makes. Document 01, "Legs to try", last paragraph. No contract can say which bytes
--- are read and written: those read are any, and what is written is each call's report.
+-- A run of the batch program as the batch calls that it makes: how successive calls hang together. Document 01, "Legs to try", last
+-- paragraph. No contract can say which bytes are read and written, nor that a call of C was made: the bytes read are any, a read may be
+-- told to have failed, and what is written is each call's report.
 -- Assumes nothing.
 use mathlib.Core.Path.{_≡_}
 use mathlib.Core.Bool.{Bool, true, false}

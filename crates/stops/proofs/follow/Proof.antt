@@ -41,10 +41,10 @@ returns-2 : tie.Need-returns-2
 returns-2 c = search needs
 
 returns-3 : tie.Need-returns-3
-returns-3 c = (search needs, search (needs, onward-full))
+returns-3 c = search (needs, onward-full)
 
 returns-4 : tie.Need-returns-4
-returns-4 c = (search needs, search (needs, final-unknown))
+returns-4 c = search (needs, final-unknown)
 
 returns-5 : tie.Need-returns-5
 returns-5 c = absurd (ready-as _ _ (c .before .before .before .args .reason) WrongLength (search needs) (c .before .before .before .pre .1))
