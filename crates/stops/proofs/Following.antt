@@ -1,9 +1,9 @@
 -- What follows a batch.
 -- Assumes nothing.
 use mathlib.Core.Path.{_≡_, refl, sym, ap, subst, _∙_}
-use mathlib.Core.Logic.{_≢_}
+use mathlib.Core.Bool.{Bool, true, false}
 use mathlib.Core.List.{List, _++_}
-use Prim.Native.Nat.{ℕ, _≤_, _<_}
+use Prim.Native.Nat.{ℕ, _<_}
 use native.Mathlib.Omega.{arith}
 use lib.ListN.{length, take, drop, take-append-drop}
 use lib.Seq.{take-take, length-take-le, length-slice}
@@ -11,77 +11,86 @@ use Rattle.book.specs.declared.Reason.{Reason}
 use Rattle.book.specs.declared.Reason.the-variants.{AllUsed, WrongLength, Broken, UnknownCommand, CutShort, NoRoom}
 use Rattle.stops.specs.declared.Batched.{Batched}
 use Rattle.stops.specs.declared.Next.{Next}
-use Rattle.stops.specs.declared.Next.the-variants.{More, End, Closed}
+use Rattle.stops.specs.declared.Next.the-variants.{Untaken}
+use Rattle.stops.specs.declared.Got.{Got}
+use Rattle.stops.specs.declared.Got.the-variants.{Bytes, Ended, Failed}
 use Rattle.stops.specs.Input.{ReadOn}
-use Rattle.stops.specs.Calls.{Onward, Ready, Final, Joins, Follows, Answered, Turned}
+use Rattle.stops.specs.Calls.{Joined, Onward, Reads, Ready, Final, afterRead, Follows, Proceeds, Answered, Turned}
 
--- more bytes came
-pub joins-more : (s : List ℕ) (reason : Reason) (left held : ℕ) (s′ : List ℕ) → ReadOn left s held s′ → held ≢ left
-    → Joins (length s) reason (take left s) (More held) s′
-joins-more s reason left held s′ r n = (
-  r .within,
-  record {
-    fresh = drop left (take held s′);
-    some = omega (arith, length-slice left held s′ (r .within), r .more, n);
-    joined = sym (take-append-drop left (take held s′))
-        ∙ ap (λ (y : List ℕ). y ++ drop left (take held s′)) (take-take left held s′ (r .more) ∙ r .front);
-    fits = omega (arith, length-take-le held s′ (r .within), r .within, r .len);
-  },
+-- ---- after 0 and 67
+
+pub reads-as : (reason x : Reason) → reason ≡ x → Reads x → Reads reason
+reads-as reason x e h = rw e h
+
+-- there is room to read; and 64 and 65 do not come
+pub ready-as : (size left : ℕ) (reason x : Reason) → reason ≡ x → Ready size reason left → Ready size x left
+ready-as size left reason x e h = subst (λ (y : Reason). Ready size y left) e h
+
+-- bytes that came are joined with those that were left
+onward-joined : (size : ℕ) (reason : Reason) (rest held : List ℕ) → Reads reason → Joined size rest held → Onward size reason rest held
+onward-joined size AllUsed rest held h j = j
+onward-joined size WrongLength rest held h j = absurd h
+onward-joined size Broken rest held h j = absurd h
+onward-joined size UnknownCommand rest held h j = absurd h
+onward-joined size CutShort rest held h j = j
+onward-joined size NoRoom rest held h j = absurd h
+
+final-read : (reason : Reason) → Reads reason → Final reason
+final-read AllUsed h = tt
+final-read WrongLength h = absurd h
+final-read Broken h = absurd h
+final-read UnknownCommand h = absurd h
+final-read CutShort h = tt
+final-read NoRoom h = absurd h
+
+after : (s : List ℕ) (reason : Reason) (left : ℕ) (got : Got) (s′ : List ℕ) → Reads reason → ReadOn left s got s′
+    → Follows (length s) reason (take left s) (afterRead got reason) s′
+after s reason left (Bytes n) s′ h r = (
+  r .behind .1,
+  onward-joined (length s) reason (take left s) (take n s′) h (record {
+    fresh = drop left (take n s′);
+    some = omega (arith, length-slice left n s′ (r .behind .1), r .behind .0);
+    joined = sym (take-append-drop left (take n s′))
+        ∙ ap (λ (y : List ℕ). y ++ drop left (take n s′)) (take-take left n s′ (omega (arith, r .behind .0)) ∙ r .front);
+    fits = omega (arith, length-take-le n s′ (r .behind .1), r .behind .1, r .len);
+  }),
 )
+after s reason left Ended s′ h r = (refl, final-read reason h)
+after s reason left Failed s′ h r = h
 
--- the call wanted more bytes
-module _ (size : ℕ) (rest : List ℕ) (s′ : List ℕ) where
-  all-used : (r : Next) → Joins size AllUsed rest r s′ → Follows size AllUsed rest r s′
-  all-used (More n) j = j
-  all-used (End x) j = (j, tt)
-  all-used Closed j = tt
+pub after-read : (s : List ℕ) (reason : Reason) (left : ℕ) (got : Got) (r : Next) (s′ : List ℕ) → Reads reason → ReadOn left s got s′ → r ≡ afterRead got reason
+    → Follows (length s) reason (take left s) r s′
+after-read s reason left got r s′ h g e = rw e (after s reason left got s′ h g)
 
-  cut-short : (r : Next) → Joins size CutShort rest r s′ → Follows size CutShort rest r s′
-  cut-short (More n) j = j
-  cut-short (End x) j = (j, tt)
-  cut-short Closed j = tt
+pub after-as : (got x : Got) (reason : Reason) (r : Next) → got ≡ x → r ≡ afterRead x reason → r ≡ afterRead got reason
+after-as got x reason r e h = rw e h
 
-  pub follows-all : (reason : Reason) (r : Next) → reason ≡ AllUsed → Joins size AllUsed rest r s′ → Follows size reason rest r s′
-  follows-all reason r e j = rw e (all-used r j)
+-- ---- after the others
 
-  pub follows-cut : (reason : Reason) (r : Next) → reason ≡ CutShort → Joins size CutShort rest r s′ → Follows size reason rest r s′
-  follows-cut reason r e j = rw e (cut-short r j)
+pub onward-full : (size : ℕ) (reason : Reason) (rest : List ℕ) → reason ≡ NoRoom → Onward size reason rest rest
+onward-full size reason rest e = rw e refl
 
--- it found no room
-pub follows-full : (reason : Reason) (left : ℕ) (s : List ℕ) → reason ≡ NoRoom → left ≤ length s → (left ≤ length s) × Onward (length s) reason (take left s) (take left s)
-follows-full reason left s e l = (l, rw e refl)
+pub final-unknown : (reason : Reason) → reason ≡ UnknownCommand → Final reason
+final-unknown reason e = rw e tt
 
--- it is the last
-pub last-unknown : (reason : Reason) → reason ≡ UnknownCommand → (UnknownCommand ≡ reason) × Final reason
-last-unknown reason e = (sym e, rw e tt)
+-- ---- a turn
 
--- it never comes
-pub last-wrong : (size left : ℕ) (reason : Reason) → reason ≡ WrongLength → Ready size reason left → (WrongLength ≡ reason) × Final reason
-last-wrong size left reason e h = absurd (subst (λ (x : Reason). Ready size x left) e h)
+module _ (size : ℕ) (reason : Reason) (rest : List ℕ) (taken : Bool) (s′ : List ℕ) where
+  pub proceeds-taken : (x : Next) → taken ≡ true → Follows size reason rest x s′ → Proceeds size reason rest taken x s′
+  proceeds-taken x e f = rw e f
 
-pub last-broken : (size left : ℕ) (reason : Reason) → reason ≡ Broken → Ready size reason left → (Broken ≡ reason) × Final reason
-last-broken size left reason e h = absurd (subst (λ (x : Reason). Ready size x left) e h)
+  pub breaks-off : taken ≡ false → Proceeds size reason rest taken Untaken s′
+  breaks-off e = rw e refl
 
--- there is room to read
-pub room-all : (size left : ℕ) (reason : Reason) → reason ≡ AllUsed → Ready size reason left → left < size
-room-all size left reason e h = subst (λ (x : Reason). Ready size x left) e h
-
-pub room-cut : (size left : ℕ) (reason : Reason) → reason ≡ CutShort → Ready size reason left → left < size
-room-cut size left reason e h = subst (λ (x : Reason). Ready size x left) e h
-
--- the report was taken
 pub turned : (held : ℕ) (t w s rep : List ℕ) (b : Batched) (t′ w′ s₁ rep′ : List ℕ) (r : Next) (s′ : List ℕ) → Answered held t w s rep b t′ w′ s₁ rep′
-    → Follows (length s₁) (b .reason) (take (b .left) s₁) r s′ → length s′ ≡ length s₁ → Turned held t w s rep r t′ w′ s′ rep′
+    → Proceeds (length s₁) (b .reason) (take (b .left) s₁) (b .taken) r s′ → length s′ ≡ length s₁ → Turned held t w s rep r t′ w′ s′ rep′
 turned held t w s rep b t′ w′ s₁ rep′ r s′ a f l =
     record {
       result = a .result;
       made = a .made;
-      follows = rw (← a .len, ← a .reason, ← a .rest) f;
+      taken = b .taken;
+      output = a .output;
+      proceeds = rw (← a .len, ← a .reason, ← a .rest) f;
       moves = a .moves;
       len = l ∙ a .len;
     }
-
--- nobody takes the output
-pub turned-closed : (held : ℕ) (t w s rep : List ℕ) (b : Batched) (t′ w′ s′ rep′ : List ℕ) → Answered held t w s rep b t′ w′ s′ rep′
-    → Turned held t w s rep Closed t′ w′ s′ rep′
-turned-closed held t w s rep b t′ w′ s′ rep′ a = record { result = a .result; made = a .made; follows = tt; moves = a .moves; len = a .len }

@@ -1,6 +1,7 @@
 -- The loops and parts of the input buffer.
 -- Assumes nothing.
 use mathlib.Core.Path.{_≡_, refl, sym, _∙_}
+use mathlib.Core.Logic.{_≢_}
 use mathlib.Core.Bool.{Bool, true, false}
 use mathlib.Core.List.{List}
 use Prim.Native.Nat.{ℕ, _+_, _-_, _≤_, _<_}
@@ -10,7 +11,9 @@ use borrow.Author.Tests.{eqb-true, eqb-false}
 use borrow.Rule.Slice.PartMut.{putMid, midOf, mid-len, same-len-mid, take-put}
 use lib.ListN.{length, take, drop, set, getD, length-set}
 use lib.Seq.{getD-set-same, getD-set-other, getD-take, getD-drop, ext-getD, length-take-le, length-slice}
-use Rattle.stops.specs.Input.{Kept, ReadOn}
+use Rattle.stops.specs.declared.Got.the-variants.{Bytes, Ended, Failed}
+use Rattle.stops.specs.declared.Got.{Got}
+use Rattle.stops.specs.Input.{Kept, Behind, ReadOn}
 
 -- ---- keeping
 
@@ -53,14 +56,20 @@ moving-all used held left s₀ i s m h e u l =
 
 -- ---- reading
 
--- the part behind the held bytes comes back as f, of which n bytes were read
-pub read-behind : (s f : List ℕ) (held n : ℕ) → held ≤ length s → n ≤ length f → length f ≡ length (midOf held (length s - held) s)
-    → ReadOn held s (held + n) (putMid held (length s - held) s f)
-read-behind s f held n h l e =
-    let len = same-len-mid held (length s - held) s f e in
-    record {
-      more = omega arith;
-      within = omega (arith, len, mid-len held (length s) s (omega arith));
-      front = take-put held (length s - held) s f h;
-      len = len;
-    }
+-- the part behind the held bytes comes back as f
+module _ (s f : List ℕ) (held : ℕ) (h : held < length s) (e : length f ≡ length (midOf held (length s - held) s)) where
+  size-kept : length (putMid held (length s - held) s f) ≡ length s
+  size-kept = same-len-mid held (length s - held) s f e
+
+  read-as : (r : Got) → Behind held (length (putMid held (length s - held) s f)) r → ReadOn held s r (putMid held (length s - held) s f)
+  read-as r b = record { behind = b; front = take-put held (length s - held) s f (omega arith); len = size-kept }
+
+  -- of which n bytes were read
+  pub read-bytes : (n : ℕ) → n ≢ 0 → n ≤ length f → ReadOn held s (Bytes (held + n)) (putMid held (length s - held) s f)
+  read-bytes n z l = read-as (Bytes (held + n)) (omega (arith, z), omega (arith, size-kept, e, mid-len held (length s) s (omega arith)))
+
+  pub read-end : ReadOn held s Ended (putMid held (length s - held) s f)
+  read-end = read-as Ended tt
+
+  pub read-failed : ReadOn held s Failed (putMid held (length s - held) s f)
+  read-failed = read-as Failed tt

@@ -1,10 +1,11 @@
 -- The program's turns, one after the other.
 -- Assumes nothing.
 use mathlib.Core.Path.{_≡_, refl, sym, subst, _∙_}
+use mathlib.Core.Bool.{Bool, true, false}
 use mathlib.Core.List.{List, [], _∷_, _++_}
-use Prim.Native.Nat.{ℕ, _≤_}
+use Prim.Native.Nat.{ℕ, _+_, _-_, _≤_, _<_}
 use native.Mathlib.Omega.{arith}
-use lib.ListN.{length, take}
+use lib.ListN.{length, take, length-append}
 use borrow.Author.Tests.{eq-eqb}
 use Rattle.limits.specs.Limits.{tableBytes, workBytes}
 use Rattle.book.specs.declared.Reason.{Reason}
@@ -15,10 +16,11 @@ use Rattle.demands.specs.Whole.{Call, MadeOn, Made}
 use Rattle.demands.specs.Whole.Made.{none, next}
 use Rattle.demands.proofs.WholeRun.{laid-holds}
 use Rattle.stops.specs.declared.Next.{Next}
-use Rattle.stops.specs.declared.Next.the-variants.{More, End, Closed}
-use Rattle.stops.specs.Calls.{longestCommand, longestRecord, Follows, restOf, Turned, Takes, Fed, Series, Program}
+use Rattle.stops.specs.declared.Next.the-variants.{More, End, Unread, Untaken, Spent}
+use Rattle.stops.specs.Input.{Taken}
+use Rattle.stops.specs.Calls.{longestCommand, longestRecord, Follows, Proceeds, restOf, Turned, Takes, Fed, mostCalls, Calls, Series, Program}
 use Rattle.stops.specs.Calls.Fed.{start, more}
-use Rattle.stops.specs.Calls.Calls.{ended, closed, spent}
+use Rattle.stops.specs.Calls.Calls.{ended, unread, untaken, spent}
 use Rattle.stops.proofs.Serving.{sound-after}
 
 -- the table that the program lays out
@@ -38,11 +40,12 @@ made-more : (t : List ℕ) (cs : List Call) (t₁ : List ℕ) (c : Call) (t′ :
 made-more t cs t₁ c t′ none h = next h none
 made-more t (d ∷ cs) t₁ c t′ (next {t₁ = t₂} m k) h = next m (made-more t₂ cs t₁ c t′ k h)
 
--- where a run stands: from the input s₀, the report rep₀ and the table t₀ it came to s, rep and t, and holds so many bytes
-pub record Running (s₀ rep₀ t₀ t w s rep : List ℕ) (held : ℕ) : Type 0 where
+-- where a run stands: from the input s₀, the report rep₀ and the table t₀ it came to s, rep and t, holds so many bytes and has so many turns
+pub record Running (s₀ rep₀ t₀ t w s rep : List ℕ) (held turns : ℕ) : Type 0 where
   pub calls : List Call
   pub fed : Fed (length s₀) (length rep₀) calls (take held s)
   pub made : Made t₀ calls t
+  pub counted : length calls + turns ≡ mostCalls
   pub sound : Sound t
   pub work : length w ≡ workBytes
   pub input : length s ≡ length s₀
@@ -51,12 +54,26 @@ pub record Running (s₀ rep₀ t₀ t w s rep : List ℕ) (held : ℕ) : Type 0
   pub large : longestCommand ≤ length s
   pub wide : longestRecord ≤ length rep
 
-pub running-first : (t w s rep : List ℕ) → Sound t → length w ≡ workBytes → longestCommand ≤ length s → longestRecord ≤ length rep → Running s rep t t w s rep 0
-running-first t w s rep h l k n = record { calls = []; fed = start; made = none; sound = h; work = l; input = refl; report = refl; inside = omega arith; large = k; wide = n }
+pub running-first : (t w s rep : List ℕ) → Sound t → length w ≡ workBytes → longestCommand ≤ length s → longestRecord ≤ length rep
+    → Running s rep t t w s rep 0 mostCalls
+running-first t w s rep h l k n =
+    record {
+      calls = [];
+      fed = start;
+      made = none;
+      counted = refl;
+      sound = h;
+      work = l;
+      input = refl;
+      report = refl;
+      inside = omega arith;
+      large = k;
+      wide = n;
+    }
 
-module _ (s₀ rep₀ t₀ t w s rep : List ℕ) (held : ℕ) (v : Running s₀ rep₀ t₀ t w s rep held) where
-  pub running-spent : Series (length s₀) (length rep₀) t₀ Closed t
-  running-spent = record { calls = v .calls; are = spent (v .fed); made = v .made }
+module _ (s₀ rep₀ t₀ t w s rep : List ℕ) (held turns : ℕ) (v : Running s₀ rep₀ t₀ t w s rep held turns) where
+  pub running-spent : turns ≤ 0 → Series (length s₀) (length rep₀) t₀ Spent t
+  running-spent z = record { calls = v .calls; are = spent (v .fed) (omega (arith, v .counted)); made = v .made }
 
   module _ (r : Next) (t′ w′ s′ rep′ : List ℕ) (u : Turned held t w s rep r t′ w′ s′ rep′) where
     abbrev call : Call
@@ -68,31 +85,40 @@ module _ (s₀ rep₀ t₀ t w s rep : List ℕ) (held : ℕ) (v : Running s₀ 
     calls-made : Made t₀ (v .calls ++ (call ∷ [])) t′
     calls-made = made-more t₀ (v .calls) t call t′ (v .made) (u .made)
 
-    follows-as : (x : Next) → r ≡ x → Follows (length s₀) (u .result .reason) (restOf (u .result) (take held s)) x s′
-    follows-as x e =
-        subst (λ (y : Next). Follows (length s₀) (u .result .reason) (restOf (u .result) (take held s)) y s′) e
-        (subst (λ (n : ℕ). Follows n (u .result .reason) (restOf (u .result) (take held s)) r s′) (v .input) (u .follows))
+    pub running-next : (n : ℕ) → r ≡ More n → 0 < turns → length w′ ≡ length w → length rep′ ≡ length rep
+        → Running s₀ rep₀ t₀ t′ w′ s′ rep′ n (turns - 1)
+    running-next n e l lw lr = go (u .taken) (u .proceeds)
+      where
+        go : (q : Bool) → Proceeds (length s) (u .result .reason) (restOf (u .result) (take held s)) q r s′ → Running s₀ rep₀ t₀ t′ w′ s′ rep′ n (turns - 1)
+        go false g = absurd (let z : _≡_ {A = ℕ} 0 1 = cc in omega arith)
+        go true g =
+            let f = subst (λ (x : Next). Follows (length s) (u .result .reason) (restOf (u .result) (take held s)) x s′) e g in
+            record {
+              calls = v .calls ++ (call ∷ []);
+              fed = more {held′ = take n s′} (v .fed) takes (u .moves) (rw (← v .input) (f .1));
+              made = calls-made;
+              counted = omega (arith, v .counted, length-append (v .calls) (call ∷ []));
+              sound = sound-after t w (take held s) rep (u .result) t′ w′ rep′ (v .sound) (v .work) (u .made);
+              work = lw ∙ v .work;
+              input = u .len ∙ v .input;
+              report = lr ∙ v .report;
+              inside = f .0;
+              large = omega (arith, v .large, u .len);
+              wide = omega (arith, v .wide, lr);
+            }
 
-    pub running-next : (n : ℕ) → r ≡ More n → length w′ ≡ length w → length rep′ ≡ length rep → Running s₀ rep₀ t₀ t′ w′ s′ rep′ n
-    running-next n e lw lr =
-        let f = follows-as (More n) e in
-        record {
-          calls = v .calls ++ (call ∷ []);
-          fed = more (v .fed) takes (u .moves) (f .1);
-          made = calls-made;
-          sound = sound-after t w (take held s) rep (u .result) t′ w′ rep′ (v .sound) (v .work) (u .made);
-          work = lw ∙ v .work;
-          input = u .len ∙ v .input;
-          report = lr ∙ v .report;
-          inside = f .0;
-          large = omega (arith, v .large, u .len);
-          wide = omega (arith, v .wide, lr);
-        }
+    last : (x : Next) → ((n : ℕ) → x ≡ More n → ⊥) → Follows (length s) (u .result .reason) (restOf (u .result) (take held s)) x s′
+        → Calls (length s₀) (length rep₀) (v .calls ++ (call ∷ [])) x
+    last (More n) h f = absurd (h n refl)
+    last (End x) h f = ended (v .fed) takes (sym (f .0)) (rw (f .0) (f .1))
+    last Unread h f = unread (v .fed) takes f
+    last Untaken h f = absurd f
+    last Spent h f = absurd f
 
-    pub running-end : (x : Reason) → r ≡ End x → Series (length s₀) (length rep₀) t₀ (End x) t′
-    running-end x e =
-        let f = follows-as (End x) e in
-        record { calls = v .calls ++ (call ∷ []); are = ended (v .fed) takes (sym (f .0)) (rw (f .0) (f .1)); made = calls-made }
-
-    pub running-closed : r ≡ Closed → Series (length s₀) (length rep₀) t₀ Closed t′
-    running-closed e = record { calls = v .calls ++ (call ∷ []); are = closed (v .fed) takes; made = calls-made }
+    pub running-last : ((n : ℕ) → r ≡ More n → ⊥) → Series (length s₀) (length rep₀) t₀ r t′
+    running-last h = record { calls = v .calls ++ (call ∷ []); are = go (u .taken) (u .output) (u .proceeds); made = calls-made }
+      where
+        go : (q : Bool) → Taken q (u .result .written) → Proceeds (length s) (u .result .reason) (restOf (u .result) (take held s)) q r s′
+            → Calls (length s₀) (length rep₀) (v .calls ++ (call ∷ [])) r
+        go true o f = last r h f
+        go false o f = rw f (untaken (v .fed) takes o)

@@ -22,7 +22,7 @@ use Rattle.table.proofs.Books.{sound-len, sound-proper}
 use Rattle.demands.specs.Batch.{result, Served, Batch}
 use Rattle.demands.specs.Step.{Holds}
 use Rattle.demands.proofs.Chains.{chain-holds}
-use Rattle.stops.specs.Input.{Kept}
+use Rattle.stops.specs.Input.{Kept, Taken}
 use Rattle.stops.specs.Calls.{longestCommand, longestRecord, Moves, Answered}
 use Rattle.stops.proofs.Ending.{ready-after}
 
@@ -65,8 +65,9 @@ module _ (t w cs rep : List ℕ) (r : BatchResult) (t′ w′ rep′ : List ℕ)
 -- the batch, and what is kept behind it
 pub answered : (held : ℕ) (t w s rep : List ℕ) (r : BatchResult) (t′ w′ rep′ : List ℕ) (left : ℕ) (taken : Bool) (s′ : List ℕ) → Sound t → length w ≡ workBytes
     → held ≤ length s → longestCommand ≤ length s → longestRecord ≤ length rep → Batch t w (take held s) rep r t′ w′ rep′ → Kept (r .used) held s left s′
+    → length rep′ ≡ length rep → Taken taken (length (take (r .written) rep′))
     → Answered held t w s rep (record { reason = r .reason; left = left; taken = taken }) t′ w′ s′ rep′
-answered held t w s rep r t′ w′ rep′ left taken s′ sound lw h l m b k =
+answered held t w s rep r t′ w′ rep′ left taken s′ sound lw h l m b k e q =
     record {
       result = r;
       made = b;
@@ -75,6 +76,7 @@ answered held t w s rep r t′ w′ rep′ left taken s′ sound lw h l m b k =
       ready = ready-after (take held s) (length rep) (bookOf t) (length s′) left (omega (arith, k .len)) count-left (r .reason) (sym (ap (λ (x : BatchResult). x .reason) said));
       rest = k .front;
       moves = moves-on t w (take held s) rep r t′ w′ rep′ sound lw b m;
+      output = subst (Taken taken) (length-take-le (r .written) rep′ (omega (arith, e, written-inside t w (take held s) rep r t′ w′ rep′ sound lw b))) q;
       len = k .len;
     }
   where

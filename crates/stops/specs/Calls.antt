@@ -1,7 +1,9 @@
--- A run of the batch program as the batch calls that it makes. Document 01, "Legs to try", last paragraph. No contract can say which bytes
--- are read and written: those read are any, and what is written is each call's report.
+-- A run of the batch program as the batch calls that it makes: how successive calls hang together. Document 01, "Legs to try", last
+-- paragraph. No contract can say which bytes are read and written, nor that a call of C was made: the bytes read are any, a read may be
+-- told to have failed, and what is written is each call's report.
 -- Assumes nothing.
 use mathlib.Core.Path.{_≡_}
+use mathlib.Core.Bool.{Bool, true, false}
 use mathlib.Core.List.{List, [], _∷_, _++_}
 use Prim.Native.Nat.{ℕ, _+_, _*_, _≤_, _<_}
 use lib.ListN.{length, take, drop}
@@ -14,7 +16,10 @@ use Rattle.demands.specs.Batch.{Batch}
 use Rattle.demands.specs.Whole.{Call, Made, Ran}
 use Rattle.stops.specs.declared.Batched.{Batched}
 use Rattle.stops.specs.declared.Next.{Next}
-use Rattle.stops.specs.declared.Next.the-variants.{More, End, Closed}
+use Rattle.stops.specs.declared.Next.the-variants.{More, End, Unread, Untaken, Spent}
+use Rattle.stops.specs.declared.Got.{Got}
+use Rattle.stops.specs.declared.Got.the-variants.{Bytes, Ended, Failed}
+use Rattle.stops.specs.Input.{Taken}
 
 -- the bytes of the longest command
 abbrev pub longestCommand : ℕ
@@ -41,6 +46,15 @@ Onward size UnknownCommand rest held = ⊥
 Onward size CutShort rest held = Joined size rest held
 Onward size NoRoom rest held = held ≡ rest
 
+-- the reasons after which the program reads
+abbrev pub Reads : Reason → Type 0
+Reads AllUsed = Unit {0}
+Reads WrongLength = ⊥
+Reads Broken = ⊥
+Reads UnknownCommand = ⊥
+Reads CutShort = Unit {0}
+Reads NoRoom = ⊥
+
 -- the reason of a call that left so many bytes in an input buffer of `size`: after 0 and 67 there is room behind them, so that a read of
 -- nothing is the end of the input, and 64 and 65 do not come
 abbrev pub Ready : ℕ → Reason → ℕ → Type 0
@@ -60,17 +74,24 @@ Final UnknownCommand = Unit {0}
 Final CutShort = Unit {0}
 Final NoRoom = ⊥
 
--- the answer to a call that wants more bytes, where the input buffer is s′ then: they came, or the input is at its end
-abbrev pub Joins : ℕ → Reason → List ℕ → Next → List ℕ → Type 0
-Joins size reason rest (More n) s′ = (n ≤ length s′) × Joined size rest (take n s′)
-Joins size reason rest (End x) s′ = x ≡ reason
-Joins size reason rest Closed s′ = ⊥
+-- what follows a read after a call that ended with this reason
+abbrev pub afterRead : Got → Reason → Next
+afterRead (Bytes n) reason = More n
+afterRead Ended reason = End reason
+afterRead Failed reason = Unread
 
--- what follows a call with this reason that left these bytes, where the input buffer is s′ then
+-- what follows a call with this reason that left these bytes and whose report was taken, where the input buffer is s′ then
 abbrev pub Follows : ℕ → Reason → List ℕ → Next → List ℕ → Type 0
 Follows size reason rest (More n) s′ = (n ≤ length s′) × Onward size reason rest (take n s′)
 Follows size reason rest (End x) s′ = (x ≡ reason) × Final reason
-Follows size reason rest Closed s′ = Unit {0}
+Follows size reason rest Unread s′ = Reads reason
+Follows size reason rest Untaken s′ = ⊥
+Follows size reason rest Spent s′ = ⊥
+
+-- the same, told whether the report was taken: if not, the run breaks off
+abbrev pub Proceeds : ℕ → Reason → List ℕ → Bool → Next → List ℕ → Type 0
+Proceeds size reason rest true x s′ = Follows size reason rest x s′
+Proceeds size reason rest false x s′ = x ≡ Untaken
 
 -- a call that found no room wrote something, so that the same command is not refused again
 abbrev pub Moves : BatchResult → Type 0
@@ -89,13 +110,16 @@ pub record Answered (held : ℕ) (t w s rep : List ℕ) (r : Batched) (t′ w′
   pub ready : Ready (length s′) (r .reason) (r .left)
   pub rest : take (r .left) s′ ≡ restOf result (take held s)
   pub moves : Moves result
+  pub output : Taken (r .taken) (result .written)
   pub len : length s′ ≡ length s
 
 -- the same, and what follows
 pub record Turned (held : ℕ) (t w s rep : List ℕ) (r : Next) (t′ w′ s′ rep′ : List ℕ) : Type 0 where
   pub result : BatchResult
   pub made : Batch t w (take held s) rep result t′ w′ rep′
-  pub follows : Follows (length s) (result .reason) (restOf result (take held s)) r s′
+  pub taken : Bool
+  pub output : Taken taken (result .written)
+  pub proceeds : Proceeds (length s) (result .reason) (restOf result (take held s)) taken r s′
   pub moves : Moves result
   pub len : length s′ ≡ length s
 
@@ -111,13 +135,21 @@ pub data Fed (size room : ℕ) : List Call → List ℕ → Type 0 where
   more : {cs : List Call} {held held′ : List ℕ} {c : Call} → Fed size room cs held → Takes room held c → Moves (c .result)
       → Onward size (c .result .reason) (restOf (c .result) (c .commands)) held′ → Fed size room (cs ++ (c ∷ [])) held′
 
--- THE PROGRAM'S CALLS, with an input buffer of `size` bytes and a report buffer of `room`: it ends with the reason of the last call; or
--- because nobody takes the output, or the count of turns is spent
+-- how many turns the program has: 2^64 - 1, more than any run takes
+abbrev pub mostCalls : ℕ
+mostCalls = 18446744073709551615
+
+-- THE PROGRAM'S CALLS, with an input buffer of `size` bytes and a report buffer of `room`: "It stops at the end of the input or after 66",
+-- with the reason of the last call. Or it breaks off: behind a call after which it reads, since the read failed; since the report of the
+-- last call, which was not empty, was not taken; or since the count of turns is spent.
 pub data Calls (size room : ℕ) : List Call → Next → Type 0 where
   ended : {cs : List Call} {held : List ℕ} {c : Call} {reason : Reason} → Fed size room cs held → Takes room held c → c .result .reason ≡ reason → Final reason
       → Calls size room (cs ++ (c ∷ [])) (End reason)
-  closed : {cs : List Call} {held : List ℕ} {c : Call} → Fed size room cs held → Takes room held c → Calls size room (cs ++ (c ∷ [])) Closed
-  spent : {cs : List Call} {held : List ℕ} → Fed size room cs held → Calls size room cs Closed
+  unread : {cs : List Call} {held : List ℕ} {c : Call} → Fed size room cs held → Takes room held c → Reads (c .result .reason)
+      → Calls size room (cs ++ (c ∷ [])) Unread
+  untaken : {cs : List Call} {held : List ℕ} {c : Call} → Fed size room cs held → Takes room held c → 0 < c .result .written
+      → Calls size room (cs ++ (c ∷ [])) Untaken
+  spent : {cs : List Call} {held : List ℕ} → Fed size room cs held → length cs ≡ mostCalls → Calls size room cs Spent
 
 -- a run of them on the table t, which leaves t′
 pub record Series (size room : ℕ) (t : List ℕ) (r : Next) (t′ : List ℕ) : Type 0 where

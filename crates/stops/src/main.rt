@@ -1,4 +1,6 @@
 // The batch program: commands from standard input, reports to standard output. Document 01, "Legs to try", last paragraph.
+mod streams;
+
 use book::Reason;
 ghost use mathlib.Core.Path.{_≡_};
 ghost use Prim.Native.Nat.{_≤_, _<_};
@@ -6,7 +8,8 @@ ghost use lib.ListN.{length, take};
 ghost use Rattle.limits.specs.Limits.{tableBytes, workBytes};
 ghost use Rattle.table.specs.Table.{Sound};
 ghost use Rattle.stops.specs.Input.{Kept, ReadOn};
-ghost use Rattle.stops.specs.Calls.{longestCommand, longestRecord, Ready, Joins, Follows, Answered, Turned, Series, Program};
+ghost use Rattle.stops.specs.Calls.{longestCommand, longestRecord, Reads, Ready, Follows, afterRead};
+ghost use Rattle.stops.specs.Calls.{Proceeds, Answered, Turned, Series, Program};
 
 // "ends with 2E and the reason byte"
 const END_MARK: u8 = 0x2E;
@@ -18,11 +21,21 @@ struct Batched {
     taken: bool,
 }
 
-// What follows a batch: one more over so many bytes, the end with its reason, or the end because nobody takes the output.
+// What a read behind the held bytes gave: so many are held now, the input is at its end, or the read failed.
+enum Got {
+    Bytes(usize),
+    Ended,
+    Failed,
+}
+
+// What follows a batch: one more over so many bytes, or the end with its reason. Or the run breaks off: the input cannot be read, the
+// report was not taken, or the count of turns is spent.
 enum Next {
     More(usize),
     End(Reason),
-    Closed,
+    Unread,
+    Untaken,
+    Spent,
 }
 
 // Moves the held bytes behind the used ones to the front, and counts them.
@@ -39,15 +52,23 @@ fn keep(input: &mut [u8], used: usize, held: usize) -> usize
     left
 }
 
-// Reads behind the held bytes, and counts all that are held then. A read that fails counts as the end of the input.
-fn read_on(input: &mut [u8], held: usize) -> usize
-    requires { ⌜ held ≤ length (now input) ⌝ }
+// Reads behind the held bytes. Only a read that can bring bytes tells of the end of the input.
+fn read_on(input: &mut [u8], held: usize) -> Got
+    requires { ⌜ held < length (now input) ⌝ }
     ensures { λ r. ⌜ ReadOn held (now (input .entry)) r (now (input .exit)) ⌝ }
 {
     let free = &mut input[held..];
-    let got = libc::read(libc::STDIN_FILENO, free);
+    let got = streams::read(free);
+    if got < 0 {
+        os::fail(b"standard input");
+        return Got::Failed;
+    }
     let n = io::count(got, free);
-    held + n
+    if n == 0 {
+        return Got::Ended;
+    }
+    let all = held + n;
+    Got::Bytes(all)
 }
 
 // A batch over the held bytes, and its report.
@@ -65,7 +86,7 @@ fn serve(
     let reason = r.reason;
     let used = r.used;
     let written = r.written;
-    let taken = io::write_all(libc::STDOUT_FILENO, &report[..written]);
+    let taken = streams::write_all(&report[..written]);
     let left = keep(input, used, held);
     Batched {
         reason: reason,
@@ -74,16 +95,24 @@ fn serve(
     }
 }
 
-// After a batch that wants more bytes: at the end of the input its reason is the last.
-fn join(input: &mut [u8], reason: Reason, left: usize) -> Next
-    requires { ⌜ left < length (now input) ⌝ }
-    ensures { λ r. ⌜ Joins (length (now (input .entry))) reason (take left (now (input .entry))) r (now (input .exit)) ⌝ }
+// At the end of the input the reason of the last batch is the program's.
+fn after_read(got: Got, reason: Reason) -> Next
+    ensures { λ r. ⌜ r ≡ afterRead got reason ⌝ }
 {
-    let held = read_on(input, left);
-    if held == left {
-        return Next::End(reason);
+    match got {
+        Got::Bytes(held) => Next::More(held),
+        Got::Ended => Next::End(reason),
+        Got::Failed => Next::Unread,
     }
-    Next::More(held)
+}
+
+// After a batch that wants more bytes.
+fn join(input: &mut [u8], reason: Reason, left: usize) -> Next
+    requires { ⌜ (left < length (now input)) × Reads reason ⌝ }
+    ensures { λ r. ⌜ Follows (length (now (input .entry))) reason (take left (now (input .entry))) r (now (input .exit)) ⌝ }
+{
+    let got = read_on(input, left);
+    after_read(got, reason)
 }
 
 // After 68 the report buffer is free again, and the same command finds room.
@@ -92,13 +121,26 @@ fn follow(input: &mut [u8], reason: Reason, left: usize) -> Next
     ensures { λ r. ⌜ Follows (length (now (input .entry))) reason (take left (now (input .entry))) r (now (input .exit)) ⌝ }
 {
     match reason {
-        Reason::AllUsed => join(input, Reason::AllUsed, left),
-        Reason::CutShort => join(input, Reason::CutShort, left),
+        Reason::AllUsed => join(input, reason, left),
+        Reason::CutShort => join(input, reason, left),
         Reason::NoRoom => Next::More(left),
         Reason::UnknownCommand => Next::End(Reason::UnknownCommand),
         Reason::WrongLength => Next::End(Reason::WrongLength),
         Reason::Broken => Next::End(Reason::Broken),
     }
+}
+
+// What follows a batch. A report that was not taken is the last.
+fn proceed(input: &mut [u8], b: Batched) -> Next
+    requires { ⌜ (b .left ≤ length (now input)) × Ready (length (now input)) (b .reason) (b .left) ⌝ }
+    ensures { λ r. ⌜ Proceeds (length (now (input .entry))) (b .reason) (take (b .left) (now (input .entry))) (b .taken) r (now (input .exit)) ⌝ }
+{
+    let reason = b.reason;
+    let left = b.left;
+    if b.taken {
+        return follow(input, reason, left);
+    }
+    Next::Untaken
 }
 
 // A batch over the held bytes, its report, and what follows.
@@ -107,12 +149,7 @@ fn turn(table: &mut [u8], work: &mut [u8], input: &mut [u8], held: usize, report
     ensures { λ r. ⌜ Turned held (now (table .entry)) (now (work .entry)) (now (input .entry)) (now (report .entry)) r (now (table .exit)) (now (work .exit)) (now (input .exit)) (now (report .exit)) ⌝ }
 {
     let b = serve(table, work, input, held, report);
-    let reason = b.reason;
-    let left = b.left;
-    if b.taken {
-        return follow(input, reason, left);
-    }
-    Next::Closed
+    proceed(input, b)
 }
 
 // The turns, to the end. Nothing says that an input ends, so they are counted down, from a number that no run uses up.
@@ -126,12 +163,11 @@ fn run(table: &mut [u8], work: &mut [u8], input: &mut [u8], report: &mut [u8]) -
         let next = turn(table, work, input, held, report);
         match next {
             Next::More(n) => held = n,
-            Next::End(reason) => return Next::End(reason),
-            Next::Closed => return Next::Closed,
+            _ => return next,
         }
         turns -= 1;
     }
-    Next::Closed
+    Next::Spent
 }
 
 // The program on its buffers.
@@ -143,11 +179,11 @@ fn serve_all(table: &mut [u8], work: &mut [u8], input: &mut [u8], report: &mut [
     run(table, work, input, report)
 }
 
-// Writes the end mark and the reason's byte.
+// Writes the end mark and the reason's byte. A run that broke off has none.
 fn end(reason: Reason) {
     let number = book::reason_number(reason);
     let mark = [END_MARK, number as u8];
-    io::write_all(libc::STDOUT_FILENO, &mark);
+    streams::write_all(&mark);
 }
 
 fn main() {

@@ -1,4 +1,5 @@
-//! The batch program target/bin/stops, from input to output bytes, beside the second program's.
+//! The batch program target/bin/stops, from input to output bytes, beside the second program's; and
+//! what it does when its streams fail.
 #![cfg(feature = "proved")]
 
 use reference::batch_program;
@@ -7,8 +8,12 @@ use reference::grid::{INPUT_LEN, Leg, MOST_SITES, Site};
 use reference::random::{self, Random};
 use service::desk::LONGEST_RECORD;
 use service::draw::{Pool, unknown_byte};
-use std::io::{Read, Write};
-use std::process::{Command, Stdio};
+use std::fs::File;
+use std::io::{self, Read, Write};
+use std::os::unix::process::ExitStatusExt;
+use std::path::{Path, PathBuf};
+use std::process::{Command, Output, Stdio};
+use std::sync::LazyLock;
 use std::thread;
 use std::time::Duration;
 
@@ -141,4 +146,126 @@ fn megabytes() {
     }
     let output = assert_prints(&input);
     assert_eq!(output[output.len() - 2..], [0x2E, 0]);
+}
+
+// Streams that fail. A run that breaks off says why on standard error, once, and has no end mark.
+
+/// What a program does with this input, which it may leave unread.
+fn run(program: &mut Command, stdout: impl Into<Stdio>, input: &[u8]) -> Output {
+    let program = program.stdin(Stdio::piped()).stdout(stdout);
+    let mut child = program.stderr(Stdio::piped()).spawn().unwrap();
+    let mut pipe = child.stdin.take().unwrap();
+    thread::scope(|scope| {
+        scope.spawn(move || pipe.write_all(input));
+        child.wait_with_output().unwrap()
+    })
+}
+
+fn said(output: &Output) -> &str {
+    str::from_utf8(&output.stderr).unwrap()
+}
+
+/// The program with faults.c between it and the system; these settings are told there.
+fn with_faults(settings: &[(&str, &str)]) -> Command {
+    static FAULTS: LazyLock<PathBuf> = LazyLock::new(|| {
+        let library = Path::new(env!("CARGO_TARGET_TMPDIR")).join("faults.so");
+        let source = concat!(env!("CARGO_MANIFEST_DIR"), "/tests/faults.c");
+        let mut compiler = Command::new("cc");
+        compiler.args(["-Wall", "-Wextra", "-Werror", "-fPIC", "-shared", "-o"]);
+        assert!(
+            compiler
+                .args([&library, Path::new(source)])
+                .status()
+                .unwrap()
+                .success()
+        );
+        library
+    });
+    let mut program = Command::new(PROGRAM);
+    program.env("LD_PRELOAD", &*FAULTS);
+    program.envs(settings.iter().copied());
+    program
+}
+
+#[test]
+fn a_directory_as_input() {
+    let program = &mut Command::new(PROGRAM);
+    let output = program.stdin(File::open("/").unwrap()).output().unwrap();
+    assert_eq!(said(&output), "standard input: Is a directory\n");
+    assert_eq!(output.stdout, []);
+}
+
+#[test]
+fn a_full_device_as_output() {
+    // With no command the end mark itself is not taken.
+    for prints in [0, 1, 2 * INPUT_LEN] {
+        let full = File::options().write(true).open("/dev/full").unwrap();
+        let output = run(&mut Command::new(PROGRAM), full, &print().repeat(prints));
+        assert_eq!(said(&output), "standard output: No space left on device\n");
+    }
+}
+
+#[test]
+fn a_closed_pipe_as_output() {
+    let closed = || io::pipe().unwrap().1;
+    let output = run(&mut Command::new(PROGRAM), closed(), &print());
+    const SIGPIPE: i32 = 13;
+    assert_eq!((output.status.signal(), said(&output)), (Some(SIGPIPE), ""));
+    let mut ignoring = Command::new("sh");
+    ignoring.args(["-c", "trap '' PIPE; exec \"$0\"", PROGRAM]);
+    let output = run(&mut ignoring, closed(), &print());
+    assert_eq!(said(&output), "standard output: Broken pipe\n");
+}
+
+#[test]
+fn interrupted_calls_are_made_again() {
+    let mut random = Random::new(126);
+    let input = random::commands(&mut random, 2_000).concat();
+    let output = run(
+        &mut with_faults(&[("INTERRUPTS", "")]),
+        Stdio::piped(),
+        &input,
+    );
+    assert!(output.stdout == batch_program::run(&input));
+    let counts = said(&output).strip_prefix("interrupted: reads ").unwrap();
+    let (reads, writes) = counts.trim_end().split_once(", writes ").unwrap();
+    assert!(reads.parse::<usize>().unwrap() > 2 * input.len() / INPUT_LEN);
+    assert!(writes.parse::<usize>().unwrap() > 2 * output.stdout.len() / 100);
+}
+
+#[test]
+fn a_read_that_fails_later() {
+    let mut random = Random::new(127);
+    let input = random::commands(&mut random, 300).concat();
+    // A pipe hands so few bytes on in one read; without the last one a command is cut.
+    assert!(input.len() < INPUT_LEN);
+    for input in [&input[..], &input[..input.len() - 1]] {
+        let output = run(
+            &mut with_faults(&[("READ_FAILS", "2")]),
+            Stdio::piped(),
+            input,
+        );
+        let whole = batch_program::run(input);
+        assert_eq!(output.stdout, whole[..whole.len() - 2]);
+        let error = "standard input: Input/output error\ninterrupted: reads 0, writes 0\n";
+        assert_eq!(said(&output), error);
+    }
+}
+
+#[test]
+fn a_write_that_fails_later() {
+    let mut random = Random::new(128);
+    let input = random::commands(&mut random, 2_000).concat();
+    let whole = batch_program::run(&input);
+    // Every third call takes 100 bytes.
+    for (nth, taken) in [("1", 0), ("4", 100), ("7", 200)] {
+        let settings = [("INTERRUPTS", ""), ("WRITE_FAILS", nth)];
+        let output = run(&mut with_faults(&settings), Stdio::piped(), &input);
+        assert_eq!(output.stdout, whole[..taken]);
+        assert_eq!(
+            said(&output).lines().next(),
+            Some("standard output: Input/output error")
+        );
+        assert_eq!(said(&output).lines().count(), 2);
+    }
 }

@@ -1,5 +1,6 @@
 use borrow.Author.Needs.{needs}
-use Rattle.stops.proofs.Following.{follows-all, follows-cut, follows-full, last-unknown, last-wrong, last-broken, room-all, room-cut}
+use Rattle.book.specs.declared.Reason.the-variants.{AllUsed, WrongLength, Broken, CutShort}
+use Rattle.stops.proofs.Following.{reads-as, ready-as, onward-full, final-unknown}
 use Rattle.stops.proofs.follow.Statement.{statement}
 use Rattle.stops.proofs.follow.Tie as tie
 
@@ -7,13 +8,13 @@ enum-told : tie.Need-enum-told
 enum-told c = search needs
 
 join-requires : tie.Need-join-requires
-join-requires c κs = search (needs, room-all)
+join-requires c κs = (ready-as _ _ (c .before .before .before .before .args .reason) AllUsed (search needs) (c .before .before .before .before .pre .1), search (needs, reads-as))
 
 enum-told-2 : tie.Need-enum-told-2
 enum-told-2 c = search needs
 
 join-requires-2 : tie.Need-join-requires-2
-join-requires-2 c κs = search (needs, room-cut)
+join-requires-2 c κs = (ready-as _ _ (c .before .before .before .before .args .reason) CutShort (search needs) (c .before .before .before .before .pre .1), search (needs, reads-as))
 
 enum-told-3 : tie.Need-enum-told-3
 enum-told-3 c = search needs
@@ -31,25 +32,25 @@ same-length : tie.Need-same-length
 same-length c = search needs
 
 returns : tie.Need-returns
-returns c = search (needs, follows-all)
+returns c = search needs
 
 same-length-2 : tie.Need-same-length-2
 same-length-2 c = search needs
 
 returns-2 : tie.Need-returns-2
-returns-2 c = search (needs, follows-cut)
+returns-2 c = search needs
 
 returns-3 : tie.Need-returns-3
-returns-3 c = follows-full (c .before .before .before .args .reason) (c .before .before .before .args .left) (c .before .before .before .args .input .now) (search needs) (c .before .before .before .pre .0)
+returns-3 c = search (needs, onward-full)
 
 returns-4 : tie.Need-returns-4
-returns-4 c = search (needs, last-unknown)
+returns-4 c = search (needs, final-unknown)
 
 returns-5 : tie.Need-returns-5
-returns-5 c = last-wrong _ _ (c .before .before .before .args .reason) (search needs) (c .before .before .before .pre .1)
+returns-5 c = absurd (ready-as _ _ (c .before .before .before .args .reason) WrongLength (search needs) (c .before .before .before .pre .1))
 
 returns-6 : tie.Need-returns-6
-returns-6 c = last-broken _ _ (c .before .before .before .args .reason) (search needs) (c .before .before .before .pre .1)
+returns-6 c = absurd (ready-as _ _ (c .before .before .before .args .reason) Broken (search needs) (c .before .before .before .pre .1))
 
 pub follow-spec : {M : Type 1} → statement M
 follow-spec =
