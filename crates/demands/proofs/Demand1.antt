@@ -11,7 +11,7 @@ use lib.Seq.{drop-append-seam}
 use borrow.Author.Tests.{eq-eqb, ne-eqb}
 use Rattle.limits.specs.Limits.{tableBytes}
 use Rattle.book.specs.declared.Reason.{Reason}
-use Rattle.book.specs.declared.Reason.the-variants.{AllUsed, WrongLength, Broken, UnknownCommand, CutShort, NoRoom}
+use Rattle.book.specs.declared.Reason.the-variants.{AllUsed, UnknownCommand, CutShort, NoRoom}
 use Rattle.book.specs.Numbers.{reasonNumber}
 use Rattle.book.specs.Run.{Outcome, records, run, StopsFor}
 use Rattle.book.proofs.Runs.{run-ends, run-all, all-run, run-reason}
@@ -21,19 +21,11 @@ use Rattle.demands.specs.Batch.Batch.{wrong, broken, served}
 use Rattle.demands.specs.Batch.LaidOut.{wrong as not-laid, laid}
 use Rattle.demands.specs.Whole.{Call, MadeOn}
 use Rattle.demands.specs.Demands.{runOf, Kept, Demand1, Demand1Laid}
+use Rattle.demands.proofs.Reasons.{same-reason}
 use Rattle.demands.proofs.Chains.{chain-kept}
 use Rattle.demands.proofs.WholeRun.{is-wrong, is-broken, is-served}
 
 -- ---- numbers and reasons
-
--- 0 is the number of no other reason
-zero-all : (x : Reason) → reasonNumber x ≡ 0 → x ≡ AllUsed
-zero-all AllUsed e = refl
-zero-all WrongLength e = absurd (omega arith)
-zero-all Broken e = absurd (omega arith)
-zero-all UnknownCommand e = absurd (omega arith)
-zero-all CutShort e = absurd (omega arith)
-zero-all NoRoom e = absurd (omega arith)
 
 -- the four reasons of a run, by their numbers
 abbrev Four : ℕ → Type 0
@@ -97,7 +89,7 @@ module _ (t t′ : List ℕ) (c : Call) (v : Served (runOf t c) t (c .report) (c
               number = reason-is;
               for = subst (λ (n : ℕ). StopsFor (c .commands) (length (c .report)) (runOf t c .reason) n (runOf t c .turns) (runOf t c .book)) (sym used-is) (e .stops);
             };
-        all-used = λ z. used-is ∙ run-all (c .commands) (length (c .report)) (bookOf t) (zero-all (runOf t c .reason) (sym reason-is ∙ z));
+        all-used = λ z. used-is ∙ run-all (c .commands) (length (c .report)) (bookOf t) (same-reason (runOf t c .reason) AllUsed (sym reason-is ∙ z));
         used-all = λ z. reason-is ∙ ap reasonNumber (all-run (c .commands) (length (c .report)) (bookOf t) (sym used-is ∙ z));
         within = (rw used-is (e .inside), rw written-is (e .fits));
         past = past-is;

@@ -22,8 +22,7 @@ use Rattle.records.specs.Decode.{Listed, listedOf}
 use Rattle.book.specs.declared.Command.{Command}
 use Rattle.book.specs.declared.Command.the-variants.{Add, Remove, List as ListOf, Print}
 use Rattle.book.specs.declared.Cause.the-variants.{NoSite, NoLeg}
-use Rattle.book.specs.declared.Reason.{Reason}
-use Rattle.book.specs.declared.Reason.the-variants.{AllUsed, WrongLength, Broken, UnknownCommand, CutShort, NoRoom}
+use Rattle.book.specs.declared.Reason.the-variants.{WrongLength, Broken}
 use Rattle.book.specs.Numbers.{reasonNumber}
 use Rattle.book.specs.Book.{Book, emptyBook, sitesOf, change, writeLine, strikeLine, listOf, standingList}
 use Rattle.book.specs.Encode.{commandBytes, additions}
@@ -45,6 +44,7 @@ use Rattle.demands.specs.Whole.Made.{none as no-call, next}
 use Rattle.demands.specs.Whole.Filled.{none as no-ask, next as more-asks}
 use Rattle.demands.specs.Whole.{Call, Made, Ran, Said, said, Ask, asked, taken, bookAfter, bookOfRun, Filled, Asks, Room, Wrote}
 use Rattle.demands.specs.Demands.{list4C, print50, listRecord, FreshOf, Changed, numberAt, Demand3}
+use Rattle.demands.proofs.Reasons.{same-reason}
 use Rattle.demands.proofs.WholeRun.{Answered, one-on, ran-holds, ran-answers, laid-holds}
 use Rattle.demands.proofs.Legs.{small, list-encodable, held-some, list-answer, list-right}
 use Rattle.demands.proofs.OneCommand.{wrote-one, holds-one, kept-one, accepted-one}
@@ -56,15 +56,7 @@ not-broken : (a : Ask) (b : Book) → reasonNumber (taken a b .reason) ≢ 65
 not-broken a b = go (eqb (a .work) workBytes)
   where
     go : (d : Bool) → reasonNumber (cond d (run (a .commands) (a .room) b) (ends WrongLength 0 [] b) .reason) ≢ 65
-    go true e = by (run (a .commands) (a .room) b .reason) (run-not-broken (a .commands) (a .room) b) e
-      where
-        by : (x : Reason) → x ≢ Broken → reasonNumber x ≢ 65
-        by AllUsed n z = omega arith
-        by WrongLength n z = omega arith
-        by Broken n z = n refl
-        by UnknownCommand n z = omega arith
-        by CutShort n z = omega arith
-        by NoRoom n z = omega arith
+    go true e = run-not-broken (a .commands) (a .room) b (same-reason (run (a .commands) (a .room) b .reason) Broken e)
     go false e = omega arith
 
 made-never : (t : List ℕ) (b : Book) → Holds t b → (cs : List Call) (t′ : List ℕ) → Made t cs t′ → (c : Call) → List·Memᴰ c cs → c .result .reason ≢ 65

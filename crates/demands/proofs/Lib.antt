@@ -1,3 +1,4 @@
+pub mod Reasons
 pub mod Chains
 pub mod WholeRun
 pub mod OneCommand

@@ -1,6 +1,6 @@
 -- The promises of the two calls, one law for each return.
 -- Assumes nothing.
-use mathlib.Core.Path.{_≡_, refl, ap, _∙_}
+use mathlib.Core.Path.{_≡_, refl, ap, subst, _∙_}
 use mathlib.Core.Logic.{_≢_}
 use mathlib.Core.Bool.{Bool, true, false, _&&_}
 use mathlib.Core.List.{List}
@@ -11,18 +11,19 @@ use borrow.Author.Tests.{eq-eqb, ne-eqb}
 use Rattle.limits.specs.Limits.{tableBytes, workBytes}
 use Rattle.grid.specs.Says.{Says}
 use Rattle.grid.proofs.Says.{says-yes, says-no}
+use Rattle.book.specs.declared.Reason.{Reason}
+use Rattle.book.specs.declared.Reason.the-variants.{AllUsed, WrongLength, Broken, UnknownCommand, CutShort, NoRoom}
 use Rattle.book.specs.declared.BatchResult.{BatchResult}
+use Rattle.book.specs.Numbers.{reasonNumber}
 use Rattle.book.specs.Run.{run}
 use Rattle.empty_table.specs.EmptyTable.{emptyTable}
 use Rattle.table.specs.Table.{bookOf, Sound}
-use Rattle.demands.specs.Batch.{Return, returns, returnOf, lengthsOk, zeros, Refused, Served, Batch, LaidOut}
+use Rattle.demands.specs.Batch.{returns, returnOf, lengthsOk, zeros, Refused, Served, Batch, LaidOut}
 use Rattle.demands.specs.Batch.Batch.{wrong, broken, served}
 use Rattle.demands.specs.Batch.LaidOut.{wrong as not-laid, laid}
 use Rattle.serve.specs.Serving.{Answered}
-
--- the test said yes
-pub checked : (t : List ℕ) (q : Bool) → Says q (Sound t) → q ≡ true → Sound t
-checked t q s e = says-yes q s e
+use Rattle.service.specs.declared.admit.Admission.{Admission}
+use Rattle.service.specs.Admitted.{RefusedFor, AdmittedAs}
 
 -- ---- laying out
 
@@ -32,33 +33,60 @@ laid-wrong t n = not-laid (ne-eqb (length t) tableBytes n) refl refl
 pub laid-right : (t t′ : List ℕ) → length t ≡ tableBytes → t′ ≡ emptyTable → LaidOut t 0 t′
 laid-right t t′ n h = laid (eq-eqb (length t) tableBytes n) refl h
 
--- ---- a batch
+-- ---- the lent table
 
-module _ (t w cs rep : List ℕ) (r : Return) where
-  -- everything is left
-  left : (n : ℕ) → r ≡ returns n 0 0 → Refused n t rep r t rep
-  left n h = record { said = h; table = refl; report = refl }
-
+module _ (t w : List ℕ) where
   and-false : (q : Bool) → (q && false) ≡ false
   and-false true = refl
   and-false false = refl
 
-  pub wrong-table : length t ≢ tableBytes → r ≡ returns 64 0 0 → Batch t w cs rep r t w rep
-  wrong-table n h = wrong (ap (λ (q : Bool). q && eqb (length w) workBytes) (ne-eqb (length t) tableBytes n)) (left 64 h) refl
+  pub wrong-table : length t ≢ tableBytes → AdmittedAs (Admission.Refused WrongLength) t w w
+  wrong-table n = (ap (λ (q : Bool). q && eqb (length w) workBytes) (ne-eqb (length t) tableBytes n), refl)
 
-  pub wrong-work : length w ≢ workBytes → r ≡ returns 64 0 0 → Batch t w cs rep r t w rep
-  wrong-work n h =
-      wrong (ap (λ (q : Bool). eqb (length t) tableBytes && q) (ne-eqb (length w) workBytes n) ∙ and-false (eqb (length t) tableBytes)) (left 64 h) refl
+  pub wrong-work : length w ≢ workBytes → AdmittedAs (Admission.Refused WrongLength) t w w
+  wrong-work n = (ap (λ (q : Bool). eqb (length t) tableBytes && q) (ne-eqb (length w) workBytes n) ∙ and-false (eqb (length t) tableBytes), refl)
 
-  module _ (lt : length t ≡ tableBytes) (lw : length w ≡ workBytes) (q : Bool) (s : Says q (Sound t)) where
+  module _ (lt : length t ≡ tableBytes) (lw : length w ≡ workBytes) (q : Bool) (s : Says q (Sound t)) (w₁ : List ℕ) (kept : length w₁ ≡ length w) where
     ok : lengthsOk t w ≡ true
     ok = (λ i. eq-eqb (length t) tableBytes lt i && eq-eqb (length w) workBytes lw i)
 
-    pub broken-table : (w₁ w′ : List ℕ) → length w₁ ≡ length w → w′ ≡ zeros (length w₁) → q ≡ false → r ≡ returns 65 0 0 → Batch t w cs rep r t w′ rep
-    broken-table w₁ w′ kept z e h = broken ok (says-no q s e) (left 65 h) (z ∙ ap zeros (kept ∙ lw))
+    pub table-taken : q ≡ true → AdmittedAs Admission.Taken t w w₁
+    table-taken e = (ok, says-yes q s e, kept ∙ lw)
 
-    pub served-batch : (w′ t′ rep′ : List ℕ) → q ≡ true → Served (run cs (length rep) (bookOf t)) t rep r t′ w′ rep′ → Batch t w cs rep r t′ w′ rep′
-    served-batch w′ t′ rep′ e a = served ok (says-yes q s e) a
+    pub broken-table : (w′ : List ℕ) → w′ ≡ zeros (length w₁) → q ≡ false → AdmittedAs (Admission.Refused Broken) t w w′
+    broken-table w′ z e = (ok, says-no q s e, z ∙ ap zeros (kept ∙ lw))
+
+-- ---- a batch
+
+module _ (t w w₁ : List ℕ) (a : Admission) (h : AdmittedAs a t w w₁) where
+  module _ (e : a ≡ Admission.Taken) where
+    taken : AdmittedAs Admission.Taken t w w₁
+    taken = subst (λ (y : Admission). AdmittedAs y t w w₁) e h
+
+    pub taken-sound : Sound t
+    taken-sound = taken .1 .0
+
+    pub taken-work : length w₁ ≡ workBytes
+    taken-work = taken .1 .1
+
+    pub served-batch : (cs rep : List ℕ) (r : BatchResult) (t′ w′ rep′ : List ℕ) → Served (run cs (length rep) (bookOf t)) t rep (returnOf r) t′ w′ rep′
+        → Batch t w cs rep (returnOf r) t′ w′ rep′
+    served-batch cs rep r t′ w′ rep′ v = served (taken .0) (taken .1 .0) v
+
+  pub refused-batch : (cs rep : List ℕ) (r : BatchResult) (x : Reason) → a ≡ Admission.Refused x → returnOf r ≡ returns (reasonNumber x) 0 0
+      → Batch t w cs rep (returnOf r) t w₁ rep
+  refused-batch cs rep r x e s = go x (subst (λ (y : Admission). AdmittedAs y t w w₁) e h) s
+    where
+      left : (n : ℕ) → returnOf r ≡ returns n 0 0 → Refused n t rep (returnOf r) t rep
+      left n k = record { said = k; table = refl; report = refl }
+
+      go : (y : Reason) → RefusedFor y t w w₁ → returnOf r ≡ returns (reasonNumber y) 0 0 → Batch t w cs rep (returnOf r) t w₁ rep
+      go AllUsed f k = absurd f
+      go WrongLength f k = wrong (f .0) (left 64 k) (f .1)
+      go Broken f k = broken (f .0) (f .1 .0) (left 65 k) (f .1 .1)
+      go UnknownCommand f k = absurd f
+      go CutShort f k = absurd f
+      go NoRoom f k = absurd f
 
 -- the work buffer is cleared behind the last command
 pub served-cleared : (t w w₁ w′ cs rep t′ rep′ : List ℕ) (r : BatchResult) → length w ≡ workBytes → length w₁ ≡ length w → w′ ≡ zeros (length w₁)

@@ -1,4 +1,7 @@
 // The two public calls: laying out a table, and a batch of commands on it. Document 01, "Buffers and batches".
+pub mod admit;
+
+use admit::Admission;
 use book::BatchResult;
 use book::Reason;
 ghost use mathlib.Core.Path.{_≡_};
@@ -45,15 +48,9 @@ fn carry_out(table: &mut [u8], work: &mut [u8], commands: &[u8], report: &mut [u
 pub fn batch(table: &mut [u8], work: &mut [u8], commands: &[u8], report: &mut [u8]) -> BatchResult
     ensures { λ r. ⌜ Batch (now (table .entry)) (now (work .entry)) (now (commands .entry)) (now (report .entry)) (returnOf r) (now (table .exit)) (now (work .exit)) (now (report .exit)) ⌝ }
 {
-    if table.len() != limits::TABLE_BYTES {
-        return refused(Reason::WrongLength);
+    let admission = admit::admit(table, work);
+    match admission {
+        Admission::Taken => carry_out(table, work, commands, report),
+        Admission::Refused(reason) => refused(reason),
     }
-    if work.len() != limits::WORK_BYTES {
-        return refused(Reason::WrongLength);
-    }
-    if table_check::check(table, work) {
-        return carry_out(table, work, commands, report);
-    }
-    empty_table::clear(work);
-    refused(Reason::Broken)
 }

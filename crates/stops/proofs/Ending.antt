@@ -8,8 +8,8 @@ use lib.ListN.{length}
 use Rattle.book.specs.declared.Reason.{Reason}
 use Rattle.book.specs.declared.Reason.the-variants.{AllUsed, WrongLength, Broken, UnknownCommand, CutShort, NoRoom}
 use Rattle.book.specs.Book.{Book}
-use Rattle.book.specs.Run.{Outcome, run}
-use Rattle.book.proofs.Runs.{StopsFor, run-ends}
+use Rattle.book.specs.Run.{Outcome, run, StopsFor}
+use Rattle.book.proofs.Runs.{run-ends}
 use Rattle.book.proofs.Parsing.{cut-bound}
 use Rattle.stops.specs.Calls.{longestCommand, Ready}
 

@@ -1,20 +1,20 @@
 -- The program's turns, one after the other.
 -- Assumes nothing.
-use mathlib.Core.Path.{_≡_, refl, sym, subst, _∙_}
+use mathlib.Core.Path.{_≡_, refl, sym, ap, subst, _∙_}
 use mathlib.Core.Bool.{Bool, true, false}
 use mathlib.Core.List.{List, [], _∷_, _++_}
 use Prim.Native.Nat.{ℕ, _+_, _-_, _≤_, _<_}
 use native.Mathlib.Omega.{arith}
 use lib.ListN.{length, take, length-append}
-use borrow.Author.Tests.{eq-eqb}
 use Rattle.limits.specs.Limits.{tableBytes, workBytes}
 use Rattle.book.specs.declared.Reason.{Reason}
-use Rattle.book.specs.declared.Reason.the-variants.{AllUsed}
+use Rattle.book.specs.Numbers.{reasonNumber}
 use Rattle.table.specs.Table.{Sound}
-use Rattle.demands.specs.Batch.{LaidOut}
+use Rattle.demands.specs.Batch.{returnOf, LaidOut}
 use Rattle.demands.specs.Whole.{Call, MadeOn, Made}
 use Rattle.demands.specs.Whole.Made.{none, next}
 use Rattle.demands.proofs.WholeRun.{laid-holds}
+use Rattle.demands.proofs.Demand1.{demand1-laid}
 use Rattle.stops.specs.declared.Next.{Next}
 use Rattle.stops.specs.declared.Next.the-variants.{More, End, Unread, Untaken, Spent}
 use Rattle.stops.specs.Input.{Taken}
@@ -24,13 +24,13 @@ use Rattle.stops.specs.Calls.Calls.{ended, unread, untaken, spent}
 use Rattle.stops.proofs.Serving.{sound-after}
 
 -- the table that the program lays out
-laid-as : (t t₁ : List ℕ) (r : Reason) → length t ≡ tableBytes → LaidOut t r t₁ → LaidOut t AllUsed t₁
-laid-as t t₁ r l h = rw (← h .laid (eq-eqb (length t) tableBytes l) .0) h
+laid-as : (t t₁ : List ℕ) (r : Reason) → length t ≡ tableBytes → LaidOut t (reasonNumber r) t₁ → LaidOut t 0 t₁
+laid-as t t₁ r l h = subst (λ (n : ℕ). LaidOut t n t₁) (demand1-laid t (reasonNumber r) t₁ h .laid l .0) h
 
-pub laid-sound : (t t₁ : List ℕ) (r : Reason) → length t ≡ tableBytes → LaidOut t r t₁ → Sound t₁
+pub laid-sound : (t t₁ : List ℕ) (r : Reason) → length t ≡ tableBytes → LaidOut t (reasonNumber r) t₁ → Sound t₁
 laid-sound t t₁ r l h = laid-holds t t₁ (laid-as t t₁ r l h) .sound
 
-pub program : (size room : ℕ) (t t₁ : List ℕ) (r : Reason) (x : Next) (t′ : List ℕ) → length t ≡ tableBytes → LaidOut t r t₁ → Series size room t₁ x t′
+pub program : (size room : ℕ) (t t₁ : List ℕ) (r : Reason) (x : Next) (t′ : List ℕ) → length t ≡ tableBytes → LaidOut t (reasonNumber r) t₁ → Series size room t₁ x t′
     → Program size room x t′
 program size room t t₁ r x t′ l h s =
     record { calls = s .calls; are = s .are; ran = record { before = t; laid-table = t₁; laid = laid-as t t₁ r l h; made = s .made } }
@@ -77,7 +77,7 @@ module _ (s₀ rep₀ t₀ t w s rep : List ℕ) (held turns : ℕ) (v : Running
 
   module _ (r : Next) (t′ w′ s′ rep′ : List ℕ) (u : Turned held t w s rep r t′ w′ s′ rep′) where
     abbrev call : Call
-    call = record { work = w; commands = take held s; report = rep; result = u .result; workAfter = w′; reportAfter = rep′ }
+    call = record { work = w; commands = take held s; report = rep; result = returnOf (u .result); workAfter = w′; reportAfter = rep′ }
 
     takes : Takes (length rep₀) (take held s) call
     takes = record { commands = refl; work = v .work; report = v .report }
@@ -89,13 +89,13 @@ module _ (s₀ rep₀ t₀ t w s rep : List ℕ) (held turns : ℕ) (v : Running
         → Running s₀ rep₀ t₀ t′ w′ s′ rep′ n (turns - 1)
     running-next n e l lw lr = go (u .taken) (u .proceeds)
       where
-        go : (q : Bool) → Proceeds (length s) (u .result .reason) (restOf (u .result) (take held s)) q r s′ → Running s₀ rep₀ t₀ t′ w′ s′ rep′ n (turns - 1)
+        go : (q : Bool) → Proceeds (length s) (u .result .reason) (restOf (returnOf (u .result)) (take held s)) q r s′ → Running s₀ rep₀ t₀ t′ w′ s′ rep′ n (turns - 1)
         go false g = absurd (let z : _≡_ {A = ℕ} 0 1 = cc in omega arith)
         go true g =
-            let f = subst (λ (x : Next). Follows (length s) (u .result .reason) (restOf (u .result) (take held s)) x s′) e g in
+            let f = subst (λ (x : Next). Follows (length s) (u .result .reason) (restOf (returnOf (u .result)) (take held s)) x s′) e g in
             record {
               calls = v .calls ++ (call ∷ []);
-              fed = more {held′ = take n s′} (v .fed) takes (u .moves) (rw (← v .input) (f .1));
+              fed = more {held′ = take n s′} (v .fed) takes refl (u .moves) (rw (← v .input) (f .1));
               made = calls-made;
               counted = omega (arith, v .counted, length-append (v .calls) (call ∷ []));
               sound = sound-after t w (take held s) rep (u .result) t′ w′ rep′ (v .sound) (v .work) (u .made);
@@ -107,18 +107,18 @@ module _ (s₀ rep₀ t₀ t w s rep : List ℕ) (held turns : ℕ) (v : Running
               wide = omega (arith, v .wide, lr);
             }
 
-    last : (x : Next) → ((n : ℕ) → x ≡ More n → ⊥) → Follows (length s) (u .result .reason) (restOf (u .result) (take held s)) x s′
+    last : (x : Next) → ((n : ℕ) → x ≡ More n → ⊥) → Follows (length s) (u .result .reason) (restOf (returnOf (u .result)) (take held s)) x s′
         → Calls (length s₀) (length rep₀) (v .calls ++ (call ∷ [])) x
     last (More n) h f = absurd (h n refl)
-    last (End x) h f = ended (v .fed) takes (sym (f .0)) (rw (f .0) (f .1))
-    last Unread h f = unread (v .fed) takes f
+    last (End x) h f = ended (v .fed) takes (ap reasonNumber (sym (f .0))) (rw (f .0) (f .1))
+    last Unread h f = unread (v .fed) takes refl f
     last Untaken h f = absurd f
     last Spent h f = absurd f
 
     pub running-last : ((n : ℕ) → r ≡ More n → ⊥) → Series (length s₀) (length rep₀) t₀ r t′
     running-last h = record { calls = v .calls ++ (call ∷ []); are = go (u .taken) (u .output) (u .proceeds); made = calls-made }
       where
-        go : (q : Bool) → Taken q (u .result .written) → Proceeds (length s) (u .result .reason) (restOf (u .result) (take held s)) q r s′
+        go : (q : Bool) → Taken q (u .result .written) → Proceeds (length s) (u .result .reason) (restOf (returnOf (u .result)) (take held s)) q r s′
             → Calls (length s₀) (length rep₀) (v .calls ++ (call ∷ [])) r
         go true o f = last r h f
         go false o f = rw f (untaken (v .fed) takes o)

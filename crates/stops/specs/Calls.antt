@@ -12,7 +12,8 @@ use Rattle.book.specs.declared.Reason.{Reason}
 use Rattle.book.specs.declared.Reason.the-variants.{AllUsed, WrongLength, Broken, UnknownCommand, CutShort, NoRoom}
 use Rattle.book.specs.declared.BatchResult.{BatchResult}
 use Rattle.book.specs.Command.{commandTable, longestIn}
-use Rattle.demands.specs.Batch.{Batch}
+use Rattle.book.specs.Numbers.{reasonNumber}
+use Rattle.demands.specs.Batch.{Return, returnOf, Batch}
 use Rattle.demands.specs.Whole.{Call, Made, Ran}
 use Rattle.stops.specs.declared.Batched.{Batched}
 use Rattle.stops.specs.declared.Next.{Next}
@@ -94,33 +95,33 @@ Proceeds size reason rest true x s′ = Follows size reason rest x s′
 Proceeds size reason rest false x s′ = x ≡ Untaken
 
 -- a call that found no room wrote something, so that the same command is not refused again
-abbrev pub Moves : BatchResult → Type 0
-Moves r = r .reason ≡ NoRoom → 0 < r .written
+abbrev pub Moves : Return → Type 0
+Moves r = r .reason ≡ 68 → 0 < r .written
 
 -- the bytes that a call left
-abbrev pub restOf : BatchResult → List ℕ → List ℕ
+abbrev pub restOf : Return → List ℕ → List ℕ
 restOf r commands = drop (r .used) commands
 
 -- a batch over the first `held` bytes of the input buffer s, which keeps those that the batch left
 pub record Answered (held : ℕ) (t w s rep : List ℕ) (r : Batched) (t′ w′ s′ rep′ : List ℕ) : Type 0 where
   pub result : BatchResult
-  pub made : Batch t w (take held s) rep result t′ w′ rep′
+  pub made : Batch t w (take held s) rep (returnOf result) t′ w′ rep′
   pub reason : r .reason ≡ result .reason
   pub inside : r .left ≤ length s′
   pub ready : Ready (length s′) (r .reason) (r .left)
-  pub rest : take (r .left) s′ ≡ restOf result (take held s)
-  pub moves : Moves result
+  pub rest : take (r .left) s′ ≡ restOf (returnOf result) (take held s)
+  pub moves : Moves (returnOf result)
   pub output : Taken (r .taken) (result .written)
   pub len : length s′ ≡ length s
 
 -- the same, and what follows
 pub record Turned (held : ℕ) (t w s rep : List ℕ) (r : Next) (t′ w′ s′ rep′ : List ℕ) : Type 0 where
   pub result : BatchResult
-  pub made : Batch t w (take held s) rep result t′ w′ rep′
+  pub made : Batch t w (take held s) rep (returnOf result) t′ w′ rep′
   pub taken : Bool
   pub output : Taken taken (result .written)
-  pub proceeds : Proceeds (length s) (result .reason) (restOf result (take held s)) taken r s′
-  pub moves : Moves result
+  pub proceeds : Proceeds (length s) (result .reason) (restOf (returnOf result) (take held s)) taken r s′
+  pub moves : Moves (returnOf result)
   pub len : length s′ ≡ length s
 
 -- the call takes the held bytes, with buffers of these lengths
@@ -132,8 +133,8 @@ pub record Takes (room : ℕ) (held : List ℕ) (c : Call) : Type 0 where
 -- each call takes what the one before left and what was read behind that; so many bytes are held then
 pub data Fed (size room : ℕ) : List Call → List ℕ → Type 0 where
   start : Fed size room [] []
-  more : {cs : List Call} {held held′ : List ℕ} {c : Call} → Fed size room cs held → Takes room held c → Moves (c .result)
-      → Onward size (c .result .reason) (restOf (c .result) (c .commands)) held′ → Fed size room (cs ++ (c ∷ [])) held′
+  more : {cs : List Call} {held held′ : List ℕ} {c : Call} {reason : Reason} → Fed size room cs held → Takes room held c → c .result .reason ≡ reasonNumber reason
+      → Moves (c .result) → Onward size reason (restOf (c .result) (c .commands)) held′ → Fed size room (cs ++ (c ∷ [])) held′
 
 -- how many turns the program has: 2^64 - 1, more than any run takes
 abbrev pub mostCalls : ℕ
@@ -143,9 +144,9 @@ mostCalls = 18446744073709551615
 -- with the reason of the last call. Or it breaks off: behind a call after which it reads, since the read failed; since the report of the
 -- last call, which was not empty, was not taken; or since the count of turns is spent.
 pub data Calls (size room : ℕ) : List Call → Next → Type 0 where
-  ended : {cs : List Call} {held : List ℕ} {c : Call} {reason : Reason} → Fed size room cs held → Takes room held c → c .result .reason ≡ reason → Final reason
+  ended : {cs : List Call} {held : List ℕ} {c : Call} {reason : Reason} → Fed size room cs held → Takes room held c → c .result .reason ≡ reasonNumber reason → Final reason
       → Calls size room (cs ++ (c ∷ [])) (End reason)
-  unread : {cs : List Call} {held : List ℕ} {c : Call} → Fed size room cs held → Takes room held c → Reads (c .result .reason)
+  unread : {cs : List Call} {held : List ℕ} {c : Call} {reason : Reason} → Fed size room cs held → Takes room held c → c .result .reason ≡ reasonNumber reason → Reads reason
       → Calls size room (cs ++ (c ∷ [])) Unread
   untaken : {cs : List Call} {held : List ℕ} {c : Call} → Fed size room cs held → Takes room held c → 0 < c .result .written
       → Calls size room (cs ++ (c ∷ [])) Untaken

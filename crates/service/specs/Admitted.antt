@@ -1,0 +1,27 @@
+-- Which lent tables are taken. Document 01, "Causes and numbers", 64 and 65.
+-- Assumes nothing.
+use mathlib.Core.Path.{_≡_}
+use mathlib.Core.Bool.{true, false}
+use mathlib.Core.List.{List}
+use Prim.Native.Nat.{ℕ}
+use lib.ListN.{length}
+use Rattle.limits.specs.Limits.{workBytes}
+use Rattle.book.specs.declared.Reason.{Reason}
+use Rattle.book.specs.declared.Reason.the-variants.{AllUsed, WrongLength, Broken, UnknownCommand, CutShort, NoRoom}
+use Rattle.table.specs.Table.{Sound}
+use Rattle.demands.specs.Batch.{lengthsOk, zeros}
+use Rattle.service.specs.declared.admit.Admission.{Admission}
+
+-- "table or work buffer of wrong length" leaves the work buffer; a broken rule in the table leaves it all zero; no other reason refuses a table
+abbrev pub RefusedFor : Reason → List ℕ → List ℕ → List ℕ → Type 0
+RefusedFor AllUsed t w w′ = ⊥
+RefusedFor WrongLength t w w′ = (lengthsOk t w ≡ false) × (w′ ≡ w)
+RefusedFor Broken t w w′ = (lengthsOk t w ≡ true) × (Sound t → ⊥) × (w′ ≡ zeros workBytes)
+RefusedFor UnknownCommand t w w′ = ⊥
+RefusedFor CutShort t w w′ = ⊥
+RefusedFor NoRoom t w w′ = ⊥
+
+-- a table that is taken is sound, and so are both lengths
+abbrev pub AdmittedAs : Admission → List ℕ → List ℕ → List ℕ → Type 0
+AdmittedAs Admission.Taken t w w′ = (lengthsOk t w ≡ true) × Sound t × (length w′ ≡ workBytes)
+AdmittedAs (Admission.Refused x) t w w′ = RefusedFor x t w w′

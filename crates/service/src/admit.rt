@@ -1,0 +1,26 @@
+// The one door for a lent table: lengths, then contents. Document 01, "The table's length is tested first, then the work buffer's, then the table's contents".
+use book::Reason;
+ghost use Rattle.service.specs.Admitted.{AdmittedAs};
+
+// A lent table is taken, or the call is refused for this reason.
+pub enum Admission {
+    Taken,
+    Refused(Reason),
+}
+
+// Whether the table and the work buffer are taken. The work buffer is left, or all zero where the table is broken.
+pub fn admit(table: &[u8], work: &mut [u8]) -> Admission
+    ensures { λ r. ⌜ AdmittedAs r (now (table .entry)) (now (work .entry)) (now (work .exit)) ⌝ }
+{
+    if table.len() != limits::TABLE_BYTES {
+        return Admission::Refused(Reason::WrongLength);
+    }
+    if work.len() != limits::WORK_BYTES {
+        return Admission::Refused(Reason::WrongLength);
+    }
+    if table_check::check(table, work) {
+        return Admission::Taken;
+    }
+    empty_table::clear(work);
+    Admission::Refused(Reason::Broken)
+}
