@@ -1,7 +1,6 @@
 //! `stops-text`: the stop service in words. Lines become commands, the proved service carries
 //! them out, and its records become words and a picture.
 
-mod call;
 mod command;
 mod console;
 mod decode;

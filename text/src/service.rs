@@ -1,11 +1,10 @@
 //! The proved service with its three buffers: commands in, records out.
 
-use crate::call;
 use crate::record::Record;
 use crate::status::Failure;
+use binding::call;
+use binding::layout::{TABLE_LEN, WORK_LEN};
 
-const TABLE_LEN: usize = 32_768;
-const WORK_LEN: usize = 8_192;
 /// Room for a dozen of the longest records (5,123 bytes): each call tests the whole table.
 const REPORT_LEN: usize = 65_536;
 
