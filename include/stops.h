@@ -64,7 +64,19 @@ uint32_t stops_lay_out(uint8_t *table, size_t table_len);
 /* Carries out the commands in turn and writes their records to the report. Returns the reason.
    Every call sets *used to the number of command bytes used and *written to that of report bytes
    written. The work buffer is all zero afterwards, except after 64. Report bytes past the written
-   ones are left. No two of the buffers may overlap. */
+   ones are left.
+
+   The caller sees to it that
+   - each pointer leads to as many bytes as its length says, and nobody else writes them meanwhile;
+   - no two of the buffers overlap;
+   - used and written are not NULL, not the same, and lead into none of the buffers.
+
+   The caller may
+   - pass NULL with a length of 0, for any of the buffers;
+   - lend buffers at any address: only used and written are aligned as a size_t has to be;
+   - call from many threads at once, where each has a table and buffers of its own;
+   - lend a table that can only be read, where the batch changes nothing: none of its commands is
+     accepted, they list or are refused, or the call ends before. */
 uint32_t stops_batch(uint8_t *table, size_t table_len,
                      uint8_t *work, size_t work_len,
                      const uint8_t *commands, size_t commands_len,
