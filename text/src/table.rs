@@ -1,7 +1,7 @@
 //! What a table's bytes say: the sites, the standing leg, and the boxes of the tree.
 
-use crate::grid::{HALF_WIDTH, Position, Site};
-use binding::layout::{self, LEVELS, MOST_LEVELS, MOST_NODES, ROOT, Record, number};
+use crate::grid::{HALF_WIDTH, Leg, Position, Site};
+use binding::layout::{self, Entry, LEVELS, MOST_LEVELS, MOST_NODES, ROOT, Record, number};
 
 /// A box of an entry above the leaves; its corners are positions.
 #[derive(Clone, Copy, Debug, PartialEq, Eq)]
@@ -30,9 +30,52 @@ pub fn sites(table: &[u8]) -> Vec<Site> {
     layout::records(table).map(site).collect()
 }
 
+/// The standing leg.
+pub fn leg(table: &[u8]) -> Option<Leg> {
+    let leg = |[s_east, s_north, e_east, e_north]: [u16; 4]| Leg {
+        s: position(s_east, s_north),
+        e: position(e_east, e_north),
+    };
+    layout::leg_words(table).map(leg)
+}
+
 /// The number of levels of the tree.
 pub fn levels(table: &[u8]) -> usize {
     number(table, LEVELS).min(MOST_LEVELS)
+}
+
+/// A node of the tree, and the smallest box around what lies in it.
+pub struct Node {
+    /// 1 for the root.
+    pub level: usize,
+    pub id: usize,
+    pub entries: usize,
+    pub low: Position,
+    pub high: Position,
+}
+
+/// The nodes of a sound tree, level by level from the root down.
+pub fn nodes(table: &[u8]) -> Vec<Node> {
+    let (mut nodes, mut row) = (Vec::new(), vec![number(table, ROOT)]);
+    for level in 1..=levels(table) {
+        nodes.extend(row.iter().map(|id| node(table, level, *id)));
+        let children = |id: usize| layout::entries(table, id).map(|e| usize::from(e.reference));
+        row = row.into_iter().flat_map(children).collect();
+    }
+    nodes
+}
+
+fn node(table: &[u8], level: usize, id: usize) -> Node {
+    let edges = |edge: fn(Entry) -> u16| layout::entries(table, id).map(edge);
+    let least = |edge| edges(edge).min().unwrap_or_default();
+    let most = |edge| edges(edge).max().unwrap_or_default();
+    Node {
+        level,
+        id,
+        entries: layout::entries(table, id).count(),
+        low: position(least(|e| e.west), least(|e| e.south)),
+        high: position(most(|e| e.east), most(|e| e.north)),
+    }
 }
 
 /// The boxes above the leaves, each before those in it; at a leaf a box is its site's point.
