@@ -28,11 +28,11 @@ test:
 	bash .ci/run
 
 $(HOST) $(PROBE): target/staticlib/lib%.a: $(SOURCES)
-	rt staticlib $* >&2
+	@rt staticlib $* >&2
 	@touch $@
 
 $(STOPS): $(SOURCES)
-	rt check stops >&2
+	@rt check stops >&2
 	@touch $@
 
 text: $(HOST)

@@ -95,10 +95,13 @@ fn lines_that_stops_text_does_itself_have_no_bytes() {
 }
 
 #[test]
-fn the_version_is_the_headers() {
+fn the_version_is_that_of_the_header_and_the_newest_changes() {
     let header = std::fs::read_to_string(common::at_root("include/stops.h")).unwrap();
     let version = header.split("#define STOPS_VERSION \"").nth(1).unwrap();
     let version = version.split('"').next().unwrap();
+    let changes = std::fs::read_to_string(common::at_root("docs/CHANGELOG.md")).unwrap();
+    let newest = changes.lines().find_map(|line| line.strip_prefix("## "));
+    assert_eq!(newest.unwrap().split(',').next(), Some(version));
     for options in [
         &["--version"][..],
         &["--bytes", "--version"],
