@@ -14,7 +14,7 @@ pub fn dump<W: Write, E: Write>(service: &Service, desk: &mut Desk<W, E>) -> Res
     let adds = table::sites(service.table()).into_iter().map(Command::Add);
     let stand = table::leg(service.table()).map(Command::Stand);
     for command in adds.chain(stand) {
-        desk.say(&command)?;
+        desk.say(command)?;
     }
     desk.flush()?;
     Ok(Met::default())

@@ -2,6 +2,7 @@
 //! them out, and its records become words and a picture.
 
 mod act;
+mod acts;
 mod bytes;
 mod check;
 mod command;
@@ -23,6 +24,7 @@ mod replace;
 mod run;
 mod script;
 mod service;
+mod session;
 mod show;
 mod status;
 mod store;
@@ -35,9 +37,9 @@ use desk::Desk;
 use input::Input;
 use options::{Mode, Options};
 use output::Output;
-use run::Session;
 use script::Script;
 use service::Service;
+use session::Session;
 use status::{Failure, Met};
 use std::io::{self, BufWriter, IsTerminal, Write};
 use std::path::PathBuf;

@@ -3,33 +3,11 @@
 use crate::act::Act;
 use crate::command::Command;
 use crate::desk::Desk;
-use crate::help;
-use crate::line::Complaint;
-use crate::picture::{self, Look};
 use crate::script::{self, Item, Script};
-use crate::service::Service;
-use crate::show;
+use crate::session::Session;
 use crate::status::{Failure, Met};
-use crate::store::Store;
-use crate::table;
-use crate::teller::Teller;
 use crate::words::Name;
-use std::ffi::OsStr;
 use std::io::Write;
-
-/// A run: the service, what was told by now, and what lines may do besides.
-pub struct Session {
-    pub service: Service,
-    pub teller: Teller,
-    pub met: Met,
-    /// Answers do not name their lines.
-    pub plain: bool,
-    /// Where the table is kept.
-    pub store: Option<Store>,
-    pub look: Look,
-    /// The run goes on when nobody reads the answers.
-    pub keep_on: bool,
-}
 
 /// Answers every line.
 pub fn run<W: Write, E: Write>(
@@ -68,26 +46,6 @@ enum Flow {
 }
 
 impl Session {
-    pub fn new(service: Service) -> Self {
-        Session {
-            teller: Teller::new(table::leg(service.table())),
-            service,
-            met: Met::default(),
-            plain: false,
-            store: None,
-            look: Look::default(),
-            keep_on: false,
-        }
-    }
-
-    fn name(&self, line: u64) -> Name {
-        if self.plain {
-            Name::Plain
-        } else {
-            Name::Line(line)
-        }
-    }
-
     fn serve<W: Write, E: Write>(
         &mut self,
         items: &[Item],
@@ -138,78 +96,6 @@ impl Session {
         next_command(&mut left, desk, met)?;
         Ok(())
     }
-
-    fn act<W: Write, E: Write>(
-        &mut self,
-        number: u64,
-        act: &Act,
-        desk: &mut Desk<W, E>,
-    ) -> Result<(), Failure> {
-        let name = self.name(number);
-        match act {
-            Act::Sites => show::sites(name, &self.service, desk),
-            Act::Standing => show::standing(name, &mut self.service, desk),
-            Act::Tree => show::tree(name, &self.service, desk),
-            Act::Help => desk.say(help::lines()),
-            Act::Save if self.store.is_none() => self.complain(number, &Complaint::NoTable, desk),
-            Act::Save => {
-                let saved = self.save();
-                self.outcome(number, name, saved, "saved", desk)
-            }
-            Act::Draw(file) => {
-                let drawn = self.draw(file);
-                self.outcome(number, name, drawn, "drawn", desk)
-            }
-            Act::Quit => Ok(()),
-        }
-    }
-
-    fn complain<W: Write, E: Write>(
-        &mut self,
-        number: u64,
-        complaint: &Complaint,
-        desk: &mut Desk<W, E>,
-    ) -> Result<(), Failure> {
-        self.met.bad_line = true;
-        desk.complain(number, complaint)
-    }
-
-    /// A file that cannot be written does not end the run: what it holds would be lost.
-    fn outcome<W: Write, E: Write>(
-        &mut self,
-        number: u64,
-        name: Name,
-        done: Result<(), Failure>,
-        word: &str,
-        desk: &mut Desk<W, E>,
-    ) -> Result<(), Failure> {
-        match done {
-            Ok(()) => desk.say(format_args!("{name}{word}")),
-            Err(failure @ Failure::Io(..)) => {
-                self.met.unwritten = true;
-                desk.complain(number, &failure)
-            }
-            Err(failure) => Err(failure),
-        }
-    }
-
-    /// Where the table is kept in a file.
-    pub fn save(&mut self) -> Result<(), Failure> {
-        match &mut self.store {
-            Some(store) => store.save(self.service.table()),
-            None => Ok(()),
-        }
-    }
-
-    pub fn picture(&mut self) -> Result<String, Failure> {
-        picture::of(&mut self.service, self.teller.leg(), &self.look)
-    }
-
-    pub fn draw(&mut self, file: &OsStr) -> Result<(), Failure> {
-        self.look.guard.allow(file)?;
-        let svg = self.picture()?;
-        self.look.guard.write(file, &svg)
-    }
 }
 
 /// Names the bad lines before the next command, and gives that with its line's number.
@@ -237,6 +123,7 @@ mod tests {
     use crate::console::Console;
     use crate::input::Input;
     use crate::output::Output;
+    use crate::service::Service;
     use std::time::Instant;
 
     /// The exit code, the answers and the messages.

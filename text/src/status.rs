@@ -11,11 +11,14 @@ pub struct Met {
     pub bad_line: bool,
     /// A file could not be written on the way.
     pub unwritten: bool,
+    /// The table that was looked at is broken.
+    pub unsound: bool,
 }
 
 impl Met {
     pub fn code(self) -> u8 {
         match self {
+            Met { unsound: true, .. } => 5,
             Met {
                 unwritten: true, ..
             } => 4,
@@ -108,8 +111,14 @@ mod tests {
             unwritten: true,
             bad_line: true,
             refusal: true,
+            unsound: false,
         };
         assert_eq!(unwritten.code(), 4);
+        let unsound = Met {
+            unsound: true,
+            ..unwritten
+        };
+        assert_eq!(unsound.code(), 5);
     }
 
     #[test]

@@ -36,7 +36,11 @@ pub fn tell(
     match record {
         Record::Accepted => writeln!(out, "accepted"),
         Record::Refused(number) => {
-            writeln!(out, "{name}refused {number}: {}", refusal(*number))
+            let range = match (name, number) {
+                (Name::Line(_) | Name::Command(_), 1) => ", it is 1 to 65,535",
+                _ => "",
+            };
+            writeln!(out, "{name}refused {number}: {}{range}", refusal(*number))
         }
         Record::List(list) => {
             write!(out, "{name}list of {}", entries(list.len()))?;
@@ -186,6 +190,11 @@ mod tests {
         );
         let refused = named(&Record::Refused(3), Name::Line(6), None);
         assert_eq!(refused, "line 6: refused 3: number already held\n");
+        let zero = named(&Record::Refused(1), Name::Line(6), None);
+        assert_eq!(
+            zero,
+            "line 6: refused 1: site number 0, it is 1 to 65,535\n"
+        );
         assert_eq!(named(&Record::Accepted, Name::Line(6), None), "accepted\n");
     }
 }

@@ -76,12 +76,17 @@ fn a_byte_order_mark_is_skipped() {
 
 #[test]
 fn numbers_that_fit_no_word_are_told_with_their_range() {
-    let ran = run(&[], "add 65536 0 0\nadd 1 40000 0\nadd 1 8001 0\n");
+    let ran = run(
+        &[],
+        "add 65536 0 0\nadd 1 40000 0\nadd 1 8001 0\nremove 0\n",
+    );
     let messages = "stops-text: line 1: site number \"65536\" is not within 1 to 65,535
 stops-text: line 2: coordinate \"40000\" is off the grid, -8,000 to 8,000
 ";
     assert_eq!((ran.code, ran.err.as_str()), (2, messages));
-    let refused = "line 3: refused 2: a coordinate outside -8,000 to 8,000\n";
+    let refused = "line 3: refused 2: a coordinate outside -8,000 to 8,000
+line 4: refused 1: site number 0, it is 1 to 65,535
+";
     assert!(ran.text().starts_with(refused));
 }
 

@@ -356,15 +356,14 @@ fn a_broken_table_is_told_with_its_sites() {
     bytes[74..76].copy_from_slice(&16_001u16.to_le_bytes());
     std::fs::write(&file, &bytes).unwrap();
     let ran = file_mode("--check", &file);
-    let expected = "broken: rules do not hold, 2 times
+    let expected = "broken: the service refuses it with reason 65
 site record 1: the easting is off the grid, 0 to 16,000 from its edge, byte 74: 16,001 stands there
 node 263, entry 1: not the easting of the site's record, byte 32,686: 8,007 stands there
 sites that can still be read: 1
 add 1 2 3
 ";
     assert_eq!((ran.code, ran.text()), (5, expected));
-    let message = "stops-text: the service ended with reason 65: a rule is broken in the table\n";
-    assert_eq!(ran.err, message);
+    assert_eq!(ran.err, "");
     let rubbish = file.with_file_name("rubbish");
     std::fs::write(&rubbish, vec![0xA5; 32_768]).unwrap();
     let ran = file_mode("--check", &rubbish);
@@ -376,7 +375,8 @@ add 1 2 3
     );
     std::fs::write(&rubbish, vec![1; 90]).unwrap();
     let short = file_mode("--check", &rubbish);
-    let first = "broken: a rule does not hold\ntable: 90 bytes long, a table has 32,768\n";
+    let first =
+        "broken: the service refuses it with reason 64\ntable: 90 bytes long, a table has 32,768\n";
     assert!(
         short.text().starts_with(first) && short.code == 5,
         "{}",

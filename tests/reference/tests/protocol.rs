@@ -9,12 +9,9 @@ use std::path::Path;
 
 /// The cells of the rows of every table.
 fn rows() -> Vec<Vec<String>> {
-    let rows = text()
-        .lines()
-        .filter(|line| line.starts_with("| "))
-        .map(cells)
-        .collect();
-    rows
+    let text = text();
+    let rows = text.lines().filter(|line| line.starts_with("| "));
+    rows.map(cells).collect()
 }
 
 fn cells(line: &str) -> Vec<String> {

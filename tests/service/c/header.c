@@ -69,10 +69,11 @@ static int read_records(void)
 
 int main(int argc, char **argv)
 {
-    printf("%s", argc == 2 && strcmp(argv[1], "version") == 0 ? STOPS_VERSION "\n" : "");
-    if (argc == 2 && strcmp(argv[1], "write") == 0)
+    const char *mode = argc == 2 ? argv[1] : "version";
+    if (strcmp(mode, "write") == 0)
         return write_commands();
-    if (argc == 2 && strcmp(argv[1], "read") == 0)
+    if (strcmp(mode, "read") == 0)
         return read_records();
-    return STOPS_VERSION_NUMBER / 10000 == 0 ? EXIT_SUCCESS : EXIT_FAILURE;
+    printf("%s %d\n", STOPS_VERSION, STOPS_VERSION_NUMBER);
+    return EXIT_SUCCESS;
 }

@@ -89,6 +89,18 @@ fn what_fits_no_word_is_not_written() {
     assert_eq!(run(&program, "write", misfits.as_bytes()), b"P");
 }
 
+#[test]
+fn both_forms_of_the_version_agree() {
+    let said = run(&program("header_version"), "version", b"");
+    let said = String::from_utf8(said).unwrap();
+    let (text, number) = said.trim().split_once(' ').unwrap();
+    let parts: Vec<u32> = text.split('.').map(|part| part.parse().unwrap()).collect();
+    let [first, second, third] = parts[..] else {
+        panic!("{text}");
+    };
+    assert_eq!(number, (10_000 * first + 100 * second + third).to_string());
+}
+
 fn in_words(record: &Record) -> String {
     match record {
         Record::Accepted => "+ 0 0\n".into(),

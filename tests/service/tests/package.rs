@@ -116,7 +116,7 @@ fn installed_used_and_taken_away() {
     assert_eq!(symbols(&["-g", "--defined-only"], &archive), CALLS);
 
     let installed = Installed(prefix.clone());
-    assert_eq!(installed.pkg_config(&["--modversion"]), [version.clone()]);
+    assert_eq!(installed.pkg_config(&["--modversion"]).concat(), version);
     let stored = std::fs::read_to_string(at_root("examples/coach.expected")).unwrap();
     let linked = installed.pkg_config(&["--libs"]);
     let archived = [archive.display().to_string()];

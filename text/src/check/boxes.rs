@@ -2,15 +2,10 @@
 
 use super::fault::Fault;
 use super::tree::name;
-use binding::layout::{Entry, MOST_NODES, entries, entry_at};
+use binding::layout::{MOST_NODES, entries, entry_at};
 
-/// Each edge: its offset in an entry, whether it is a lower one, and its word.
-const EDGES: [(usize, bool, fn(Entry) -> u16); 4] = [
-    (2, true, |entry| entry.west),
-    (4, true, |entry| entry.south),
-    (6, false, |entry| entry.east),
-    (8, false, |entry| entry.north),
-];
+/// West, south, east and north: the offset in an entry, and whether it is a lower edge.
+const EDGES: [(usize, bool); 4] = [(2, true), (4, true), (6, false), (8, false)];
 
 /// Of a node above the leaves.
 pub fn faults(table: &[u8], node: usize) -> Vec<Fault> {
@@ -20,12 +15,12 @@ pub fn faults(table: &[u8], node: usize) -> Vec<Fault> {
         if child >= MOST_NODES {
             continue;
         }
-        for (offset, lower, edge) in EDGES {
-            let under = entries(table, child).map(edge);
+        for (edge, (offset, lower)) in EDGES.into_iter().enumerate() {
+            let under = entries(table, child).map(|entry| entry.edges()[edge]);
             let Some(right) = (if lower { under.min() } else { under.max() }) else {
                 continue;
             };
-            let found = edge(entry);
+            let found = entry.edges()[edge];
             if found != right {
                 let wider = if lower { found < right } else { found > right };
                 let how = if wider { "wider" } else { "narrower" };

@@ -57,7 +57,10 @@ pub fn tell<W: Write, E: Write>(bytes: &[u8], desk: &mut Desk<W, E>) -> Result<M
         desk.flush()?;
         return Ok(Met::default());
     }
-    desk.say(format_args!("broken: {}", rules(faults.len())))?;
+    let reason = if bytes.len() == TABLE_LEN { 65 } else { 64 };
+    desk.say(format_args!(
+        "broken: the service refuses it with reason {reason}"
+    ))?;
     for fault in faults.iter().take(MOST_TOLD) {
         desk.say(fault)?;
     }
@@ -73,15 +76,10 @@ pub fn tell<W: Write, E: Write>(bytes: &[u8], desk: &mut Desk<W, E>) -> Result<M
         desk.say(Command::Add(site))?;
     }
     desk.flush()?;
-    let reason = if bytes.len() == TABLE_LEN { 65 } else { 64 };
-    Err(Failure::Ended(reason))
-}
-
-fn rules(count: usize) -> String {
-    match count {
-        1 => "a rule does not hold".into(),
-        _ => format!("rules do not hold, {count} times"),
-    }
+    Ok(Met {
+        unsound: true,
+        ..Met::default()
+    })
 }
 
 /// The records with a number and a position on the grid, each number once.
