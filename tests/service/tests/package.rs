@@ -177,6 +177,33 @@ fn a_folder_of_another_root() {
     assert_eq!(files(&root), [""; 0]);
 }
 
+/// As they stand in README, but for the home folder and where the program goes.
+#[test]
+fn the_commands_of_readme() {
+    let _turn = BUILDING.lock();
+    let home = folder("home");
+    let readme = std::fs::read_to_string(at_root("README.md")).unwrap();
+    let part = readme.split("## Call it from C\n").nth(1).unwrap();
+    let part = part.split("\n## ").next().unwrap();
+    let lines = part.lines().filter_map(|line| line.strip_prefix("    "));
+    let commands: Vec<&str> = lines.collect();
+    assert_eq!(commands.len(), 3);
+    let script = commands
+        .join("\n")
+        .replace("-o coach && ./coach", "-o ~/coach && ~/coach");
+    let mut shell = Command::new("sh");
+    shell.current_dir(at_root(".")).args(["-e", "-c", &script]);
+    shell.env("HOME", &home).env_remove("MAKEFLAGS");
+    // The toolchains stay where they are.
+    for (name, folder) in [("CARGO_HOME", ".cargo"), ("RUSTUP_HOME", ".rustup")] {
+        if let (None, Some(before)) = (std::env::var_os(name), std::env::var_os("HOME")) {
+            shell.env(name, Path::new(&before).join(folder));
+        }
+    }
+    let stored = std::fs::read_to_string(at_root("examples/coach.expected")).unwrap();
+    assert!(done(&mut shell).ends_with(&stored));
+}
+
 #[test]
 fn bare_make_prints_every_target_with_its_time() {
     let said = make(&at_root("."), &[]);
