@@ -142,6 +142,14 @@ impl Options {
                 format!("--table needs lines that are run: it goes without {mode}"),
             ),
             (
+                self.plain && !matches!(self.mode, Mode::Run | Mode::Decode),
+                format!("--plain is about answers: it goes without {mode}"),
+            ),
+            (
+                self.force && self.mode != Mode::Run,
+                format!("--force is about pictures: it goes without {mode}"),
+            ),
+            (
                 self.create && self.table.is_none(),
                 "--create belongs to --table".into(),
             ),
@@ -251,6 +259,14 @@ mod tests {
             ("--boxes", "--boxes and --whole-grid belong to --svg"),
             ("--commands a", "--commands belongs to --decode"),
             ("--create", "--create belongs to --table"),
+            (
+                "--plain --check t",
+                "--plain is about answers: it goes without --check",
+            ),
+            (
+                "--force --bytes",
+                "--force is about pictures: it goes without --bytes",
+            ),
             ("--check", "--check needs a file"),
             ("--dump", "--dump needs a file"),
             (

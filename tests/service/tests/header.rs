@@ -36,6 +36,8 @@ fn program(name: &str) -> PathBuf {
 fn run(program: &Path, mode: &str, input: &[u8]) -> Vec<u8> {
     let mut child = Command::new(program)
         .arg(mode)
+        // Looking for leaks needs rights that not every container gives; nothing is allocated.
+        .env("ASAN_OPTIONS", "detect_leaks=0")
         .stdin(Stdio::piped())
         .stdout(Stdio::piped())
         .spawn()
