@@ -1,25 +1,46 @@
-# make test: proves every crate and runs all tests. make text: builds stops-text, the service in words.
-# make demo: the batch program on document 01's example, in bytes and in words. make bench: ratios to plain Rust.
-# make soak MINUTES=n: random years of changes against the second program; SEED=s begins with that year.
-.PHONY: test text demo bench soak
+# `make` prints the targets. What is built goes to standard error, so that standard output is the
+# demonstration alone.
+.PHONY: help test text demo bench soak lib install uninstall clean
+.DEFAULT_GOAL := help
 
+PREFIX ?= /usr/local
 MINUTES ?= 10
+
+VERSION := $(shell sed -n 's/^\#define STOPS_VERSION "\(.*\)"/\1/p' include/stops.h)
+SOURCES := crates.txt $(shell find crates -type f \( -name '*.rt' -o -name '*.antt' \))
+HOST = target/staticlib/libhost.a
+PROBE = target/staticlib/liblist_probe.a
+STOPS = target/bin/stops
 STOPS_TEXT = text/target/release/stops-text
 EXAMPLE = crates/stops/stdin
 ANSWERS = target/demo.answers
 
+# The library: one object, in which all but the exported calls is local.
+PACKAGE = target/package
+SONAME = libstops.so.0
+SHARED = $(PACKAGE)/libstops.so.$(VERSION)
+CALLS = stops_lay_out stops_batch
+
+help:
+	@cat package/targets.txt
+
 test:
 	bash .ci/run
 
-text:
-	@rt staticlib host >&2
+$(HOST) $(PROBE): target/staticlib/lib%.a: $(SOURCES)
+	@rt staticlib $* >&2
+	@touch $@
+
+$(STOPS): $(SOURCES)
+	@rt check stops >&2
+	@touch $@
+
+text: $(HOST)
 	@cargo build --offline --release --manifest-path text/Cargo.toml >&2
 	@echo $(STOPS_TEXT) is built >&2
 
-# What is built goes to standard error, so that standard output is the demonstration alone.
-demo: text
-	@rt check stops >&2
-	@target/bin/stops < $(EXAMPLE) > $(ANSWERS)
+demo: text $(STOPS)
+	@$(STOPS) < $(EXAMPLE) > $(ANSWERS)
 	@echo 'The commands, as bytes:'
 	@od -An -v -tx1 $(EXAMPLE)
 	@echo 'The answers of the batch program, as bytes:'
@@ -27,13 +48,29 @@ demo: text
 	@echo 'The answers in words:'
 	@$(STOPS_TEXT) --decode --commands $(EXAMPLE) $(ANSWERS)
 
-bench:
-	rt staticlib list_probe
-	rt staticlib host
+bench: $(HOST) $(PROBE)
 	cargo run --offline --release --manifest-path bench/service/Cargo.toml
 	cargo run --offline --release --manifest-path bench/lists/Cargo.toml
 	cargo run --offline --release --manifest-path bench/nodes/Cargo.toml
 
-soak:
-	rt staticlib host
+soak: $(HOST)
 	cargo run --offline --release --manifest-path tests/Cargo.toml -p soak --features proved -- $(MINUTES) $(SEED)
+
+lib: $(PACKAGE)/libstops.a $(SHARED)
+
+$(PACKAGE)/stops.o: $(HOST)
+	@mkdir -p $(PACKAGE)
+	ld -r --whole-archive $(HOST) -o $@
+	objcopy $(CALLS:%=--keep-global-symbol=%) $@
+
+$(PACKAGE)/libstops.a: $(PACKAGE)/stops.o
+	rm -f $@
+	ar rcs $@ $<
+
+$(SHARED): $(PACKAGE)/stops.o package/stops.map
+	cc -shared -Wl,-soname,$(SONAME) -Wl,--version-script=package/stops.map -Wl,--no-undefined $< -o $@
+
+include package/install.mk
+
+clean:
+	rm -rf target binding/target tests/target text/target bench/*/target

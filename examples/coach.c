@@ -1,5 +1,7 @@
 /* A day of a coach with the stop service: some stops, a standing leg, other legs, and a stop that
-   is taken out. Prints each list in words. Build it with
+   is taken out. Prints each list in words. With the library installed (make install) build it with
+       cc examples/coach.c $(pkg-config --cflags --libs stops) -o coach
+   and in a checkout with
        cc -Iinclude examples/coach.c target/staticlib/libhost.a -o coach */
 #include "stops.h"
 
@@ -12,7 +14,7 @@ struct position {
 };
 
 struct stop {
-    unsigned number;
+    int number;
     struct position at;
 };
 
@@ -31,103 +33,82 @@ static const char *const refusals[] = {
     "no leg is standing",
 };
 
-static uint8_t *put_word(uint8_t *to, unsigned word)
+/* One batch with one command of this length; its record. */
+static struct stops_answer serve(const uint8_t *command, size_t length)
 {
-    to[0] = (uint8_t)(word & 0xFF);
-    to[1] = (uint8_t)(word >> 8 & 0xFF);
-    return to + 2;
-}
-
-static uint8_t *put_position(uint8_t *to, struct position at)
-{
-    to = put_word(to, (uint16_t)at.east);
-    return put_word(to, (uint16_t)at.north);
-}
-
-static uint32_t number_at(const uint8_t *from, int bytes)
-{
-    uint32_t number = 0;
-    while (bytes-- > 0)
-        number = number << 8 | from[bytes];
-    return number;
-}
-
-/* One batch with one command, which ends at `end`; its record is then in the report. */
-static void serve(const uint8_t *command, const uint8_t *end)
-{
+    struct stops_answer answer;
     size_t used = 0, written = 0;
-    uint32_t reason = stops_batch(table, sizeof table, work, sizeof work, command,
-                                  (size_t)(end - command), report, sizeof report, &used, &written);
-    if (reason != STOPS_ALL_USED) {
+    uint32_t reason = stops_batch(table, sizeof table, work, sizeof work, command, length, report,
+                                  sizeof report, &used, &written);
+    if (reason != STOPS_ALL_USED || stops_read_record(report, written, &answer) != written) {
         fprintf(stderr, "reason %" PRIu32 " after %zu bytes\n", reason, used);
         exit(EXIT_FAILURE);
     }
+    return answer;
 }
 
-static void say_outcome(void)
+static void say_outcome(struct stops_answer answer)
 {
-    if (report[0] == STOPS_ACCEPTED)
+    if (answer.kind == STOPS_ACCEPTED)
         printf("done\n");
     else
-        printf("refused, %s\n", refusals[report[1]]);
+        printf("refused, %s\n", refusals[answer.refusal]);
 }
 
-static void say_list(void)
+static void say_list(struct stops_answer answer)
 {
-    if (report[0] != STOPS_LISTED) {
-        printf("  refused, %s\n", refusals[report[1]]);
+    struct stops_entry entry;
+    if (answer.kind != STOPS_LISTED) {
+        printf("  refused, %s\n", refusals[answer.refusal]);
         return;
     }
-    uint32_t count = number_at(report + 1, 2);
-    for (uint32_t i = 0; i < count; i++) {
-        const uint8_t *entry = report + 3 + 10 * i;
-        uint32_t part = number_at(entry + 2, 4);
-        printf("  stop %" PRIu32 " from ", number_at(entry, 2));
-        if (part == 0)
+    for (size_t i = 0; stops_read_entry(&answer, i, &entry); i++) {
+        printf("  stop %u from ", (unsigned)entry.site);
+        if (entry.numerator == 0)
             printf("the start\n");
         else
-            printf("%" PRIu32 "/%" PRIu32 " of the way\n", part, number_at(entry + 6, 4));
+            printf("%" PRIu32 "/%" PRIu32 " of the way\n", entry.numerator, entry.denominator);
     }
 }
 
 static void add(struct stop stop)
 {
-    uint8_t command[7] = {STOPS_ADD};
-    serve(command, put_position(put_word(command + 1, stop.number), stop.at));
-    printf("Add stop %u at (%d,%d): ", stop.number, stop.at.east, stop.at.north);
-    say_outcome();
+    uint8_t command[STOPS_LONGEST_COMMAND];
+    size_t length = stops_put_add(command, sizeof command, stop.number, stop.at.east, stop.at.north);
+    printf("Add stop %d at (%d,%d): ", stop.number, stop.at.east, stop.at.north);
+    say_outcome(serve(command, length));
 }
 
-static void remove_stop(unsigned number)
+static void remove_stop(int number)
 {
-    uint8_t command[3] = {STOPS_REMOVE};
-    serve(command, put_word(command + 1, number));
-    printf("Remove stop %u: ", number);
-    say_outcome();
+    uint8_t command[STOPS_LONGEST_COMMAND];
+    size_t length = stops_put_remove(command, sizeof command, number);
+    printf("Remove stop %d: ", number);
+    say_outcome(serve(command, length));
 }
 
 static void stand(struct position s, struct position e)
 {
-    uint8_t command[9] = {STOPS_STAND};
-    serve(command, put_position(put_position(command + 1, s), e));
+    uint8_t command[STOPS_LONGEST_COMMAND];
+    size_t length = stops_put_stand(command, sizeof command, s.east, s.north, e.east, e.north);
     printf("Stand on the leg (%d,%d) to (%d,%d): ", s.east, s.north, e.east, e.north);
-    say_outcome();
+    say_outcome(serve(command, length));
 }
 
 static void list(struct position s, struct position e)
 {
-    uint8_t command[9] = {STOPS_LIST};
-    serve(command, put_position(put_position(command + 1, s), e));
+    uint8_t command[STOPS_LONGEST_COMMAND];
+    size_t length = stops_put_list(command, sizeof command, s.east, s.north, e.east, e.north);
     printf("The leg (%d,%d) to (%d,%d):\n", s.east, s.north, e.east, e.north);
-    say_list();
+    say_list(serve(command, length));
 }
 
 static void print(void)
 {
-    uint8_t command[1] = {STOPS_PRINT};
-    serve(command, command + 1);
+    uint8_t command[STOPS_LONGEST_COMMAND];
+    size_t length = stops_put_print(command, sizeof command);
     printf("The standing leg:\n");
-    say_list();
+    say_list(serve(command, length));
 }
 
 int main(void)

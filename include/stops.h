@@ -1,7 +1,11 @@
 /* The stop service: a table of sites in lent bytes, and batches of commands on it.
-   The commands, records and numbers are those of document 01. */
+   docs/PROTOCOL.md says what every byte of commands and records means. */
 #ifndef STOPS_H
 #define STOPS_H
+
+#define STOPS_VERSION "0.6.0"
+/* 10000 times the first number, 100 times the second, and the third. */
+#define STOPS_VERSION_NUMBER 600
 
 #include <stddef.h>
 #include <stdint.h>
@@ -15,6 +19,8 @@ extern "C" {
 #define STOPS_WORK_BYTES 8192
 
 #define STOPS_MOST_SITES 512
+/* No command has more bytes. */
+#define STOPS_LONGEST_COMMAND 9
 /* A report buffer of this length has room for any record: a list of 512 entries. */
 #define STOPS_LONGEST_RECORD 5123
 
@@ -64,12 +70,173 @@ uint32_t stops_lay_out(uint8_t *table, size_t table_len);
 /* Carries out the commands in turn and writes their records to the report. Returns the reason.
    Every call sets *used to the number of command bytes used and *written to that of report bytes
    written. The work buffer is all zero afterwards, except after 64. Report bytes past the written
-   ones are left. No two of the buffers may overlap. */
+   ones are left.
+
+   The caller sees to it that
+   - each pointer leads to as many bytes as its length says, and nobody else writes them meanwhile;
+   - no two of the buffers overlap;
+   - used and written are not NULL, not the same, and lead into none of the buffers.
+
+   The caller may
+   - pass NULL with a length of 0, for any of the buffers;
+   - lend buffers at any address: only used and written are aligned as a size_t has to be;
+   - call from many threads at once, where each has a table and buffers of its own;
+   - lend a table that can only be read, where the batch changes nothing: none of its commands is
+     accepted, they list or are refused, or the call ends before. */
 uint32_t stops_batch(uint8_t *table, size_t table_len,
                      uint8_t *work, size_t work_len,
                      const uint8_t *commands, size_t commands_len,
                      uint8_t *report, size_t report_len,
                      size_t *used, size_t *written);
+
+/* Writing commands. Each of these writes one at `to`, where there is room for `room` bytes, and
+   returns its length; 0, and nothing is written, where the room is too small or a number has more
+   than the 16 bits of its word. Whether it is on the grid, and held, the service judges. */
+
+static inline int stops_fits_number(int32_t number)
+{
+    return number >= 0 && number <= 65535;
+}
+
+static inline int stops_fits_position(int32_t east, int32_t north)
+{
+    return east >= -32768 && east <= 32767 && north >= -32768 && north <= 32767;
+}
+
+static inline void stops_put_word(uint8_t *to, int32_t word)
+{
+    to[0] = (uint8_t)((uint32_t)word & 0xFF);
+    to[1] = (uint8_t)((uint32_t)word >> 8 & 0xFF);
+}
+
+static inline size_t stops_put_site(uint8_t *to, size_t room, uint8_t mark, int32_t number,
+                                    int32_t east, int32_t north)
+{
+    if (room < 7 || !stops_fits_number(number) || !stops_fits_position(east, north))
+        return 0;
+    to[0] = mark;
+    stops_put_word(to + 1, number);
+    stops_put_word(to + 3, east);
+    stops_put_word(to + 5, north);
+    return 7;
+}
+
+static inline size_t stops_put_leg(uint8_t *to, size_t room, uint8_t mark, int32_t s_east,
+                                   int32_t s_north, int32_t e_east, int32_t e_north)
+{
+    if (room < 9 || !stops_fits_position(s_east, s_north) || !stops_fits_position(e_east, e_north))
+        return 0;
+    to[0] = mark;
+    stops_put_word(to + 1, s_east);
+    stops_put_word(to + 3, s_north);
+    stops_put_word(to + 5, e_east);
+    stops_put_word(to + 7, e_north);
+    return 9;
+}
+
+static inline size_t stops_put_add(uint8_t *to, size_t room, int32_t number, int32_t east,
+                                   int32_t north)
+{
+    return stops_put_site(to, room, STOPS_ADD, number, east, north);
+}
+
+static inline size_t stops_put_move(uint8_t *to, size_t room, int32_t number, int32_t east,
+                                    int32_t north)
+{
+    return stops_put_site(to, room, STOPS_MOVE, number, east, north);
+}
+
+static inline size_t stops_put_remove(uint8_t *to, size_t room, int32_t number)
+{
+    if (room < 3 || !stops_fits_number(number))
+        return 0;
+    to[0] = STOPS_REMOVE;
+    stops_put_word(to + 1, number);
+    return 3;
+}
+
+static inline size_t stops_put_list(uint8_t *to, size_t room, int32_t s_east, int32_t s_north,
+                                    int32_t e_east, int32_t e_north)
+{
+    return stops_put_leg(to, room, STOPS_LIST, s_east, s_north, e_east, e_north);
+}
+
+static inline size_t stops_put_stand(uint8_t *to, size_t room, int32_t s_east, int32_t s_north,
+                                     int32_t e_east, int32_t e_north)
+{
+    return stops_put_leg(to, room, STOPS_STAND, s_east, s_north, e_east, e_north);
+}
+
+static inline size_t stops_put_print(uint8_t *to, size_t room)
+{
+    if (room < 1)
+        return 0;
+    to[0] = STOPS_PRINT;
+    return 1;
+}
+
+/* Reading records. */
+
+struct stops_answer {
+    enum stops_record kind;
+    uint8_t refusal;        /* why, where it is refused, else 0 */
+    uint16_t count;         /* of a list's entries, else 0 */
+    const uint8_t *entries; /* in the report, where it is a list, else NULL */
+};
+
+struct stops_entry {
+    uint16_t site;
+    uint32_t numerator, denominator; /* of the start */
+};
+
+static inline uint32_t stops_number_at(const uint8_t *from, int bytes)
+{
+    uint32_t number = 0;
+    while (bytes-- > 0)
+        number = number << 8 | from[bytes];
+    return number;
+}
+
+/* Reads the record that the `length` bytes at `from` begin with, and returns its own length; 0, and
+   *answer is left, where they begin with no whole record. */
+static inline size_t stops_read_record(const uint8_t *from, size_t length,
+                                       struct stops_answer *answer)
+{
+    struct stops_answer read = {STOPS_ACCEPTED, 0, 0, NULL};
+    size_t used = 1;
+    if (length == 0)
+        return 0;
+    if (from[0] == STOPS_REFUSED && length >= 2) {
+        read.kind = STOPS_REFUSED;
+        read.refusal = from[1];
+        used = 2;
+    } else if (from[0] == STOPS_LISTED && length >= 3) {
+        read.kind = STOPS_LISTED;
+        read.count = (uint16_t)stops_number_at(from + 1, 2);
+        read.entries = from + 3;
+        used = 3 + 10 * (size_t)read.count;
+    } else if (from[0] != STOPS_ACCEPTED) {
+        return 0;
+    }
+    if (used > length)
+        return 0;
+    *answer = read;
+    return used;
+}
+
+/* Reads entry i of a list, from 0 on, and returns 1; 0, and *entry is left, where there is none. */
+static inline int stops_read_entry(const struct stops_answer *answer, size_t i,
+                                   struct stops_entry *entry)
+{
+    const uint8_t *from;
+    if (i >= answer->count)
+        return 0;
+    from = answer->entries + 10 * i;
+    entry->site = (uint16_t)stops_number_at(from, 2);
+    entry->numerator = stops_number_at(from + 2, 4);
+    entry->denominator = stops_number_at(from + 6, 4);
+    return 1;
+}
 
 #ifdef __cplusplus
 }

@@ -35,6 +35,11 @@ impl Command {
         }
     }
 
+    /// Whether the byte begins a command.
+    pub fn is_mark(byte: u8) -> bool {
+        [ADD, REMOVE, MOVE, LIST, STAND, PRINT].contains(&byte)
+    }
+
     /// The first command and its length; none where the bytes begin with no whole command.
     pub fn read(bytes: &[u8]) -> Option<(Command, usize)> {
         let (&mark, operands) = bytes.split_first()?;
@@ -48,6 +53,22 @@ impl Command {
             _ => return None,
         };
         Some(command)
+    }
+}
+
+/// As a line says it.
+impl std::fmt::Display for Command {
+    fn fmt(&self, f: &mut std::fmt::Formatter) -> std::fmt::Result {
+        let site = |site: Site| format!("{} {} {}", site.number, site.at.east, site.at.north);
+        let leg = |Leg { s, e }| format!("{} {} {} {}", s.east, s.north, e.east, e.north);
+        match *self {
+            Command::Add(added) => write!(f, "add {}", site(added)),
+            Command::Remove(number) => write!(f, "remove {number}"),
+            Command::Move(moved) => write!(f, "move {}", site(moved)),
+            Command::List(asked) => write!(f, "leg {}", leg(asked)),
+            Command::Stand(set) => write!(f, "stand {}", leg(set)),
+            Command::Print => write!(f, "print"),
+        }
     }
 }
 

@@ -1,12 +1,12 @@
 //! The batch program's output in words.
 
 use crate::command::Command;
+use crate::desk::Desk;
 use crate::input::Input;
 use crate::record::Record;
-use crate::run::Desk;
 use crate::status::{Failure, Met};
 use crate::teller::{self, Teller};
-use crate::words;
+use crate::words::{self, Name};
 use std::io::Write;
 
 const END_MARK: u8 = 0x2E;
@@ -20,13 +20,14 @@ enum Part {
 }
 
 /// Tells every record and the end. `commands` are the bytes that the batch program was fed; where
-/// they are known, lists get their points.
+/// they are known, lists get their points, and there must be a record for each.
 pub fn decode<W: Write, E: Write>(
     mut input: Input,
-    commands: &[u8],
+    commands: Option<&[u8]>,
+    plain: bool,
     desk: &mut Desk<W, E>,
 ) -> Result<Met, Failure> {
-    let mut decoder = Decoder::new(commands);
+    let mut decoder = Decoder::new(commands, plain);
     while !decoder.feed(input.next()?, desk)? {
         desk.console.progress(input.read);
         if desk.out.is_closed() {
@@ -45,18 +46,23 @@ struct Decoder<'a> {
     held: Vec<u8>,
     /// Bytes told.
     told: u64,
-    commands: &'a [u8],
+    commands: Option<Commands<'a>>,
+    /// Records told.
+    records: u64,
+    plain: bool,
     teller: Teller,
     /// Of the end mark.
     reason: Option<u32>,
 }
 
 impl<'a> Decoder<'a> {
-    fn new(commands: &'a [u8]) -> Self {
+    fn new(commands: Option<&'a [u8]>, plain: bool) -> Self {
         Decoder {
             held: Vec::new(),
             told: 0,
-            commands,
+            commands: commands.map(|left| Commands { left, answered: 0 }),
+            records: 0,
+            plain,
             teller: Teller::default(),
             reason: None,
         }
@@ -65,7 +71,7 @@ impl<'a> Decoder<'a> {
     fn met(&self) -> Met {
         Met {
             refusal: self.teller.refused,
-            bad_line: false,
+            ..Met::default()
         }
     }
 
@@ -105,6 +111,7 @@ impl<'a> Decoder<'a> {
                     length
                 }
                 Part::End(reason) => {
+                    self.close(reason)?;
                     self.reason = Some(reason);
                     desk.end(reason)?;
                     2
@@ -121,16 +128,71 @@ impl<'a> Decoder<'a> {
         record: &Record,
         desk: &mut Desk<W, E>,
     ) -> Result<(), Failure> {
-        let command = Command::read(self.commands);
-        if let Some((command, length)) = &command {
-            if !teller::answers(record, command) {
-                return Err(self.fault("the record does not answer its command"));
+        let command = match &mut self.commands {
+            None => None,
+            Some(commands) => {
+                let next = commands.next();
+                let command = next.ok_or_else(|| {
+                    let answered = self.records;
+                    self.fault(format_args!(
+                        "a record too many: {answered} commands were given"
+                    ))
+                })?;
+                if !teller::answers(record, &command) {
+                    return Err(self.fault("the record does not answer its command"));
+                }
+                Some(command)
             }
-            self.commands = &self.commands[*length..];
-        }
-        let command = command.map(|(command, _)| command);
-        let told = self.teller.tell(command.as_ref(), record, &mut desk.out);
+        };
+        self.records += 1;
+        let name = match self.plain {
+            true => Name::Plain,
+            false => Name::Command(self.records),
+        };
+        let out = &mut desk.out;
+        let told = self.teller.tell(name, command.as_ref(), record, out);
         told.map_err(Failure::writing)
+    }
+
+    /// Where the commands are known, those that are left must be what the reason says.
+    fn close(&self, reason: u32) -> Result<(), Failure> {
+        match &self.commands {
+            Some(commands) if !commands.end_with(reason) => {
+                let (given, at) = (self.records, commands.answered);
+                Err(self.fault(format_args!(
+                    "the end does not fit: after {given} records the commands go on at their byte {at}"
+                )))
+            }
+            _ => Ok(()),
+        }
+    }
+}
+
+/// The commands that have no record yet.
+struct Commands<'a> {
+    left: &'a [u8],
+    /// Bytes of those that have one.
+    answered: usize,
+}
+
+impl Commands<'_> {
+    fn next(&mut self) -> Option<Command> {
+        let (command, length) = Command::read(self.left)?;
+        self.left = &self.left[length..];
+        self.answered += length;
+        Some(command)
+    }
+
+    fn end_with(&self, reason: u32) -> bool {
+        let whole = Command::read(self.left).is_some();
+        let known = self.left.first().map(|mark| Command::is_mark(*mark));
+        match reason {
+            0 => self.left.is_empty(),
+            66 => known == Some(false),
+            67 => known == Some(true) && !whole,
+            68 => whole,
+            _ => self.answered == 0,
+        }
     }
 }
 

@@ -1,6 +1,8 @@
 //! Positions, sites and legs of document 01, as wide as a command's words; the service judges
 //! whether they are on the grid.
 
+use std::fmt;
+
 /// Coordinates on the grid run from `-HALF_WIDTH` to `HALF_WIDTH`.
 pub const HALF_WIDTH: i16 = 8_000;
 
@@ -21,4 +23,16 @@ pub struct Site {
 pub struct Leg {
     pub s: Position,
     pub e: Position,
+}
+
+impl fmt::Display for Position {
+    fn fmt(&self, f: &mut fmt::Formatter) -> fmt::Result {
+        write!(f, "({}, {})", self.east, self.north)
+    }
+}
+
+impl fmt::Display for Leg {
+    fn fmt(&self, f: &mut fmt::Formatter) -> fmt::Result {
+        write!(f, "{} to {}", self.s, self.e)
+    }
 }

@@ -73,6 +73,17 @@ impl Input {
             }
         }
     }
+
+    /// All that is left.
+    pub fn whole(&mut self) -> Result<Vec<u8>, Failure> {
+        let mut all = Vec::new();
+        loop {
+            match self.next()? {
+                [] => return Ok(all),
+                piece => all.extend(piece),
+            }
+        }
+    }
 }
 
 /// The whole file.

@@ -1,5 +1,6 @@
-//! One line of text: a command, nothing, or a complaint.
+//! One line of text: a command, something to do, nothing, or a complaint.
 
+use crate::act::Act;
 use crate::command::Command;
 use crate::grid::{Leg, Position, Site};
 use std::fmt;
@@ -14,15 +15,28 @@ pub enum Complaint {
     SiteNumber(String),
     Coordinate(String),
     TooLong(usize),
+    Words(&'static str),
+    /// With --bytes: a line that is for stops-text alone.
+    NoBytes(&'static str),
+    NoTable,
 }
 
+/// What a line asks for.
+#[derive(Clone, Debug, PartialEq, Eq)]
+pub enum Said {
+    Command(Command),
+    Act(Act),
+}
+
+const KNOWN: &str =
+    "add, remove, move, leg, stand, print; sites, standing, tree, save, draw, help, quit";
 const SITE: &str = "site number, easting, northing";
 const LEG: &str = "easting and northing of the start, then of the end";
 /// What is shown of a word that is not understood.
 const SHOWN: usize = 24;
 
-/// The command of a line; none if it is empty or a comment.
-pub fn parse(line: &[u8]) -> Result<Option<Command>, Complaint> {
+/// None for a line that is empty or a comment.
+pub fn parse(line: &[u8]) -> Result<Option<Said>, Complaint> {
     // What a comment says is nobody's matter, whatever its bytes.
     let text = line.split(|byte| *byte == b'#').next().unwrap_or_default();
     let words: Vec<&[u8]> = text
@@ -32,7 +46,33 @@ pub fn parse(line: &[u8]) -> Result<Option<Command>, Complaint> {
     let Some((first, operands)) = words.split_first() else {
         return Ok(None);
     };
-    command(first, operands).map(Some)
+    match act(first, operands)? {
+        Some(act) => Ok(Some(Said::Act(act))),
+        None => command(first, operands).map(|command| Some(Said::Command(command))),
+    }
+}
+
+/// None for a word that may be a command's.
+fn act(first: &[u8], operands: &[&[u8]]) -> Result<Option<Act>, Complaint> {
+    let plain = [
+        Act::Sites,
+        Act::Standing,
+        Act::Tree,
+        Act::Save,
+        Act::Help,
+        Act::Quit,
+    ];
+    if first == b"draw" {
+        return match operands {
+            [file] if *file != b"-" => Ok(Some(Act::draw(file))),
+            _ => Err(Complaint::Words("draw takes a file, and nothing else")),
+        };
+    }
+    let Some(act) = plain.into_iter().find(|act| act.word().as_bytes() == first) else {
+        return Ok(None);
+    };
+    let [] = counted(act.word(), "nothing", operands)?;
+    Ok(Some(act))
 }
 
 fn command(first: &[u8], operands: &[&[u8]]) -> Result<Command, Complaint> {
@@ -114,22 +154,24 @@ fn shown(word: &[u8]) -> String {
 impl fmt::Display for Complaint {
     fn fmt(&self, f: &mut fmt::Formatter) -> fmt::Result {
         match self {
-            Complaint::UnknownWord(word) => write!(
-                f,
-                "unknown word \"{word}\" (known: add, remove, move, leg, stand, print)"
-            ),
+            Complaint::UnknownWord(word) => write!(f, "unknown word \"{word}\" (known: {KNOWN})"),
             Complaint::Count(name, wanted, count, found) => {
                 let s = if *count == 1 { "" } else { "s" };
                 write!(f, "{name} takes {count} number{s} ({wanted}), not {found}")
             }
             Complaint::NotANumber(word) => write!(f, "\"{word}\" is not a whole number"),
             Complaint::SiteNumber(word) => {
-                write!(f, "site number \"{word}\" is not within 0 to 65535")
+                write!(f, "site number \"{word}\" is not within 1 to 65,535")
             }
             Complaint::Coordinate(word) => {
-                write!(f, "coordinate \"{word}\" is not within -32768 to 32767")
+                write!(f, "coordinate \"{word}\" is off the grid, -8,000 to 8,000")
             }
             Complaint::TooLong(most) => write!(f, "longer than {most} bytes"),
+            Complaint::Words(words) => write!(f, "{words}"),
+            Complaint::NoBytes(word) => {
+                write!(f, "{word} has no command bytes: stops-text does it itself")
+            }
+            Complaint::NoTable => write!(f, "save needs --table FILE"),
         }
     }
 }
@@ -143,7 +185,11 @@ mod tests {
     }
 
     fn good(line: &str) -> Option<Command> {
-        parse(line.as_bytes()).unwrap()
+        match parse(line.as_bytes()).unwrap() {
+            Some(Said::Command(command)) => Some(command),
+            Some(Said::Act(act)) => panic!("{act:?}"),
+            None => None,
+        }
     }
 
     fn bad(line: &[u8]) -> String {
@@ -169,13 +215,35 @@ mod tests {
     }
 
     #[test]
+    fn every_act() {
+        for act in [
+            Act::Sites,
+            Act::Standing,
+            Act::Tree,
+            Act::Save,
+            Act::Help,
+            Act::Quit,
+        ] {
+            let word = act.word();
+            assert_eq!(parse(word.as_bytes()), Ok(Some(Said::Act(act))));
+            let more = format!("{word} takes 0 numbers (nothing), not 1");
+            assert_eq!(bad(format!("{word} x").as_bytes()), more);
+        }
+        let draw = Act::Draw("a.svg".into());
+        assert_eq!(parse(b"draw a.svg # so"), Ok(Some(Said::Act(draw))));
+        assert_eq!(bad(b"draw"), "draw takes a file, and nothing else");
+        assert_eq!(bad(b"draw a b"), "draw takes a file, and nothing else");
+    }
+
+    #[test]
     fn blanks_signs_and_comments() {
         assert_eq!(good("\t remove   +07 \r"), Some(Command::Remove(7)));
         assert_eq!(good("remove 7# the old one"), Some(Command::Remove(7)));
         assert_eq!(good(" # add 1 2 3"), None);
         assert_eq!(good(" \t\r"), None);
         assert_eq!(good(""), None);
-        assert_eq!(parse(b"print # caf\xe9 \0\xff"), Ok(Some(Command::Print)));
+        let print = Some(Said::Command(Command::Print));
+        assert_eq!(parse(b"print # caf\xe9 \0\xff"), Ok(print));
     }
 
     #[test]
@@ -190,7 +258,7 @@ mod tests {
 
     #[test]
     fn unknown_words() {
-        let known = "(known: add, remove, move, leg, stand, print)";
+        let known = format!("(known: {KNOWN})");
         for (line, word) in [
             (&b"ad 1 2 3"[..], "ad"),
             (b"Add 1 2 3", "Add"),
@@ -227,16 +295,16 @@ mod tests {
             ("add 1 - 3", "\"-\" is not a whole number"),
             (
                 "remove 65536",
-                "site number \"65536\" is not within 0 to 65535",
+                "site number \"65536\" is not within 1 to 65,535",
             ),
-            ("remove -1", "site number \"-1\" is not within 0 to 65535"),
+            ("remove -1", "site number \"-1\" is not within 1 to 65,535"),
             (
                 "stand 0 0 -32769 0",
-                "coordinate \"-32769\" is not within -32768 to 32767",
+                "coordinate \"-32769\" is off the grid, -8,000 to 8,000",
             ),
             (
                 "move 1 32768 0",
-                "coordinate \"32768\" is not within -32768 to 32767",
+                "coordinate \"32768\" is off the grid, -8,000 to 8,000",
             ),
         ] {
             assert_eq!(bad(line.as_bytes()), complaint);
@@ -245,7 +313,7 @@ mod tests {
         let long = bad(format!("remove {nines}{nines}").as_bytes());
         assert_eq!(
             long,
-            format!("site number \"{nines}...\" is not within 0 to 65535")
+            format!("site number \"{nines}...\" is not within 1 to 65,535")
         );
     }
 }

@@ -1,124 +1,94 @@
-//! Lines in: run through the service and answered in words, or written as command bytes.
+//! Lines in, run through the service and answered in words.
 
+use crate::act::Act;
 use crate::command::Command;
-use crate::console::Console;
-use crate::output::Output;
-use crate::record::Record;
+use crate::desk::Desk;
 use crate::script::{self, Item, Script};
-use crate::service::Service;
+use crate::session::Session;
 use crate::status::{Failure, Met};
-use crate::teller::Teller;
-use crate::words;
+use crate::words::Name;
 use std::io::Write;
 
-/// Where answers and messages go.
-pub struct Desk<W: Write, E: Write> {
-    pub out: Output<W>,
-    pub console: Console<E>,
-    /// Both go to a terminal, so a progress line has to make way for answers.
-    pub shared: bool,
-}
-
-impl<W: Write, E: Write> Desk<W, E> {
-    pub fn flush(&mut self) -> Result<(), Failure> {
-        if self.shared {
-            self.console.make_way();
-        }
-        self.out.flush().map_err(Failure::writing)
-    }
-
-    /// Answers come first, so that on a terminal everything stands in the order of the lines.
-    fn complain(&mut self, number: u64, complaint: &impl std::fmt::Display) -> Result<(), Failure> {
-        self.flush()?;
-        self.console.say(format_args!("line {number}: {complaint}"));
-        Ok(())
-    }
-
-    /// After a piece of input; the progress line comes last.
-    fn rest(&mut self, read: u64) -> Result<(), Failure> {
-        self.flush()?;
-        self.console.progress(read);
-        Ok(())
-    }
-
-    pub fn end(&mut self, reason: u32) -> Result<(), Failure> {
-        words::tell_end(reason, &mut self.out).map_err(Failure::writing)?;
-        self.flush()
-    }
-}
-
-/// Writes the commands' bytes; nothing is run.
-pub fn write_bytes<W: Write, E: Write>(
-    mut script: Script,
-    desk: &mut Desk<W, E>,
-) -> Result<Met, Failure> {
-    let mut met = Met::default();
-    while let Some(items) = script.next()? {
-        for item in &items {
-            if let Item::Bad(number, complaint) = item {
-                met.bad_line = true;
-                desk.complain(*number, complaint)?;
-            }
-        }
-        let written = desk.out.write_all(&script::bytes(&items));
-        written.map_err(Failure::writing)?;
-        desk.rest(script.input.read)?;
-        if desk.out.is_closed() {
-            break;
-        }
-    }
-    Ok(met)
-}
-
-/// The service after the lines, and what was told on the way.
-pub struct Ran {
-    pub service: Service,
-    pub teller: Teller,
-    pub met: Met,
-}
-
-/// Answers every line. `keep_on`: also when nobody reads the answers, since a picture is wanted.
+/// Answers every line.
 pub fn run<W: Write, E: Write>(
-    service: Service,
+    session: &mut Session,
     mut script: Script,
     desk: &mut Desk<W, E>,
-    keep_on: bool,
-) -> Result<Ran, Failure> {
-    let mut ran = Ran {
-        service,
-        teller: Teller::default(),
-        met: Met::default(),
-    };
+) -> Result<(), Failure> {
+    desk.greet()?;
+    desk.prompt()?;
     while let Some(items) = script.next()? {
-        let served = ran.serve(&items, desk);
+        let served = session.serve(&items, desk);
         if let Err(Failure::Ended(reason)) = served {
             desk.end(reason)?;
         }
-        served?;
+        if served? == Flow::Quit {
+            break;
+        }
         desk.rest(script.input.read)?;
-        if desk.out.is_closed() && !keep_on {
-            return Ok(ran);
+        if desk.out.is_closed() && !session.keep_on {
+            return Ok(());
+        }
+        if !script.ended() {
+            desk.prompt()?;
+        } else if desk.talk {
+            // The end of what is typed stands behind a prompt.
+            desk.say("")?;
         }
     }
-    desk.end(0)?;
-    Ok(ran)
+    desk.end(0)
 }
 
-impl Ran {
+#[derive(PartialEq, Eq)]
+enum Flow {
+    On,
+    Quit,
+}
+
+impl Session {
     fn serve<W: Write, E: Write>(
         &mut self,
         items: &[Item],
         desk: &mut Desk<W, E>,
+    ) -> Result<Flow, Failure> {
+        let mut rest = items;
+        loop {
+            let is_act = |item: &Item| matches!(item, Item::Act(..));
+            let before = rest.iter().position(is_act).unwrap_or(rest.len());
+            self.serve_commands(&rest[..before], desk)?;
+            match rest[before..].split_first() {
+                Some((Item::Act(_, Act::Quit), _)) => return Ok(Flow::Quit),
+                Some((Item::Act(number, act), later)) => {
+                    self.act(*number, act, desk)?;
+                    rest = later;
+                }
+                _ => return Ok(Flow::On),
+            }
+        }
+    }
+
+    /// Commands and bad lines.
+    fn serve_commands<W: Write, E: Write>(
+        &mut self,
+        items: &[Item],
+        desk: &mut Desk<W, E>,
     ) -> Result<(), Failure> {
-        let Ran {
+        let plain = self.plain;
+        let Session {
             service,
             teller,
             met,
+            ..
         } = self;
         let mut left = items.iter();
         let served = service.serve(&script::bytes(items), |record| {
-            let command = next_command(&mut left, desk, met)?;
-            tell(teller, command, &record, desk)
+            let (number, command) = next_command(&mut left, desk, met)?.unzip();
+            let name = match number {
+                Some(number) if !plain => Name::Line(number),
+                _ => Name::Plain,
+            };
+            let told = teller.tell(name, command, &record, &mut desk.out);
+            told.map_err(Failure::writing)
         });
         met.refusal |= teller.refused;
         served?;
@@ -128,29 +98,20 @@ impl Ran {
     }
 }
 
-fn tell<W: Write, E: Write>(
-    teller: &mut Teller,
-    command: Option<&Command>,
-    record: &Record,
-    desk: &mut Desk<W, E>,
-) -> Result<(), Failure> {
-    let told = teller.tell(command, record, &mut desk.out);
-    told.map_err(Failure::writing)
-}
-
-/// Names the bad lines before the next command, and gives that.
+/// Names the bad lines before the next command, and gives that with its line's number.
 fn next_command<'a, W: Write, E: Write>(
     left: &mut std::slice::Iter<'a, Item>,
     desk: &mut Desk<W, E>,
     met: &mut Met,
-) -> Result<Option<&'a Command>, Failure> {
+) -> Result<Option<(u64, &'a Command)>, Failure> {
     for item in left {
         match item {
-            Item::Command(command) => return Ok(Some(command)),
+            Item::Command(number, command) => return Ok(Some((*number, command))),
             Item::Bad(number, complaint) => {
                 met.bad_line = true;
                 desk.complain(*number, complaint)?;
             }
+            Item::Act(..) => {}
         }
     }
     Ok(None)
@@ -159,7 +120,10 @@ fn next_command<'a, W: Write, E: Write>(
 #[cfg(test)]
 mod tests {
     use super::*;
+    use crate::console::Console;
     use crate::input::Input;
+    use crate::output::Output;
+    use crate::service::Service;
     use std::time::Instant;
 
     /// The exit code, the answers and the messages.
@@ -169,9 +133,11 @@ mod tests {
             out: Output::new(&mut out),
             console: Console::on(&mut err, false, None, Instant::now()),
             shared: false,
+            talk: false,
         };
-        let ran = run(service, Script::new(Input::of(lines)), &mut desk, false);
-        let code = ran.map_or_else(|failure| failure.code(), |ran| ran.met.code());
+        let mut session = Session::new(service);
+        let done = run(&mut session, Script::new(Input::of(lines)), &mut desk);
+        let code = done.map_or_else(|failure| failure.code(), |()| session.met.code());
         drop(desk);
         let text = |bytes| String::from_utf8(bytes).unwrap();
         (code, text(out), text(err))
@@ -188,7 +154,7 @@ mod tests {
     fn bad_lines_are_named_in_their_place() {
         let service = Service::new().unwrap();
         let (code, out, err) = ran(service, b"x\nprint\ny\nz");
-        let refused = "refused 7: no standing leg\nend 0: all commands used\n";
+        let refused = "line 2: refused 7: no standing leg\nend 0: all commands used\n";
         assert_eq!((code, out.as_str()), (2, refused));
         let lines: Vec<&str> = err.lines().map(|line| &line[..19]).collect();
         assert_eq!(

@@ -1,14 +1,19 @@
-//! Input lines as they come, piece by piece: commands and bad lines in their order.
+//! Input lines as they come, piece by piece: what they ask for, in their order.
 
+use crate::act::Act;
 use crate::command::Command;
 use crate::input::Input;
-use crate::line::{self, Complaint};
+use crate::line::{self, Complaint, Said};
 use crate::lines::{LONGEST, Line, Lines};
 use crate::status::Failure;
 
+/// A UTF-8 byte order mark, which some editors write first.
+const BYTE_ORDER_MARK: &[u8] = b"\xef\xbb\xbf";
+
+/// Each with its line's number.
 pub enum Item {
-    Command(Command),
-    /// A bad line's number, and what is wrong with it.
+    Command(u64, Command),
+    Act(u64, Act),
     Bad(u64, Complaint),
 }
 
@@ -43,16 +48,26 @@ impl Script {
         }
         Ok(Some(items))
     }
+
+    /// The input has ended, not a line.
+    pub fn ended(&self) -> bool {
+        self.ended
+    }
 }
 
 /// None for a line that says nothing.
 fn item(number: u64, line: Line) -> Option<Item> {
     let parsed = match line {
+        Line::Whole(bytes) if number == 1 => {
+            line::parse(bytes.strip_prefix(BYTE_ORDER_MARK).unwrap_or(bytes))
+        }
         Line::Whole(bytes) => line::parse(bytes),
         Line::TooLong => Err(Complaint::TooLong(LONGEST)),
     };
     match parsed {
-        Ok(command) => command.map(Item::Command),
+        Ok(None) => None,
+        Ok(Some(Said::Command(command))) => Some(Item::Command(number, command)),
+        Ok(Some(Said::Act(act))) => Some(Item::Act(number, act)),
         Err(complaint) => Some(Item::Bad(number, complaint)),
     }
 }
@@ -61,7 +76,7 @@ fn item(number: u64, line: Line) -> Option<Item> {
 pub fn bytes(items: &[Item]) -> Vec<u8> {
     let mut bytes = Vec::new();
     for item in items {
-        if let Item::Command(command) = item {
+        if let Item::Command(_, command) = item {
             command.write(&mut bytes);
         }
     }

@@ -1,11 +1,11 @@
 //! The proved service with its three buffers: commands in, records out.
 
-use crate::call;
-use crate::record::Record;
+use crate::command::Command;
+use crate::record::{Entry, Record};
 use crate::status::Failure;
+use binding::call;
+use binding::layout::{TABLE_LEN, WORK_LEN};
 
-const TABLE_LEN: usize = 32_768;
-const WORK_LEN: usize = 8_192;
 /// Room for a dozen of the longest records (5,123 bytes): each call tests the whole table.
 const REPORT_LEN: usize = 65_536;
 
@@ -31,6 +31,24 @@ impl Service {
         }
     }
 
+    /// On a table that somebody kept; the reason where it is refused.
+    pub fn take_up(table: Vec<u8>) -> Result<Self, u32> {
+        let mut service = Service {
+            table,
+            work: vec![0; WORK_LEN],
+            report: vec![0; REPORT_LEN],
+        };
+        let Service {
+            table,
+            work,
+            report,
+        } = &mut service;
+        match call::batch(table, work, &[], report).reason {
+            ALL_USED => Ok(service),
+            reason => Err(reason),
+        }
+    }
+
     /// A table that says it holds a site, and holds none.
     #[cfg(test)]
     pub fn broken() -> Self {
@@ -41,6 +59,19 @@ impl Service {
 
     pub fn table(&self) -> &[u8] {
         &self.table
+    }
+
+    /// What the service lists at this command; nothing where it refuses.
+    pub fn list(&mut self, command: &Command) -> Result<Vec<Entry>, Failure> {
+        let (mut bytes, mut list) = (Vec::new(), Vec::new());
+        command.write(&mut bytes);
+        self.serve(&bytes, |record| {
+            if let Record::List(entries) = record {
+                list = entries;
+            }
+            Ok(())
+        })?;
+        Ok(list)
     }
 
     /// Hands over the record of each command in turn; the commands are whole and known.

@@ -9,11 +9,19 @@ use std::io;
 pub struct Met {
     pub refusal: bool,
     pub bad_line: bool,
+    /// A file could not be written on the way.
+    pub unwritten: bool,
+    /// The table that was looked at is broken.
+    pub unsound: bool,
 }
 
 impl Met {
     pub fn code(self) -> u8 {
         match self {
+            Met { unsound: true, .. } => 5,
+            Met {
+                unwritten: true, ..
+            } => 4,
             Met { bad_line: true, .. } => 2,
             Met { refusal: true, .. } => 1,
             _ => 0,
@@ -29,6 +37,8 @@ pub enum Failure {
     Io(String, io::Error),
     /// The service ended with a reason of its own.
     Ended(u32),
+    /// A file, and the reason that the service gives for refusing it as a table.
+    NoTable(String, u32),
     /// The bytes that the service wrote are no records.
     Report,
     /// With --decode: the byte, and why it cannot be read.
@@ -41,7 +51,7 @@ impl Failure {
             Failure::Undecodable(..) => 2,
             Failure::Usage(_) => 3,
             Failure::Io(..) => 4,
-            Failure::Ended(_) | Failure::Report => 5,
+            Failure::Ended(_) | Failure::Report | Failure::NoTable(..) => 5,
         }
     }
 
@@ -63,6 +73,13 @@ impl fmt::Display for Failure {
                     words::reason(*number)
                 )
             }
+            Failure::NoTable(name, reason) => {
+                let why = words::reason(*reason);
+                write!(
+                    f,
+                    "{name} is no sound table: reason {reason}, {why}; --check {name} tells more"
+                )
+            }
             Failure::Report => write!(f, "the service wrote a report that cannot be read"),
             Failure::Undecodable(at, why) => write!(f, "byte {at}: {why}"),
         }
@@ -75,7 +92,14 @@ mod tests {
 
     #[test]
     fn a_bad_line_outweighs_a_refusal() {
-        let code = |refusal, bad_line| Met { refusal, bad_line }.code();
+        let code = |refusal, bad_line| {
+            let met = Met {
+                refusal,
+                bad_line,
+                ..Met::default()
+            };
+            met.code()
+        };
         let codes = [
             code(false, false),
             code(true, false),
@@ -83,6 +107,18 @@ mod tests {
             code(true, true),
         ];
         assert_eq!(codes, [0, 1, 2, 2]);
+        let unwritten = Met {
+            unwritten: true,
+            bad_line: true,
+            refusal: true,
+            unsound: false,
+        };
+        assert_eq!(unwritten.code(), 4);
+        let unsound = Met {
+            unsound: true,
+            ..unwritten
+        };
+        assert_eq!(unsound.code(), 5);
     }
 
     #[test]
@@ -104,6 +140,11 @@ mod tests {
                 Failure::Ended(64),
                 5,
                 "the service ended with reason 64: table or work buffer of wrong length",
+            ),
+            (
+                Failure::NoTable("t".into(), 65),
+                5,
+                "t is no sound table: reason 65, a rule is broken in the table; --check t tells more",
             ),
             (
                 Failure::Report,

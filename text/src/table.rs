@@ -1,18 +1,7 @@
-//! The table's bytes as docs/LAYOUT.md has them: the sites, and the boxes of the tree.
+//! What a table's bytes say: the sites, the standing leg, and the boxes of the tree.
 
-use crate::grid::{HALF_WIDTH, Position, Site};
-
-const SITE_ARRAY: usize = 64;
-const RECORD_LEN: usize = 8;
-const MOST_SITES: usize = 512;
-const LEVELS: usize = 5_184;
-const ROOT: usize = 5_186;
-const NODE_POOL: usize = 6_896;
-const NODE_LEN: usize = 98;
-const ENTRY_LEN: usize = 12;
-const MOST_ENTRIES: usize = 8;
-const MOST_NODES: usize = 264;
-const MOST_LEVELS: usize = 6;
+use crate::grid::{HALF_WIDTH, Leg, Position, Site};
+use binding::layout::{self, Entry, LEVELS, MOST_LEVELS, MOST_NODES, ROOT, Record, number};
 
 /// A box of an entry above the leaves; its corners are positions.
 #[derive(Clone, Copy, Debug, PartialEq, Eq)]
@@ -23,63 +12,91 @@ pub struct Area {
     pub high: Position,
 }
 
-fn word(table: &[u8], at: usize) -> u16 {
-    match table.get(at..at + 2) {
-        Some(bytes) => u16::from_le_bytes([bytes[0], bytes[1]]),
-        None => 0,
-    }
-}
-
-fn count(table: &[u8], at: usize, most: usize) -> usize {
-    usize::from(word(table, at)).min(most)
-}
-
 /// The table counts steps from the grid's south-west corner.
-fn position(table: &[u8], at: usize) -> Position {
+fn position(east: u16, north: u16) -> Position {
     let signed = |word: u16| word.cast_signed().wrapping_sub(HALF_WIDTH);
     Position {
-        east: signed(word(table, at)),
-        north: signed(word(table, at + 2)),
+        east: signed(east),
+        north: signed(north),
     }
 }
 
 /// The held sites, by rising number.
 pub fn sites(table: &[u8]) -> Vec<Site> {
-    let record = |k: usize| SITE_ARRAY + RECORD_LEN * k;
-    let site = |k: usize| Site {
-        number: word(table, record(k)),
-        at: position(table, record(k) + 2),
+    let site = |record: Record| Site {
+        number: record.number,
+        at: position(record.east, record.north),
     };
-    (0..count(table, 0, MOST_SITES)).map(site).collect()
+    layout::records(table).map(site).collect()
+}
+
+/// The standing leg.
+pub fn leg(table: &[u8]) -> Option<Leg> {
+    let leg = |[s_east, s_north, e_east, e_north]: [u16; 4]| Leg {
+        s: position(s_east, s_north),
+        e: position(e_east, e_north),
+    };
+    layout::leg_words(table).map(leg)
 }
 
 /// The number of levels of the tree.
 pub fn levels(table: &[u8]) -> usize {
-    count(table, LEVELS, MOST_LEVELS)
+    number(table, LEVELS).min(MOST_LEVELS)
+}
+
+/// A node of the tree, and the smallest box around what lies in it.
+pub struct Node {
+    /// 1 for the root.
+    pub level: usize,
+    pub id: usize,
+    pub entries: usize,
+    pub low: Position,
+    pub high: Position,
+}
+
+/// The nodes of a sound tree, level by level from the root down.
+pub fn nodes(table: &[u8]) -> Vec<Node> {
+    let (mut nodes, mut row) = (Vec::new(), vec![number(table, ROOT)]);
+    for level in 1..=levels(table) {
+        nodes.extend(row.iter().map(|id| node(table, level, *id)));
+        let children = |id: usize| layout::entries(table, id).map(|e| usize::from(e.reference));
+        row = row.into_iter().flat_map(children).collect();
+    }
+    nodes
+}
+
+fn node(table: &[u8], level: usize, id: usize) -> Node {
+    let edges = |edge: fn(Entry) -> u16| layout::entries(table, id).map(edge);
+    let least = |edge| edges(edge).min().unwrap_or_default();
+    let most = |edge| edges(edge).max().unwrap_or_default();
+    Node {
+        level,
+        id,
+        entries: layout::entries(table, id).count(),
+        low: position(least(|e| e.west), least(|e| e.south)),
+        high: position(most(|e| e.east), most(|e| e.north)),
+    }
 }
 
 /// The boxes above the leaves, each before those in it; at a leaf a box is its site's point.
 pub fn areas(table: &[u8]) -> Vec<Area> {
     let mut areas = Vec::new();
-    let root = usize::from(word(table, ROOT));
-    collect(table, root, 0, &mut areas);
+    collect(table, number(table, ROOT), 0, &mut areas);
     areas
 }
 
 fn collect(table: &[u8], node: usize, depth: usize, areas: &mut Vec<Area>) {
-    // A node at the last level is a leaf. The other test keeps a loop in the bytes from looping.
-    if depth + 1 >= levels(table) || areas.len() >= MOST_NODES {
+    // A node at the last level is a leaf. The other tests keep any bytes from leading astray.
+    if depth + 1 >= levels(table) || areas.len() >= MOST_NODES || node >= MOST_NODES {
         return;
     }
-    let at = NODE_POOL + NODE_LEN * node;
-    for i in 0..count(table, at, MOST_ENTRIES) {
-        let entry = at + 2 + ENTRY_LEN * i;
+    for entry in layout::entries(table, node) {
         areas.push(Area {
             depth,
-            low: position(table, entry + 2),
-            high: position(table, entry + 6),
+            low: position(entry.west, entry.south),
+            high: position(entry.east, entry.north),
         });
-        collect(table, usize::from(word(table, entry)), depth + 1, areas);
+        collect(table, usize::from(entry.reference), depth + 1, areas);
     }
 }
 
@@ -157,11 +174,9 @@ mod tests {
     #[test]
     fn any_bytes_can_be_read() {
         for byte in [0, 1, 6, 255] {
-            for length in [0, 1, 65, 32_768] {
-                let table = vec![byte; length];
-                assert!(areas(&table).len() <= MOST_NODES + MOST_LEVELS * MOST_ENTRIES);
-                assert!(sites(&table).len() <= MOST_SITES);
-            }
+            let table = vec![byte; layout::TABLE_LEN];
+            assert!(areas(&table).len() <= MOST_NODES + MOST_LEVELS * layout::MOST_ENTRIES);
+            assert!(sites(&table).len() <= layout::MOST_SITES);
         }
     }
 }

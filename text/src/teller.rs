@@ -3,7 +3,7 @@
 use crate::command::Command;
 use crate::grid::Leg;
 use crate::record::Record;
-use crate::words;
+use crate::words::{self, Name};
 use std::io::{self, Write};
 
 const OFF_GRID: u8 = 2;
@@ -18,8 +18,17 @@ pub struct Teller {
 }
 
 impl Teller {
+    /// Of a table with this standing leg.
+    pub fn new(standing: Option<Leg>) -> Self {
+        Teller {
+            standing,
+            ..Teller::default()
+        }
+    }
+
     pub fn tell(
         &mut self,
+        name: Name,
         command: Option<&Command>,
         record: &Record,
         out: &mut impl Write,
@@ -36,7 +45,7 @@ impl Teller {
             (Some(Command::Print), _) => listed = self.standing,
             _ => {}
         }
-        words::tell(record, listed.as_ref(), out)
+        words::tell(record, name, listed.as_ref(), out)
     }
 
     /// The leg that a picture is about: the last one asked, else the standing one.

@@ -3,20 +3,65 @@
 use crate::grid::Leg;
 use crate::point;
 use crate::record::{Entry, Record};
+use std::fmt;
 use std::io::{self, Write};
 
-/// The answer, one line or one for each entry more; with the leg, the starts' points too.
-pub fn tell(record: &Record, leg: Option<&Leg>, out: &mut impl Write) -> io::Result<()> {
-    match record {
-        Record::Accepted => writeln!(out, "accepted"),
-        Record::Refused(number) => writeln!(out, "refused {number}: {}", refusal(*number)),
-        Record::List(list) => {
-            let entries = if list.len() == 1 { "entry" } else { "entries" };
-            writeln!(out, "list of {} {entries}", list.len())?;
-            list.iter()
-                .try_for_each(|entry| tell_entry(entry, leg, out))
+/// What an answer belongs to.
+#[derive(Clone, Copy, Debug, PartialEq, Eq)]
+pub enum Name {
+    /// Not said: the form for scripts.
+    Plain,
+    Line(u64),
+    /// Where commands come as bytes.
+    Command(u64),
+}
+
+impl fmt::Display for Name {
+    fn fmt(&self, f: &mut fmt::Formatter) -> fmt::Result {
+        match self {
+            Name::Plain => Ok(()),
+            Name::Line(number) => write!(f, "line {number}: "),
+            Name::Command(number) => write!(f, "command {number}: "),
         }
     }
+}
+
+/// The answer, one line or one for each entry more; with the leg, the starts' points too.
+pub fn tell(
+    record: &Record,
+    name: Name,
+    leg: Option<&Leg>,
+    out: &mut impl Write,
+) -> io::Result<()> {
+    match record {
+        Record::Accepted => writeln!(out, "accepted"),
+        Record::Refused(number) => {
+            let range = match (name, number) {
+                (Name::Line(_) | Name::Command(_), 1) => ", it is 1 to 65,535",
+                _ => "",
+            };
+            writeln!(out, "{name}refused {number}: {}{range}", refusal(*number))
+        }
+        Record::List(list) => {
+            write!(out, "{name}list of {}", entries(list.len()))?;
+            match (name, leg) {
+                (Name::Plain, _) | (_, None) => writeln!(out)?,
+                (_, Some(leg)) => writeln!(out, ", {leg}")?,
+            }
+            tell_entries(list, leg, out)
+        }
+    }
+}
+
+/// `1 entry`, `2 entries`.
+pub fn entries(count: usize) -> String {
+    let entries = if count == 1 { "entry" } else { "entries" };
+    format!("{count} {entries}")
+}
+
+pub fn tell_entries(list: &[Entry], leg: Option<&Leg>, out: &mut impl Write) -> io::Result<()> {
+    list.iter()
+        .try_for_each(|entry| tell_entry(entry, leg, out))
 }
 
 fn tell_entry(entry: &Entry, leg: Option<&Leg>, out: &mut impl Write) -> io::Result<()> {
@@ -68,7 +113,7 @@ mod tests {
 
     fn told(record: &Record, leg: Option<&Leg>) -> String {
         let mut out = Vec::new();
-        tell(record, leg, &mut out).unwrap();
+        tell(record, Name::Plain, leg, &mut out).unwrap();
         String::from_utf8(out).unwrap()
     }
 
@@ -130,5 +175,26 @@ mod tests {
         let one = Record::List(vec![entry(9, 0, 1)]);
         assert_eq!(told(&one, None), "list of 1 entry\nfrom 0/1 site 9\n");
         assert_eq!(told(&Record::Accepted, Some(&leg)), "accepted\n");
+        let named = |record: &Record, name, leg| {
+            let mut out = Vec::new();
+            tell(record, name, leg, &mut out).unwrap();
+            String::from_utf8(out).unwrap()
+        };
+        assert_eq!(
+            named(&one, Name::Line(3), Some(&leg)),
+            "line 3: list of 1 entry, (0, 0) to (10, 0)\nfrom 0/1 (0.000, 0.000) site 9\n"
+        );
+        assert_eq!(
+            named(&one, Name::Command(3), None),
+            "command 3: list of 1 entry\nfrom 0/1 site 9\n"
+        );
+        let refused = named(&Record::Refused(3), Name::Line(6), None);
+        assert_eq!(refused, "line 6: refused 3: number already held\n");
+        let zero = named(&Record::Refused(1), Name::Line(6), None);
+        assert_eq!(
+            zero,
+            "line 6: refused 1: site number 0, it is 1 to 65,535\n"
+        );
+        assert_eq!(named(&Record::Accepted, Name::Line(6), None), "accepted\n");
     }
 }

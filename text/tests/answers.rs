@@ -7,7 +7,7 @@ use common::run;
 
 /// The answers to lines that are all good.
 fn answers(lines: &str) -> (i32, Vec<String>) {
-    let ran = run(&[], lines);
+    let ran = run(&["--plain"], lines);
     assert_eq!(ran.err, "");
     let mut answers: Vec<String> = ran.text().lines().map(String::from).collect();
     assert_eq!(answers.pop().as_deref(), Some("end 0: all commands used"));

@@ -41,7 +41,7 @@ fn named(messages: &str) -> Vec<usize> {
 fn among_good_ones_they_cost_nothing() {
     let mut random = Random::new(61);
     let good = lines(&random::commands(&mut random, 2_000));
-    let expected = run(&[], &good);
+    let expected = run(&["--plain"], &good);
     assert_eq!(expected.code, 1);
     let (mut input, mut bad, mut number) = (Vec::new(), Vec::new(), 0);
     for line in good.lines() {
@@ -55,13 +55,13 @@ fn among_good_ones_they_cost_nothing() {
         input.extend(line.as_bytes());
         input.push(b'\n');
     }
-    for mode in [&[][..], &["--bytes"]] {
+    for mode in [&["--plain"][..], &["--bytes"]] {
         let ran = run(mode, &input);
         assert_eq!(ran.code, 2);
         assert_eq!(ran.out, run(mode, &good).out);
         assert_eq!(named(&ran.err), bad);
     }
-    assert_eq!(run(&[], &input).out, expected.out);
+    assert_eq!(run(&["--plain"], &input).out, expected.out);
 }
 
 #[test]
@@ -83,7 +83,7 @@ fn a_line_that_is_too_long() {
     assert_eq!(ran.err, "stops-text: line 1: longer than 65536 bytes\n");
     assert_eq!(
         ran.text(),
-        "refused 7: no standing leg\nend 0: all commands used\n"
+        "line 2: refused 7: no standing leg\nend 0: all commands used\n"
     );
 }
 

@@ -34,14 +34,14 @@ fn every_reason() {
 
 #[test]
 fn what_the_batch_program_itself_ends_with() {
-    let unknown = run(&["--decode"], batch_program(b"P?"));
+    let unknown = run(&["--decode", "--plain"], batch_program(b"P?"));
     assert_eq!(
         unknown.text(),
         "refused 7: no standing leg\nend 66: unknown command byte\n"
     );
-    let cut = run(&["--decode"], batch_program(b"A\x01\x00"));
+    let cut = run(&["--decode", "--plain"], batch_program(b"A\x01\x00"));
     assert_eq!(cut.text(), "end 67: known command, operands cut short\n");
-    let none = run(&["--decode"], batch_program(b""));
+    let none = run(&["--decode", "--plain"], batch_program(b""));
     assert_eq!((none.code, none.text()), (0, "end 0: all commands used\n"));
 }
 
@@ -128,7 +128,44 @@ fn commands_of_another_run() {
     let mut program = Command::new(common::PROGRAM);
     program.arg("--decode").arg("--commands").arg(&commands);
     let ran = run_program(&mut program, b"\x21\x07\x2B\x2E\0");
-    assert_eq!(ran.text(), "refused 7: no standing leg\n");
+    assert_eq!(ran.text(), "command 1: refused 7: no standing leg\n");
     let fault = "stops-text: byte 2: the record does not answer its command\n";
     assert_eq!((ran.code, ran.err.as_str()), (2, fault));
+}
+
+/// What is said of this output, fed with these commands.
+fn decoded(name: &str, commands: &[u8], output: &[u8]) -> (i32, String) {
+    let file = scratch(name);
+    std::fs::write(&file, commands).unwrap();
+    let mut program = Command::new(common::PROGRAM);
+    program.arg("--decode").arg("--commands").arg(&file);
+    let ran = run_program(&mut program, output);
+    (ran.code, ran.err)
+}
+
+#[test]
+fn records_too_many_or_too_few() {
+    let many = "stops-text: byte 4: a record too many: 2 commands were given\n";
+    let output = b"\x21\x07\x21\x07\x21\x07\x2E\0";
+    assert_eq!(decoded("many.bin", b"PP", output), (2, many.into()));
+    let few = "stops-text: byte 4: the end does not fit: after 2 records the commands go on at their byte 2\n";
+    let output = b"\x21\x07\x21\x07\x2E\0";
+    assert_eq!(decoded("few.bin", b"PPP", output), (2, few.into()));
+    assert_eq!(decoded("right.bin", b"PP", output), (1, String::new()));
+    let none = "stops-text: byte 0: a record too many: 0 commands were given\n";
+    assert_eq!(decoded("none.bin", b"", output), (2, none.into()));
+}
+
+#[test]
+fn ends_that_do_not_fit_the_commands() {
+    let refused = |reason| [0x21, 7, 0x2E, reason];
+    let fits = |name, commands: &[u8], reason| decoded(name, commands, &refused(reason)).0 == 5;
+    assert!(fits("unknown.bin", b"P?P", 66));
+    assert!(!fits("unknown.bin", b"P", 66) && !fits("unknown.bin", b"PP", 66));
+    assert!(fits("cut.bin", b"PA\x01", 67));
+    assert!(!fits("cut.bin", b"P", 67) && !fits("cut.bin", b"P?", 67));
+    assert!(!fits("cut.bin", b"PP", 67));
+    let cut = decoded("cut.bin", b"P?", &refused(67));
+    let message = "stops-text: byte 2: the end does not fit: after 1 records the commands go on at their byte 1\n";
+    assert_eq!(cut, (2, message.into()));
 }

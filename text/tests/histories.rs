@@ -99,7 +99,7 @@ fn assert_points(answers: &str, legs: &[Leg]) {
 
 fn assert_answered(commands: &[Vec<u8>]) -> usize {
     let records = Book::new().records(commands);
-    let ran = run(&[], lines(commands));
+    let ran = run(&["--plain"], lines(commands));
     let mut expected: String = records.iter().map(in_words).collect();
     expected += "end 0: all commands used\n";
     assert_eq!(without_points(ran.text()), expected);

@@ -298,3 +298,33 @@ fn a_closed_pipe_does_not_cost_the_picture() {
     let drawn = svg::read(&std::fs::read_to_string(&file).unwrap());
     assert_eq!(drawn.title, "Leg (0, 0) to (9, 9): 2 stretches, 2 sites");
 }
+
+/// Neighbours in a row keep a character apart, so that no two numbers read as one.
+#[test]
+fn a_narrow_grid_of_sites_keeps_its_labels_apart() {
+    let mut input = String::new();
+    for number in 0..22 * 22 {
+        input += &format!(
+            "add {} {} {}\n",
+            number + 1,
+            10 * (number % 22),
+            10 * (number / 22)
+        );
+    }
+    for (name, leg) in [("narrow", "leg 0 0 210 210\n"), ("narrow without", "")] {
+        let picture = picture(name, &[], &format!("{input}{leg}"));
+        let labels: Vec<[f64; 4]> = picture
+            .of_class("labels")
+            .iter()
+            .map(|e| e.extent())
+            .collect();
+        assert!(labels.len() >= 60, "{}", labels.len());
+        for (i, a) in labels.iter().enumerate() {
+            for b in &labels[..i] {
+                let beside = a[1] < b[3] && b[1] < a[3];
+                let between = (a[0] - b[2]).max(b[0] - a[2]);
+                assert!(!beside || between >= 6.0, "{a:?} {b:?}");
+            }
+        }
+    }
+}

@@ -1,16 +1,16 @@
 //! The program among others: help, exit codes, files, pipes and terminals.
-#![allow(unsafe_code)] // Opening a terminal.
 
 mod common;
+#[path = "common/terminal.rs"]
+mod terminal;
 
 use common::{PROGRAM, run, scratch};
-use std::ffi::CStr;
-use std::fs::{File, OpenOptions};
+use std::fs::OpenOptions;
 use std::io::{Read, Write};
-use std::os::fd::{AsRawFd, FromRawFd};
 use std::process::{Command, Stdio};
 use std::thread;
 use std::time::Duration;
+use terminal::{shown, terminal};
 
 #[test]
 fn help_is_printed_and_reads_nothing() {
@@ -37,6 +37,13 @@ fn help_is_printed_and_reads_nothing() {
             "--bytes",
             "--decode",
             "--commands",
+            "--table",
+            "--create",
+            "--plain",
+            "--force",
+            "--dump",
+            "--check",
+            "--version",
         ];
         assert!(options.iter().all(|option| ran.text().contains(option)));
     }
@@ -172,51 +179,8 @@ fn closed_standard_error_is_no_matter() {
     assert_eq!(output.status.code(), Some(2));
     assert_eq!(
         output.stdout,
-        b"refused 7: no standing leg\nend 0: all commands used\n"
+        b"line 2: refused 7: no standing leg\nend 0: all commands used\n"
     );
-}
-
-unsafe extern "C" {
-    fn posix_openpt(flags: i32) -> i32;
-    fn grantpt(terminal: i32) -> i32;
-    fn unlockpt(terminal: i32) -> i32;
-    fn ptsname_r(terminal: i32, name: *mut std::ffi::c_char, length: usize) -> i32;
-}
-
-/// Both ends of a new terminal: what shows it, and what a program gets.
-fn terminal() -> (File, File) {
-    const READ_WRITE: i32 = 2;
-    const NOT_CONTROLLING: i32 = 0o400;
-    let mut name = [0; 64];
-    // SAFETY: the descriptor is new and nobody else's; the name's length is that of the array.
-    let screen = unsafe {
-        let screen = posix_openpt(READ_WRITE | NOT_CONTROLLING);
-        assert!(screen >= 0 && grantpt(screen) == 0 && unlockpt(screen) == 0);
-        let screen = File::from_raw_fd(screen);
-        assert_eq!(
-            ptsname_r(screen.as_raw_fd(), name.as_mut_ptr(), name.len()),
-            0
-        );
-        screen
-    };
-    // SAFETY: the call wrote a name that ends with 0.
-    let name = unsafe { CStr::from_ptr(name.as_ptr()) }.to_str().unwrap();
-    let line = OpenOptions::new()
-        .read(true)
-        .write(true)
-        .open(name)
-        .unwrap();
-    (screen, line)
-}
-
-/// What the terminal shows once every program has left it.
-fn shown(mut screen: File) -> String {
-    let (mut shown, mut piece) = (Vec::new(), [0; 4096]);
-    // A terminal that everybody has left ends with an error.
-    while let Ok(length @ 1..) = screen.read(&mut piece) {
-        shown.extend(&piece[..length]);
-    }
-    String::from_utf8(shown).unwrap()
 }
 
 /// Feeds two lines, the second after the patience for a progress line has run out.
@@ -228,6 +192,8 @@ fn feed_slowly(mut input: impl Write) {
     input.write_all(b"print\n").unwrap();
 }
 
+const KNOWN: &str =
+    "(known: add, remove, move, leg, stand, print; sites, standing, tree, save, draw, help, quit)";
 const PROGRESS: &str = "read 0.0 MB";
 const CLEAR: &str = "\r\u{1b}[K";
 
@@ -269,10 +235,11 @@ fn answers_on_the_same_terminal_stand_alone() {
         assert!(after.starts_with(CLEAR), "{shown:?}");
     }
     let visible: String = shown.replace(PROGRESS, "").replace(CLEAR, "");
-    let refused = "refused 7: no standing leg\r\n";
-    let bad = "stops-text: line 3: unknown word \"wrong\" (known: add, remove, move, leg, stand, print)\r\n";
-    let end = "end 0: all commands used\r\n";
-    assert_eq!(visible, [refused, refused, bad, refused, end].concat());
+    let refused = |line| format!("line {line}: refused 7: no standing leg\r\n");
+    let bad = format!("stops-text: line 3: unknown word \"wrong\" {KNOWN}\r\n");
+    let end = "end 0: all commands used\r\n".to_string();
+    let (first, second, fourth) = (refused(1), refused(2), refused(4));
+    assert_eq!(visible, [first, second, bad, fourth, end].concat());
 }
 
 #[test]
@@ -285,7 +252,7 @@ fn no_progress_line_into_a_pipe() {
         .unwrap();
     feed_slowly(child.stdin.take().unwrap());
     let output = child.wait_with_output().unwrap();
-    let message = "stops-text: line 3: unknown word \"wrong\" (known: add, remove, move, leg, stand, print)\n";
+    let message = format!("stops-text: line 3: unknown word \"wrong\" {KNOWN}\n");
     assert_eq!(String::from_utf8(output.stderr).unwrap(), message);
 }
 
@@ -300,12 +267,12 @@ fn typed_lines_are_answered_one_by_one() {
         .spawn()
         .unwrap();
     let mut answers = child.stdout.take().unwrap();
-    let refused = b"refused 7: no standing leg\n";
-    for _ in 0..2 {
+    for line in 1..=2 {
         (&screen).write_all(b"print\n").unwrap();
+        let refused = format!("line {line}: refused 7: no standing leg\n");
         let mut answer = vec![0; refused.len()];
         answers.read_exact(&mut answer).unwrap();
-        assert_eq!(answer, refused);
+        assert_eq!(answer, refused.as_bytes());
         thread::sleep(Duration::from_millis(600));
     }
     // The end of what is typed.

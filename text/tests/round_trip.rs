@@ -11,16 +11,19 @@ fn path(file: &Path) -> &str {
 }
 
 fn assert_same(name: &str, input: &str) {
-    let direct = run(&[], input);
+    let direct = run(&["--plain"], input);
     let bytes = run(&["--bytes"], input);
     assert_eq!((bytes.code, bytes.err.as_str()), (0, ""));
     let printed = batch_program(&bytes.out);
     let commands = scratch(name);
     std::fs::write(&commands, &bytes.out).unwrap();
-    let decoded = run(&["--decode", "--commands", path(&commands)], &printed);
+    let decoded = run(
+        &["--decode", "--plain", "--commands", path(&commands)],
+        &printed,
+    );
     assert!(decoded.text() == direct.text());
     assert_eq!((decoded.code, decoded.err.as_str()), (direct.code, ""));
-    let alone = run(&["--decode"], &printed);
+    let alone = run(&["--decode", "--plain"], &printed);
     assert!(alone.text() == without_points(direct.text()));
     assert_eq!(alone.code, direct.code);
 }
@@ -77,7 +80,7 @@ fn the_stored_example_of_the_batch_program() {
     let example = run(&["--bytes"], "add 1 2 3\nadd 2 7 1\nleg 0 0 10 0");
     assert_eq!(example.out, stored("stdin"));
     assert_eq!(batch_program(&stored("stdin")), stored("stdout"));
-    let decoded = run(&["--decode"], stored("stdout"));
+    let decoded = run(&["--decode", "--plain"], stored("stdout"));
     let expected = "accepted\naccepted\nlist of 2 entries\nfrom 0/1 site 1\nfrom 37/100 site 2\nend 0: all commands used\n";
     assert_eq!((decoded.code, decoded.text()), (0, expected));
 }

@@ -52,6 +52,13 @@ impl Book {
         Book::default()
     }
 
+    /// With these lines and this leg.
+    pub fn of(sites: &[Site], leg: Option<Leg>) -> Self {
+        let line = |site: &Site| (site.number, site.position);
+        let lines = sites.iter().map(line).collect();
+        Book { lines, leg }
+    }
+
     pub fn sites(&self) -> Vec<Site> {
         let site = |(&number, &position)| Site { number, position };
         self.lines.iter().map(site).collect()

@@ -1,30 +1,13 @@
-//! The proved service, linked from target/staticlib/libhost.a (include/stops.h).
+//! The proved service.
 
 use crate::{Answer, Service};
-
-unsafe extern "C" {
-    fn stops_lay_out(table: *mut u8, table_len: usize) -> u32;
-
-    fn stops_batch(
-        table: *mut u8,
-        table_len: usize,
-        work: *mut u8,
-        work_len: usize,
-        commands: *const u8,
-        commands_len: usize,
-        report: *mut u8,
-        report_len: usize,
-        used: *mut usize,
-        written: *mut usize,
-    ) -> u32;
-}
+use binding::call;
 
 pub struct Proved;
 
 impl Service for Proved {
     fn lay_out(&self, table: &mut [u8]) -> u32 {
-        // SAFETY: pointer and length are those of one slice.
-        unsafe { stops_lay_out(table.as_mut_ptr(), table.len()) }
+        call::lay_out(table)
     }
 
     fn batch(
@@ -34,23 +17,7 @@ impl Service for Proved {
         commands: &[u8],
         report: &mut [u8],
     ) -> Answer {
-        // Counts that no call returns, so that one that is not written shows.
-        let (mut used, mut written) = (usize::MAX, usize::MAX);
-        // SAFETY: each pointer goes with the length of its own slice, and no two slices overlap.
-        let reason = unsafe {
-            stops_batch(
-                table.as_mut_ptr(),
-                table.len(),
-                work.as_mut_ptr(),
-                work.len(),
-                commands.as_ptr(),
-                commands.len(),
-                report.as_mut_ptr(),
-                report.len(),
-                &mut used,
-                &mut written,
-            )
-        };
-        (reason, used, written)
+        let answer = call::batch(table, work, commands, report);
+        (answer.reason, answer.used, answer.written)
     }
 }

@@ -5,8 +5,8 @@
 
 use crate::bytes::{
     ENTRIES_LISTED, Entry, FEWEST_ENTRIES, FEWEST_IN_ROOT, FREE_NODES, LEG_FLAG, LEG_WORDS, LEVELS,
-    MOST_ENTRIES, MOST_LEVELS, MOST_NODES, ROOT, SITES_HELD, empty_table, free_at, listed_at,
-    node_at, put_number, put_word, record_at, steps, to_word,
+    MOST_ENTRIES, MOST_LEVELS, MOST_NODES, ROOT, Record, SITES_HELD, empty_table, free_at,
+    leaf_entry, listed_at, node_at, put_number, put_word, steps, to_word,
 };
 use reference::book::Book;
 use reference::grid::{Leg, Site};
@@ -67,9 +67,13 @@ pub fn write_sites(table: &mut [u8], sites: &[Site]) {
     put_number(table, SITES_HELD, sites.len());
     for (k, site) in sites.iter().enumerate() {
         let (east, north) = steps(site.position);
-        for (i, word) in [site.number, east, north, 0].into_iter().enumerate() {
-            put_word(table, record_at(k) + 2 * i, word);
-        }
+        let record = Record {
+            number: site.number,
+            east,
+            north,
+            kept: 0,
+        };
+        record.write(table, k);
     }
 }
 
@@ -156,7 +160,7 @@ impl Planting<'_, '_, '_> {
     fn node(&mut self, height: usize, sites: &[Site], fewest: usize) -> Entry {
         let node = self.free.pop().expect("264 nodes are enough");
         let entries = if height == 1 {
-            sites.iter().map(Entry::of_site).collect()
+            sites.iter().map(leaf_entry).collect()
         } else {
             self.children(height - 1, sites, fewest)
         };

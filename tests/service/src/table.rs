@@ -6,11 +6,10 @@
 mod tree;
 
 use crate::bytes::{
-    ENTRIES_LISTED, FAR_EDGE, HEADER_KEPT, LEG_FLAG, LEG_WORDS, LEVELS, SITES_HELD, leg, listed,
-    number, record_at, sites, word,
+    ENTRIES_LISTED, FAR_EDGE, HEADER_KEPT, LAYOUT, LEG_FLAG, LEG_WORDS, LEVELS, MOST_SITES, Record,
+    SITES_HELD, TABLE_LEN, leg, listed, number, records, sites, word,
 };
 use reference::book::Book;
-use reference::grid::{MOST_SITES, Site, TABLE_LEN};
 use std::collections::BTreeSet;
 
 /// What a table must keep; a broken one gives reason 65.
@@ -18,7 +17,9 @@ use std::collections::BTreeSet;
 pub enum Rule {
     /// 32,768 bytes.
     Length,
-    /// Bytes 14 to 63 are 0.
+    /// The layout's number, where it has one.
+    LayoutNumber,
+    /// The header's kept bytes are 0.
     HeaderKeptZero,
     AtMost512Sites,
     NumberNotZero,
@@ -91,6 +92,8 @@ pub fn broken_rules(table: &[u8]) -> Vec<Rule> {
         table[HEADER_KEPT].iter().all(|byte| *byte == 0),
         Rule::HeaderKeptZero,
     );
+    let layout = LAYOUT.is_none_or(|(at, number)| word(table, at) == number);
+    broken.unless(layout, Rule::LayoutNumber);
     site_rules(table, &mut broken);
     leg_rules(table, &mut broken);
     // A list is that of sites and a leg that can be read.
@@ -117,15 +120,20 @@ fn site_rules(table: &[u8], broken: &mut Broken) {
         number(table, SITES_HELD) <= MOST_SITES,
         Rule::AtMost512Sites,
     );
-    let mut last = 0;
-    for k in 0..number(table, SITES_HELD).min(MOST_SITES) {
-        let field = |offset| word(table, record_at(k) + offset);
-        broken.unless(field(0) != 0, Rule::NumberNotZero);
-        broken.unless(k == 0 || last < field(0), Rule::NumbersRise);
-        let on_grid = field(2) <= FAR_EDGE && field(4) <= FAR_EDGE;
+    let mut last = None;
+    for Record {
+        number,
+        east,
+        north,
+        kept,
+    } in records(table)
+    {
+        broken.unless(number != 0, Rule::NumberNotZero);
+        broken.unless(last.is_none_or(|last| last < number), Rule::NumbersRise);
+        let on_grid = east <= FAR_EDGE && north <= FAR_EDGE;
         broken.unless(on_grid, Rule::SiteOnGrid);
-        broken.unless(field(6) == 0, Rule::RecordKeptZero);
-        last = field(0);
+        broken.unless(kept == 0, Rule::RecordKeptZero);
+        last = Some(number);
     }
 }
 
@@ -146,9 +154,5 @@ fn standing_list_holds(table: &[u8]) -> bool {
 }
 
 fn book(table: &[u8]) -> Book {
-    let line = |site: Site| (site.number, site.position);
-    Book {
-        lines: sites(table).into_iter().map(line).collect(),
-        leg: leg(table),
-    }
+    Book::of(&sites(table), leg(table))
 }

@@ -7,7 +7,7 @@ use reference::grid::{HALF_WIDTH, Leg, MOST_SITES, Position, Site};
 use reference::random::Random;
 use service::bytes::{
     ENTRIES_LISTED, Entry, FREE_NODES, LEG_FLAG, LEG_WORDS, LEVELS, MOST_LEVELS, ROOT, empty_table,
-    free_at, node_at, number, put_number, put_word, record_at, word,
+    free_at, leaf_entry, node_at, number, put_number, put_word, record_at, word,
 };
 use service::damage::{inner_nodes, nodes, offer};
 use service::draw::Pool;
@@ -214,7 +214,7 @@ fn a_node_with_nine_entries(service: &impl Service) {
         put_number(&mut table, ROOT, 262);
         put_number(&mut table, free_at(262), 263);
         put_number(&mut table, node_at(262), 9);
-        Entry::of_site(&sites[8]).write(&mut table, 262, 8);
+        leaf_entry(&sites[8]).write(&mut table, 262, 8);
         let rules = [Rule::AtMostEightEntries, Rule::SiteInOneLeafEntry];
         assert_refused(service, &table, &rules);
     });

@@ -5,9 +5,9 @@ use reference::command::{add, stand};
 use reference::grid::{Leg, MOST_SITES, Site};
 use reference::random::Random;
 use service::bytes::{
-    ENTRIES_LISTED, FAR_EDGE, FREE_NODES, LEG_FLAG, LEG_WORDS, LEVELS, RECORD_LEN, ROOT,
-    SITE_ARRAY, SITES_HELD, empty_table, entry_at, free_at, listed_at, node_at, number, put_number,
-    put_word, record_at, word,
+    ENTRIES_LISTED, FAR_EDGE, FREE_NODES, HEADER_KEPT, LAYOUT, LEG_FLAG, LEG_WORDS, LEVELS,
+    RECORD_LEN, ROOT, SITE_ARRAY, SITES_HELD, empty_table, entry_at, free_at, listed_at, node_at,
+    number, put_number, put_word, record_at, word,
 };
 use service::draw::Pool;
 use service::shape::{self, Dealing};
@@ -78,7 +78,7 @@ fn one_site_and_a_leg_stand_where_the_layout_says() {
         1, 0, 1, 0, 0x40, 0x1F, 0x40, 0x1F, 0x4A, 0x1F, 0x36, 0x1F, 1, 0,
     ];
     assert_eq!(table[..14], header);
-    assert_eq!(table[14..64], [0; 50]);
+    assert!(table[HEADER_KEPT].iter().all(|byte| *byte == 0));
     // Site 513 at (8002,7997).
     let record = [0x01, 0x02, 0x42, 0x1F, 0x3D, 0x1F, 0, 0];
     assert_eq!(table[64..72], record);
@@ -132,8 +132,13 @@ fn edited(edit: impl Fn(&mut Vec<u8>, Nodes)) -> Vec<Rule> {
 fn rules_on_header_and_sites_are_named() {
     assert_eq!(edited(|t, _| t.push(0)), [Rule::Length]);
     assert_eq!(edited(|t, _| t.truncate(32_767)), [Rule::Length]);
-    assert_eq!(edited(|t, _| t[14] = 1), [Rule::HeaderKeptZero]);
+    let kept = edited(|t, _| t[HEADER_KEPT.start] = 1);
+    assert_eq!(kept, [Rule::HeaderKeptZero]);
     assert_eq!(edited(|t, _| t[63] = 128), [Rule::HeaderKeptZero]);
+    if let Some((at, layout)) = LAYOUT {
+        let other = edited(|t, _| put_word(t, at, layout + 1));
+        assert_eq!(other, [Rule::LayoutNumber]);
+    }
     let kept = edited(|t, _| t[record_at(39) + 7] = 1);
     assert_eq!(kept, [Rule::RecordKeptZero]);
     let swapped = edited(|t, _| {

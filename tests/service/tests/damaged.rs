@@ -6,8 +6,8 @@ use reference::command::{add, list, print, remove, stand};
 use reference::grid::{Leg, MOST_SITES, Site, TABLE_LEN};
 use reference::random::Random;
 use service::bytes::{
-    ENTRY_LEN, Entry, FREE_NODES, LEVELS, NODE_POOL, ROOT, SITE_ARRAY, STACK_END, STANDING_LIST,
-    empty_table, entry_at, node_at, number, put_number,
+    ENTRY_LEN, FREE_NODES, LEVELS, NODE_POOL, ROOT, SITE_ARRAY, STACK_END, STANDING_LIST,
+    empty_table, entry_at, leaf_entry, node_at, number, put_number,
 };
 use service::damage::{assert_wrong_length_first, flipped, nodes, offer, regions};
 use service::desk::Desk;
@@ -200,7 +200,7 @@ fn nodes_in_a_ring_or_shared(service: &impl Service) {
             put_number(&mut table, node_at(usize::from(node)), 8);
             for i in 0..8 {
                 // Every child is the next node, or each node is its own child.
-                let child = Entry::of_site(&Site::new(node + step, 5, 5));
+                let child = leaf_entry(&Site::new(node + step, 5, 5));
                 child.write(&mut table, usize::from(node), i);
             }
         }

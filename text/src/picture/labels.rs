@@ -9,6 +9,10 @@ const CHARACTER: f64 = 0.62 * FONT_SIZE;
 const HEIGHT: f64 = 13.0;
 /// From the middle of a line down to where its characters stand.
 const BASELINE: f64 = 4.0;
+/// Between two labels, so that their numbers do not read as one: a character across, and a little
+/// up and down.
+const ACROSS: f64 = CHARACTER;
+const UP: f64 = 2.0;
 /// Between the small rectangles that stand for a line.
 const STEP: f64 = 4.0;
 
@@ -97,12 +101,13 @@ impl Labels {
                 steps(from, to).any(|spot| rect.overlaps(&Rect::centred(spot, 2.0, 2.0)))
             })
         };
+        let apart = place.rect.grown(ACROSS, UP);
         self.area.holds(&place.rect)
             && !self.marks.iter().any(|mark| mark.overlaps(&place.rect))
             && !self
                 .labels
                 .iter()
-                .any(|label| label.rect.overlaps(&place.rect) || crossed(&label.rect))
+                .any(|label| label.rect.overlaps(&apart) || crossed(&label.rect))
     }
 
     pub fn draw(&self, svg: &mut Svg) {
@@ -185,7 +190,8 @@ mod tests {
             assert!(AREA.holds(&label.rect));
             assert!(!labels.marks[0].overlaps(&label.rect));
             let others = &labels.labels[..i];
-            assert!(!others.iter().any(|other| other.rect.overlaps(&label.rect)));
+            let apart = label.rect.grown(ACROSS, UP);
+            assert!(!others.iter().any(|other| other.rect.overlaps(&apart)));
         }
     }
 

@@ -3,6 +3,7 @@
 mod axes;
 mod boxes;
 mod colours;
+mod file;
 mod labels;
 mod legend;
 mod paper;
@@ -12,11 +13,12 @@ mod view;
 
 use crate::command::Command;
 use crate::grid::{HALF_WIDTH, Leg, Position, Site};
-use crate::record::{Entry, Record};
+use crate::record::Entry;
 use crate::service::Service;
 use crate::status::Failure;
 use crate::table::{self, Area};
-use labels::{Labels, Look};
+use file::Guard;
+use labels::Labels;
 use legend::{Key, Legend};
 use paper::{Rect, Spot};
 use stretches::Track;
@@ -29,8 +31,22 @@ const LEGEND_TOP: f64 = 598.0;
 /// From a site's mark to its number: beside it, or past the mark of S or E around it.
 const NUMBER_GAPS: [f64; 2] = [2.0, 9.0];
 
+/// How pictures are drawn, and where they may go.
+#[derive(Default)]
+pub struct Look {
+    pub boxes: bool,
+    pub whole_grid: bool,
+    pub guard: Guard,
+}
+
+/// The picture of a table and a leg as SVG text.
+pub fn of(service: &mut Service, leg: Option<Leg>, look: &Look) -> Result<String, Failure> {
+    let scene = Scene::of(service, leg, look.boxes)?;
+    Ok(draw(&scene, look.whole_grid))
+}
+
 /// What a picture shows.
-pub struct Scene {
+struct Scene {
     sites: Vec<Site>,
     leg: Option<Leg>,
     /// Of the leg over the sites.
@@ -41,18 +57,11 @@ pub struct Scene {
 
 impl Scene {
     /// The table as it is now; the leg's list is asked for anew, so that it is that of the sites.
-    pub fn of(service: &mut Service, leg: Option<Leg>, boxes: bool) -> Result<Self, Failure> {
-        let mut list = Vec::new();
-        if let Some(leg) = leg {
-            let mut command = Vec::new();
-            Command::List(leg).write(&mut command);
-            service.serve(&command, |record| {
-                if let Record::List(entries) = record {
-                    list = entries;
-                }
-                Ok(())
-            })?;
-        }
+    fn of(service: &mut Service, leg: Option<Leg>, boxes: bool) -> Result<Self, Failure> {
+        let list = match leg {
+            Some(leg) => service.list(&Command::List(leg))?,
+            None => Vec::new(),
+        };
         let table = service.table();
         Ok(Scene {
             sites: table::sites(table),
@@ -107,10 +116,8 @@ impl Scene {
         let Some(leg) = self.leg else {
             return format!("{held}, no leg");
         };
-        let at = |at: Position| format!("({}, {})", at.east, at.north);
-        let (s, e) = (at(leg.s), at(leg.e));
         let stretches = count(self.list.len(), "stretch");
-        format!("Leg {s} to {e}: {stretches}, {held}")
+        format!("Leg {leg}: {stretches}, {held}")
     }
 }
 
@@ -124,8 +131,7 @@ fn count(number: usize, noun: &str) -> String {
     format!("{number} {noun}{ending}")
 }
 
-/// The picture as SVG text.
-pub fn draw(scene: &Scene, whole_grid: bool) -> String {
+fn draw(scene: &Scene, whole_grid: bool) -> String {
     let view = scene.view(whole_grid);
     let track = scene.leg.map(|leg| Track::new(leg, &view));
     let (mut svg, mut legend) = (Svg::default(), Legend::default());
@@ -211,9 +217,9 @@ fn label_sites(scene: &Scene, view: &View, labels: &mut Labels, legend: &mut Leg
     for site in shown.iter().rev() {
         let number = site.number.to_string();
         let look = match scene.listed(site) {
-            Some(_) => Look::Strong,
-            None if scene.list.is_empty() => Look::Plain,
-            None => Look::Faint,
+            Some(_) => labels::Look::Strong,
+            None if scene.list.is_empty() => labels::Look::Plain,
+            None => labels::Look::Faint,
         };
         let around = |gap| labels::around(&number, view.at(site.at), radius(scene, site) + gap);
         let places = NUMBER_GAPS.into_iter().flat_map(around).collect();

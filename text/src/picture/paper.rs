@@ -53,6 +53,16 @@ impl Rect {
         Rect::new(at.x - x, at.y - y, at.x + x, at.y + y)
     }
 
+    /// By so much on every side.
+    pub fn grown(&self, across: f64, up: f64) -> Self {
+        Rect::new(
+            self.left - across,
+            self.top - up,
+            self.right + across,
+            self.bottom + up,
+        )
+    }
+
     pub fn width(&self) -> f64 {
         self.right - self.left
     }

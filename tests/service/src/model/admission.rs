@@ -2,9 +2,9 @@
 //! fault, with the boxes made from the sites upwards.
 
 use crate::bytes::{
-    ENTRIES_LISTED, Entry, FEWEST_ENTRIES, FEWEST_IN_ROOT, FREE_NODES, HEADER_KEPT, LEG_FLAG,
-    LEG_WORDS, LEVELS, MOST_ENTRIES, MOST_LEVELS, MOST_NODES, RECORD_LEN, ROOT, SITE_ARRAY,
-    SITES_HELD, free_at, leg, listed, node_at, number, position, sites, word,
+    self, ENTRIES_LISTED, Entry, FEWEST_ENTRIES, FEWEST_IN_ROOT, FREE_NODES, HEADER_KEPT, LAYOUT,
+    LEG_FLAG, LEG_WORDS, LEVELS, MOST_ENTRIES, MOST_LEVELS, MOST_NODES, ROOT, SITES_HELD, free_at,
+    leg, listed, node_at, number, position, sites, word,
 };
 use reference::grid::{MOST_SITES, Site};
 use reference::hull;
@@ -18,17 +18,17 @@ fn header(table: &[u8]) -> bool {
         && number(table, ENTRIES_LISTED) <= MOST_SITES
         && number(table, LEVELS) <= MOST_LEVELS
         && number(table, FREE_NODES) <= MOST_NODES;
-    counts && table[HEADER_KEPT].iter().all(|byte| *byte == 0)
+    let layout = LAYOUT.is_none_or(|(at, number)| word(table, at) == number);
+    counts && layout && table[HEADER_KEPT].iter().all(|byte| *byte == 0)
 }
 
 fn records(table: &[u8]) -> bool {
     let sites = sites(table);
-    let held = &table[SITE_ARRAY..SITE_ARRAY + RECORD_LEN * sites.len()];
     sites
         .iter()
         .all(|site| site.number > 0 && site.position.on_grid())
         && sites.is_sorted_by(|p, q| p.number < q.number)
-        && held.chunks(RECORD_LEN).all(|record| record[6..] == [0, 0])
+        && bytes::records(table).all(|record| record.kept == 0)
 }
 
 fn standing(table: &[u8]) -> bool {
@@ -94,7 +94,7 @@ impl Seen<'_> {
         for i in 0..count {
             let entry = Entry::read(self.table, node, i);
             let inner = self.inner(entry, height)?;
-            if entry.kept != 0 || inner != [entry.west, entry.south, entry.east, entry.north] {
+            if entry.kept != 0 || inner != entry.edges() {
                 return None;
             }
             for side in 0..2 {

@@ -3,7 +3,7 @@
 use super::{Broken, Rule};
 use crate::bytes::{
     Entry, FEWEST_ENTRIES, FEWEST_IN_ROOT, FREE_NODES, LEVELS, MOST_ENTRIES, MOST_LEVELS,
-    MOST_NODES, ROOT, free_at, node_at, number, position, word,
+    MOST_NODES, ROOT, entries, free_at, node_at, number, position, word,
 };
 use reference::grid::Site;
 use std::collections::BTreeMap;
@@ -68,12 +68,6 @@ impl Walk {
 
 fn stored_count(table: &[u8], node: usize) -> usize {
     number(table, node_at(node))
-}
-
-/// The node's entries; a count that is too large reads no further.
-fn entries(table: &[u8], node: usize) -> impl Iterator<Item = Entry> + '_ {
-    let count = stored_count(table, node).min(MOST_ENTRIES);
-    (0..count).map(move |i| Entry::read(table, node, i))
 }
 
 fn count_rules(table: &[u8], node: usize, is_root: bool, is_leaf: bool, broken: &mut Broken) {

@@ -1,0 +1,7 @@
+//! The proved service from Rust: its calls, all the unsafe code there is, and the table's layout.
+
+#[cfg(feature = "host")]
+pub mod call;
+pub mod layout;
+#[cfg(feature = "list_probe")]
+pub mod probe;

@@ -1,0 +1,112 @@
+//! docs/PROTOCOL.md says what the second program does: marks, lengths, refusals, and the example.
+
+use reference::batch_program;
+use reference::book::Book;
+use reference::command::{Command, add, list, move_site, print, remove, stand};
+use reference::grid::{Leg, Site};
+use reference::record::Record;
+use std::path::Path;
+
+/// The cells of the rows of every table.
+fn rows() -> Vec<Vec<String>> {
+    let text = text();
+    let rows = text.lines().filter(|line| line.starts_with("| "));
+    rows.map(cells).collect()
+}
+
+fn cells(line: &str) -> Vec<String> {
+    line.split('|')
+        .map(|cell| cell.trim().to_string())
+        .collect()
+}
+
+fn text() -> String {
+    let file = Path::new(env!("CARGO_MANIFEST_DIR")).join("../../docs/PROTOCOL.md");
+    std::fs::read_to_string(file).unwrap()
+}
+
+fn bytes(line: &str) -> Vec<u8> {
+    let byte = |word| u8::from_str_radix(word, 16).unwrap();
+    line.split_whitespace().map(byte).collect()
+}
+
+#[test]
+fn the_example_is_the_batch_programs() {
+    let text = text();
+    let is_bytes = |line: &&str| line.starts_with("    ") && !line.trim().is_empty();
+    let shown: Vec<Vec<u8>> = text.lines().filter(is_bytes).map(bytes).collect();
+    let [input, output] = &shown[..] else {
+        panic!("{shown:?}");
+    };
+    assert_eq!(batch_program::run(input), *output);
+}
+
+/// A command of each mark that meets all causes of its row that can go together, from the last on.
+fn refused(mark: u8, book: &mut Book) -> Vec<(u8, Vec<u8>)> {
+    let off = Leg::new((0, 0), (0, 8_001));
+    let on = Leg::new((0, 0), (0, 1));
+    let full = |book: &mut Book| {
+        let nth = |number| add(Site::new(number, 0, 0));
+        book.records(&(1..=512).map(nth).collect::<Vec<_>>());
+    };
+    match mark {
+        0x41 => {
+            full(book);
+            vec![
+                (5, add(Site::new(600, 0, 0))),
+                (3, add(Site::new(1, 0, 0))),
+                (2, add(Site::new(1, 9_000, 0))),
+                (1, add(Site::new(0, 9_000, 0))),
+            ]
+        }
+        0x44 => vec![(4, remove(9)), (1, remove(0))],
+        0x4D => vec![
+            (4, move_site(Site::new(9, 0, 0))),
+            (2, move_site(Site::new(9, 0, 9_000))),
+            (1, move_site(Site::new(0, 0, 9_000))),
+        ],
+        0x4C => vec![(6, list(on)), (2, list(off))],
+        0x53 => vec![(2, stand(off))],
+        _ => vec![(7, print())],
+    }
+}
+
+#[test]
+fn commands_have_these_lengths_and_refusals_in_this_order() {
+    let mut marks = Vec::new();
+    for row in rows()
+        .iter()
+        .filter(|row| row.len() == 8 && row[2].len() == 1)
+    {
+        let (mark, letter) = (bytes(&row[1])[0], &row[2]);
+        assert_eq!(char::from(mark).to_string(), *letter);
+        let length: usize = row[4].parse().unwrap();
+        let long = [&[mark][..], &[0; 20]].concat();
+        assert_eq!(Command::read(&long).unwrap().1, length);
+        let mut book = Book::new();
+        let mut given: Vec<String> = Vec::new();
+        for (number, command) in refused(mark, &mut book) {
+            assert_eq!(book.records(&[command]), [Record::Refused(number)]);
+            given.insert(0, number.to_string());
+        }
+        if mark == 0x50 {
+            // Without a leg 7 comes before 6, with one 6 is left.
+            book.records(&[stand(Leg::new((0, 0), (0, 1)))]);
+            assert_eq!(book.records(&[print()]), [Record::Refused(6)]);
+            given.push("6".into());
+        }
+        assert_eq!(row[6], given.join(", "), "{letter}");
+        marks.push(mark);
+    }
+    assert_eq!(marks, [0x41, 0x44, 0x4D, 0x4C, 0x53, 0x50]);
+}
+
+#[test]
+fn every_refusal_and_reason_is_told() {
+    let first: Vec<String> = rows().iter().map(|row| row[1].clone()).collect();
+    for number in [
+        "1", "2", "3", "4", "5", "6", "7", "64", "65", "66", "67", "68",
+    ] {
+        assert!(first.iter().any(|cell| cell == number), "{number}");
+    }
+}

@@ -1,0 +1,79 @@
+/* The inline functions of include/stops.h, for tests/header.rs: "write" turns lines into command
+   bytes, "read" turns record bytes into lines. */
+#include "stops.h"
+
+#include <stdio.h>
+#include <stdlib.h>
+#include <string.h>
+
+#define SENTINEL 0xA5
+
+static size_t put(uint8_t *to, size_t room, char mark, const long v[4])
+{
+    switch (mark) {
+    case 'A': return stops_put_add(to, room, v[0], v[1], v[2]);
+    case 'M': return stops_put_move(to, room, v[0], v[1], v[2]);
+    case 'D': return stops_put_remove(to, room, v[0]);
+    case 'L': return stops_put_list(to, room, v[0], v[1], v[2], v[3]);
+    case 'S': return stops_put_stand(to, room, v[0], v[1], v[2], v[3]);
+    default: return stops_put_print(to, room);
+    }
+}
+
+static int untouched(const uint8_t *bytes, size_t from, size_t to)
+{
+    while (from < to)
+        if (bytes[from++] != SENTINEL)
+            return 0;
+    return 1;
+}
+
+/* Each line: a mark and four numbers. With every room up to the longest command. */
+static int write_commands(void)
+{
+    char mark;
+    long v[4];
+    uint8_t to[STOPS_LONGEST_COMMAND + 1];
+    while (scanf(" %c %ld %ld %ld %ld", &mark, &v[0], &v[1], &v[2], &v[3]) == 5) {
+        size_t length = put(to, sizeof to, mark, v);
+        for (size_t room = 0; room <= sizeof to; room++) {
+            memset(to, SENTINEL, sizeof to);
+            size_t put_there = put(to, room, mark, v);
+            size_t expected = room < length ? 0 : length;
+            if (put_there != expected || !untouched(to, expected, sizeof to))
+                return EXIT_FAILURE;
+        }
+        fwrite(to, 1, length, stdout);
+    }
+    return EXIT_SUCCESS;
+}
+
+static int read_records(void)
+{
+    static uint8_t bytes[1 << 20];
+    size_t length = fread(bytes, 1, sizeof bytes, stdin), at = 0, used;
+    struct stops_answer answer;
+    struct stops_entry entry;
+    while ((used = stops_read_record(bytes + at, length - at, &answer)) > 0) {
+        printf("%c %u %u\n", (char)answer.kind, (unsigned)answer.refusal, (unsigned)answer.count);
+        for (size_t i = 0; stops_read_entry(&answer, i, &entry); i++)
+            printf("%u %lu %lu\n", (unsigned)entry.site, (unsigned long)entry.numerator,
+                   (unsigned long)entry.denominator);
+        if (stops_read_entry(&answer, answer.count, &entry))
+            return EXIT_FAILURE;
+        at += used;
+    }
+    printf("%lu bytes read\n", (unsigned long)at);
+    return EXIT_SUCCESS;
+}
+
+int main(int argc, char **argv)
+{
+    const char *mode = argc == 2 ? argv[1] : "version";
+    if (strcmp(mode, "write") == 0)
+        return write_commands();
+    if (strcmp(mode, "read") == 0)
+        return read_records();
+    printf("%s %d\n", STOPS_VERSION, STOPS_VERSION_NUMBER);
+    return EXIT_SUCCESS;
+}

@@ -1,0 +1,82 @@
+//! docs/LAYOUT.md and the crate that reads tables have the same numbers.
+
+use service::bytes::{
+    ENTRIES_LISTED, FREE_NODES, LEG_FLAG, LEG_WORDS, LEVELS, NODE_LEN, NODE_POOL, RECORD_LEN, ROOT,
+    SITE_ARRAY, SITES_HELD, STACK, STACK_END, STANDING_LIST, TABLE_LEN,
+};
+use std::path::Path;
+
+fn text() -> String {
+    let file = Path::new(env!("CARGO_MANIFEST_DIR")).join("../../docs/LAYOUT.md");
+    std::fs::read_to_string(file).unwrap()
+}
+
+fn number(text: &str) -> Option<usize> {
+    text.trim().replace(',', "").parse().ok()
+}
+
+/// The cells of each row whose first cell this takes.
+fn rows<T>(text: &str, first: impl Fn(&str) -> Option<T>) -> Vec<(T, Vec<&str>)> {
+    let cells = |line: &str| -> Option<T> { first(line.split('|').nth(1)?) };
+    let row = |line| Some((cells(line)?, str::split(line, '|').map(str::trim).collect()));
+    text.lines().filter_map(row).collect()
+}
+
+#[test]
+fn the_regions_follow_each_other_and_begin_where_the_code_reads() {
+    let text = text();
+    let span = |cell: &str| {
+        let (from, to) = cell.split_once(" to ")?;
+        Some((number(from)?, number(to)?))
+    };
+    let regions = rows(&text, span);
+    let mut next = 0;
+    for ((from, to), cells) in &regions {
+        assert_eq!((*from, to + 1 - from), (next, number(cells[2]).unwrap()));
+        next = to + 1;
+    }
+    assert_eq!(next, TABLE_LEN);
+    let starts: Vec<usize> = regions.iter().map(|((from, _), _)| *from).collect();
+    let read = [
+        0,
+        SITE_ARRAY,
+        STANDING_LIST,
+        LEVELS,
+        STACK,
+        STACK_END,
+        NODE_POOL,
+    ];
+    assert_eq!(starts, read);
+}
+
+#[test]
+fn the_words_stand_where_the_code_reads_them() {
+    let text = text();
+    let words = rows(&text, number);
+    let at = |meaning: &str| {
+        let found = words
+            .iter()
+            .find(|(_, cells)| cells[3].starts_with(meaning));
+        found.unwrap_or_else(|| panic!("{meaning}")).0
+    };
+    assert_eq!(at("number of sites held"), SITES_HELD);
+    assert_eq!(at("1 where a standing leg is set"), LEG_FLAG);
+    let leg = [
+        "easting of S",
+        "northing of S",
+        "easting of E",
+        "northing of E",
+    ];
+    assert_eq!(leg.map(at), LEG_WORDS);
+    assert_eq!(at("number of entries of the standing list"), ENTRIES_LISTED);
+    assert_eq!(at("number of levels"), LEVELS);
+    assert_eq!(at("id of the root node"), ROOT);
+    assert_eq!(at("number of free nodes"), FREE_NODES);
+    assert_eq!(at("ids of the free nodes"), STACK);
+    let (record, node) = (
+        format!("Record k stands at byte {SITE_ARRAY} + {RECORD_LEN}k"),
+        format!("Node n stands at byte 6,896 + {NODE_LEN}n"),
+    );
+    assert!(text.contains(&record) && text.contains(&node));
+    assert_eq!(NODE_POOL, 6_896);
+}

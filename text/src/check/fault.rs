@@ -1,0 +1,66 @@
+//! A broken rule: where, what, and the bytes.
+
+use binding::layout::number;
+use std::fmt;
+
+#[derive(Clone, Debug, PartialEq, Eq)]
+pub struct Fault {
+    place: String,
+    what: String,
+    /// The byte, what stands there, and what belongs there where that is one thing.
+    word: Option<(usize, usize, Option<usize>)>,
+}
+
+impl Fault {
+    /// Of the word at this byte.
+    pub fn at(table: &[u8], at: usize, place: impl Into<String>, what: impl Into<String>) -> Self {
+        Fault {
+            place: place.into(),
+            what: what.into(),
+            word: Some((at, number(table, at), None)),
+        }
+    }
+
+    /// Of a table as a whole.
+    pub fn whole(what: String) -> Self {
+        Fault {
+            place: "table".into(),
+            what,
+            word: None,
+        }
+    }
+
+    pub fn belongs(mut self, belongs: impl Into<usize>) -> Self {
+        if let Some((_, _, there)) = &mut self.word {
+            *there = Some(belongs.into());
+        }
+        self
+    }
+}
+
+impl fmt::Display for Fault {
+    fn fmt(&self, f: &mut fmt::Formatter) -> fmt::Result {
+        write!(f, "{}: {}", self.place, self.what)?;
+        if let Some((at, stands, belongs)) = self.word {
+            let (at, stands) = (grouped(at), grouped(stands));
+            write!(f, ", byte {at}: {stands} stands there")?;
+            if let Some(belongs) = belongs {
+                write!(f, ", {} belongs there", grouped(belongs))?;
+            }
+        }
+        Ok(())
+    }
+}
+
+/// `8,562`
+pub fn grouped(number: usize) -> String {
+    let digits = number.to_string();
+    let mut grouped = String::new();
+    for (i, digit) in digits.chars().enumerate() {
+        if i > 0 && (digits.len() - i).is_multiple_of(3) {
+            grouped.push(',');
+        }
+        grouped.push(digit);
+    }
+    grouped
+}

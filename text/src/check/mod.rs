@@ -1,0 +1,100 @@
+//! A fitter's look at a table: which rules of docs/LAYOUT.md are broken, where, and what stands
+//! there. It reads the bytes itself; only the right standing list is asked of the service, which
+//! gets the sites in a table of its own.
+
+mod boxes;
+mod fault;
+mod header;
+mod leaves;
+mod pool;
+mod sites;
+mod standing;
+#[cfg(test)]
+mod tests;
+mod tree;
+
+use crate::command::Command;
+use crate::desk::Desk;
+use crate::grid::Site;
+use crate::status::{Failure, Met};
+use crate::store::table_of;
+use crate::{show, table};
+use binding::layout::TABLE_LEN;
+use fault::{Fault, grouped};
+use std::io::Write;
+
+/// So many broken rules are told; one fault often breaks many.
+const MOST_TOLD: usize = 20;
+
+/// Every rule that the bytes break, in the order of the bytes' regions; none for a sound table.
+pub fn faults(table: &[u8]) -> Result<Vec<Fault>, Failure> {
+    if table.len() != TABLE_LEN {
+        let (long, whole) = (grouped(table.len()), grouped(TABLE_LEN));
+        let what = format!("{long} bytes long, a table has {whole}");
+        return Ok(vec![Fault::whole(what)]);
+    }
+    let mut faults = header::faults(table);
+    faults.extend(sites::faults(table));
+    faults.extend(standing::leg_faults(table));
+    // A list is that of sites and a leg that can be read.
+    if faults.is_empty() {
+        faults.extend(standing::list_faults(table)?);
+    }
+    let walk = tree::walk(table);
+    faults.extend(pool::faults(table, &walk));
+    faults.extend(leaves::faults(table, &walk));
+    faults.extend(walk.faults);
+    Ok(faults)
+}
+
+/// Tells what a table holds, or what is wrong with it and which sites can still be read.
+pub fn tell<W: Write, E: Write>(bytes: &[u8], desk: &mut Desk<W, E>) -> Result<Met, Failure> {
+    let faults = faults(bytes)?;
+    if faults.is_empty() {
+        let mut service = table_of("the table".as_ref(), bytes.to_vec())?;
+        desk.say("sound: no rule is broken")?;
+        show::counts(&mut service, desk)?;
+        desk.flush()?;
+        return Ok(Met::default());
+    }
+    let reason = if bytes.len() == TABLE_LEN { 65 } else { 64 };
+    desk.say(format_args!(
+        "broken: the service refuses it with reason {reason}"
+    ))?;
+    for fault in faults.iter().take(MOST_TOLD) {
+        desk.say(fault)?;
+    }
+    if faults.len() > MOST_TOLD {
+        desk.say(format_args!("and {} more", faults.len() - MOST_TOLD))?;
+    }
+    let readable = readable(bytes);
+    desk.say(format_args!(
+        "sites that can still be read: {}",
+        readable.len()
+    ))?;
+    for site in readable {
+        desk.say(Command::Add(site))?;
+    }
+    desk.flush()?;
+    Ok(Met {
+        unsound: true,
+        ..Met::default()
+    })
+}
+
+/// The records with a number and a position on the grid, each number once.
+fn readable(bytes: &[u8]) -> Vec<Site> {
+    let mut whole = bytes.to_vec();
+    whole.resize(TABLE_LEN, 0);
+    let mut sites: Vec<Site> = Vec::new();
+    for (site, record) in table::sites(&whole)
+        .into_iter()
+        .zip(binding::layout::records(&whole))
+    {
+        let known = sites.iter().any(|other| other.number == site.number);
+        if site.number > 0 && sites::on_grid(&record) && !known {
+            sites.push(site);
+        }
+    }
+    sites
+}

@@ -1,0 +1,356 @@
+//! The verdict is the service's on every table tried, and each rule is told with its byte.
+
+use super::faults;
+use crate::service::Service;
+use binding::layout::{
+    ENTRIES_LISTED, FREE_NODES, HEADER_KEPT, LAYOUT, LEG_FLAG, LEVELS, MOST_LEVELS, ROOT,
+    SITES_HELD, STACK_END, TABLE_LEN, entry_at, free_at, listed_at, node_at, number, put_number,
+    put_word, record_at, word,
+};
+use reference::book::Book;
+use reference::command::{add, stand};
+use reference::grid::{Leg, MOST_SITES, Site};
+use reference::random::Random;
+use service::damage::{flipped, regions};
+use service::draw::Pool;
+use service::shape::{self, Dealing};
+use service::table::broken_rules;
+
+fn told(table: &[u8]) -> Vec<String> {
+    let faults = faults(table).unwrap();
+    faults.iter().map(ToString::to_string).collect()
+}
+
+/// Whether the table is sound: three programs say the same.
+fn agreed(table: &[u8]) -> bool {
+    let told = told(table);
+    let taken = Service::take_up(table.to_vec()).is_ok();
+    assert_eq!(taken, told.is_empty(), "{told:?}");
+    assert_eq!(taken, broken_rules(table).is_empty());
+    taken
+}
+
+/// A sound table of any shape.
+fn sound(random: &mut Random, count: usize) -> Vec<u8> {
+    let pool = Pool::new(random, count.max(1));
+    let mut additions = pool.additions(random);
+    additions.truncate(count);
+    let mut book = Book::new();
+    book.records(&additions);
+    if !random.once_in(4) {
+        book.records(&[stand(pool.leg(random))]);
+    }
+    match random.between(1, 3) {
+        1 => shape::table(&book, &mut Dealing::Tallest),
+        _ => shape::table(&book, &mut Dealing::Any(random)),
+    }
+}
+
+#[test]
+fn sound_tables_of_every_shape() {
+    let mut random = Random::new(201);
+    for count in [0, 1, 2, 8, 9, 30, 100, 300, MOST_SITES].repeat(3) {
+        assert!(agreed(&sound(&mut random, count)));
+    }
+}
+
+#[test]
+fn a_flipped_bit_in_every_field() {
+    let mut random = Random::new(202);
+    let (mut refused, mut taken) = (0, 0);
+    for count in [0, 1, 3, 9, 12, 40] {
+        let table = sound(&mut random, count);
+        for region in regions(&table) {
+            for at in region.bytes {
+                let bits = if region.name == "stack" { 1 } else { 8 };
+                for _ in 0..bits {
+                    let agreed = agreed(&flipped(&table, at, random.index(8)));
+                    *if agreed { &mut taken } else { &mut refused } += 1;
+                }
+            }
+        }
+    }
+    // A leg that moves a little may have the same list.
+    assert!(refused > 10_000 && taken > 10, "{refused} {taken}");
+}
+
+#[test]
+fn a_flipped_bit_in_large_tables() {
+    let mut random = Random::new(203);
+    for count in [200, MOST_SITES] {
+        let table = sound(&mut random, count);
+        let regions = regions(&table);
+        for _ in 0..600 {
+            let bytes = regions[random.index(regions.len())].bytes.clone();
+            if !bytes.is_empty() {
+                let at = bytes.start + random.index(bytes.len());
+                agreed(&flipped(&table, at, random.index(8)));
+            }
+        }
+    }
+}
+
+#[test]
+fn words_exchanged_and_rubbish() {
+    let mut random = Random::new(204);
+    for nth in 0..4_000 {
+        let count = random.index(30);
+        let mut table = sound(&mut random, count);
+        for _ in 0..1 + random.index(3) {
+            let value = match random.between(1, 4) {
+                1 => random.index(10),
+                2 => random.index(266),
+                3 => 7_990 + random.index(20),
+                _ => number(&table, 2 * random.index(STACK_END / 2)),
+            };
+            let at = match random.between(1, 3) {
+                1 => 2 * random.index(80),
+                2 => LEVELS + 2 * random.index(6),
+                _ => node_at(number(&table, ROOT).min(263)) + 2 * random.index(49),
+            };
+            put_number(&mut table, at, value);
+        }
+        if nth % 100 == 0 {
+            table
+                .iter_mut()
+                .for_each(|byte| *byte ^= random.between(0, 255) as u8);
+        }
+        agreed(&table);
+    }
+    for byte in [1, 6, 255] {
+        assert!(!agreed(&[byte; TABLE_LEN]));
+    }
+}
+
+#[test]
+fn bytes_that_no_rule_names() {
+    let mut random = Random::new(205);
+    let mut table = sound(&mut random, 40);
+    table[STACK_END..6_896].fill(0xFF);
+    let free = number(&table, free_at(3));
+    table[node_at(free)..node_at(free) + 98].fill(0xFF);
+    assert!(agreed(&table));
+}
+
+/// 40 sites on a line in five full leaves under one root, and a standing leg.
+fn two_levels() -> Vec<u8> {
+    let mut book = Book::new();
+    let nth = |number: u16| add(Site::new(number, 3 * i64::from(number), 0));
+    book.records(&(1..=40).map(nth).collect::<Vec<_>>());
+    book.records(&[stand(Leg::new((0, 0), (100, 0)))]);
+    shape::table(&book, &mut Dealing::Even)
+}
+
+/// What is told of that table after an edit, which gets the root and its first child.
+fn edited(edit: impl Fn(&mut Vec<u8>, usize, usize)) -> Vec<String> {
+    let mut table = two_levels();
+    let root = number(&table, ROOT);
+    let leaf = number(&table, entry_at(root, 0));
+    assert_eq!((root, leaf), (263, 262));
+    edit(&mut table, root, leaf);
+    if table.len() == TABLE_LEN {
+        assert!(!agreed(&table));
+    }
+    told(&table)
+}
+
+#[test]
+fn rules_on_header_and_sites() {
+    assert_eq!(
+        edited(|t, _, _| t.push(0)),
+        ["table: 32,769 bytes long, a table has 32,768"]
+    );
+    assert_eq!(
+        edited(|t, _, _| put_word(t, HEADER_KEPT.start, 9)),
+        [format!(
+            "header: kept for later, byte {}: 9 stands there, 0 belongs there",
+            HEADER_KEPT.start
+        )]
+    );
+    if let Some((at, layout)) = LAYOUT {
+        let other = edited(|t, _, _| put_word(t, at, layout + 1));
+        let what = "the number of another layout: this release cannot read it";
+        let (stands, belongs) = (layout + 1, layout);
+        assert_eq!(
+            other,
+            [format!(
+                "header: {what}, byte {at}: {stands} stands there, {belongs} belongs there"
+            )]
+        );
+    }
+    let too_many = edited(|t, _, _| put_word(t, SITES_HELD, 513));
+    assert_eq!(
+        too_many[0],
+        "header: a table holds at most 512 sites, byte 0: 513 stands there"
+    );
+    let cases = [
+        (0, 0, "0 is no site's number, byte 104: 0 stands there"),
+        (
+            0,
+            3,
+            "the number is not above the one before, byte 104: 3 stands there",
+        ),
+        (
+            2,
+            16_001,
+            "the easting is off the grid, 0 to 16,000 from its edge, byte 106: 16,001 stands there",
+        ),
+        (
+            4,
+            65_535,
+            "the northing is off the grid, 0 to 16,000 from its edge, byte 108: 65,535 stands there",
+        ),
+        (6, 1, "kept for later: it is 0, byte 110: 1 stands there"),
+    ];
+    for (offset, value, what) in cases {
+        let found = edited(|t, _, _| put_word(t, record_at(5) + offset, value));
+        assert_eq!(found[0], format!("site record 5: {what}"));
+    }
+}
+
+#[test]
+fn rules_on_the_standing_leg_and_list() {
+    assert_eq!(
+        edited(|t, _, _| put_word(t, LEG_FLAG, 2)),
+        ["standing leg: 1 where a leg is set, else 0, byte 2: 2 stands there"]
+    );
+    assert_eq!(
+        edited(|t, _, _| put_word(t, LEG_FLAG, 0))[0],
+        "standing leg: no leg is set, but its easting of S is, byte 4: 8,000 stands there, 0 belongs there"
+    );
+    assert_eq!(
+        edited(|t, _, _| put_word(t, 10, 16_001)),
+        [
+            "standing leg: the northing of E is off the grid, 0 to 16,000 from its edge, byte 10: 16,001 stands there"
+        ]
+    );
+    let listed = number(&two_levels(), ENTRIES_LISTED);
+    assert_eq!(
+        edited(|t, _, _| put_number(t, ENTRIES_LISTED, listed + 1)),
+        [format!(
+            "standing list: the number of entries is not that of the leg's list, byte 12: {} stands there, {listed} belongs there",
+            listed + 1
+        )]
+    );
+    assert_eq!(
+        edited(|t, _, _| put_word(t, listed_at(3), 40)),
+        [
+            "standing list, entry 3: not the site of the leg's list, byte 4,166: 40 stands there, 4 belongs there"
+        ]
+    );
+}
+
+#[test]
+fn rules_on_entries_and_boxes() {
+    let wider = edited(|t, root, _| put_word(t, entry_at(root, 3) + 4, 7_999));
+    assert_eq!(
+        wider,
+        [
+            "node 263, entry 3: box is wider than what lies under it, byte 32,712: 7,999 stands there, 8,000 belongs there"
+        ]
+    );
+    let narrower = edited(|t, root, _| {
+        let at = entry_at(root, 0) + 6;
+        let less = word(t, at) - 1;
+        put_word(t, at, less);
+    });
+    assert_eq!(
+        narrower,
+        [
+            "node 263, entry 0: box is narrower than what lies under it, byte 32,678: 8,023 stands there, 8,024 belongs there"
+        ]
+    );
+    let kept = edited(|t, _, leaf| put_word(t, entry_at(leaf, 7) + 10, 256));
+    assert_eq!(
+        kept,
+        ["node 262, entry 7: kept for later, byte 32,668: 256 stands there, 0 belongs there"]
+    );
+    let wide = edited(|t, _, leaf| t[entry_at(leaf, 2) + 8] += 1);
+    assert_eq!(
+        wide[0],
+        "node 262, entry 2: a leaf's box is a point, but its north is not its south, byte 32,606: 8,001 stands there"
+    );
+    let renumbered = edited(|t, _, leaf| put_word(t, entry_at(leaf, 3), 999));
+    assert_eq!(
+        renumbered,
+        [
+            "node 262, entry 3: no such site is held, byte 32,610: 999 stands there",
+            "site record 3: the site is in no leaf entry, byte 88: 4 stands there",
+        ]
+    );
+    let moved = edited(|t, _, leaf| {
+        put_word(t, entry_at(leaf, 3) + 2, 8_013);
+        put_word(t, entry_at(leaf, 3) + 6, 8_013);
+    });
+    assert_eq!(
+        moved,
+        [
+            "node 262, entry 3: not the easting of the site's record, byte 32,612: 8,013 stands there"
+        ]
+    );
+    let twice = edited(|t, _, leaf| {
+        let (from, to) = (entry_at(leaf, 3), entry_at(leaf, 4));
+        t.copy_within(from..from + 12, to);
+    });
+    assert_eq!(
+        twice[0],
+        "node 262, entry 4: the site is in another leaf entry, too, byte 32,622: 4 stands there"
+    );
+}
+
+#[test]
+fn rules_on_counts_levels_and_the_pool() {
+    let nine = edited(|t, _, leaf| t[node_at(leaf)] = 9);
+    assert_eq!(
+        nine,
+        ["node 262: a node has at most 8 entries, byte 32,572: 9 stands there"]
+    );
+    let two = edited(|t, _, leaf| t[node_at(leaf)] = 2);
+    assert!(two.contains(
+        &"node 262: too few entries, here at least 3, byte 32,572: 2 stands there".to_string()
+    ));
+    let one = edited(|t, root, _| t[node_at(root)] = 1);
+    assert!(one.contains(
+        &"node 263: too few entries, here at least 2, byte 32,670: 1 stands there".to_string()
+    ));
+    let seven = edited(|t, _, _| put_number(t, LEVELS, MOST_LEVELS + 1));
+    assert!(
+        seven
+            .contains(&"tree: a tree has at most 6 levels, byte 5,184: 7 stands there".to_string())
+    );
+    let child = edited(|t, root, _| put_number(t, entry_at(root, 2), 264));
+    assert!(child.contains(
+        &"node 263, entry 2: no node has this id, ids are 0 to 263, byte 32,696: 264 stands there"
+            .to_string()
+    ));
+    let again = edited(|t, root, leaf| put_number(t, entry_at(root, 2), leaf));
+    assert!(again.contains(
+        &"node 263, entry 2: the node was met before, byte 32,696: 262 stands there".to_string()
+    ));
+    let miscounted = edited(|t, _, _| put_number(t, FREE_NODES, 257));
+    assert_eq!(
+        miscounted,
+        [
+            "tree, free nodes: with the nodes of the tree there must be 264, byte 5,188: 257 stands there, 258 belongs there",
+            "node 257: neither in the tree nor on the stack, byte 32,082: 0 stands there",
+        ]
+    );
+    let twice = edited(|t, _, _| t.copy_within(free_at(1)..free_at(2), free_at(2)));
+    assert_eq!(
+        twice,
+        [
+            "stack, place 2: the node is on the stack twice, byte 5,194: 1 stands there",
+            "node 2: neither in the tree nor on the stack, byte 7,092: 0 stands there",
+        ]
+    );
+    let in_tree = edited(|t, _, leaf| put_number(t, free_at(0), leaf));
+    assert_eq!(
+        in_tree[0],
+        "stack, place 0: the node is in the tree, so it is not free, byte 5,190: 262 stands there"
+    );
+    let stack = edited(|t, _, _| put_number(t, free_at(0), 300));
+    assert_eq!(
+        stack[0],
+        "stack, place 0: no node has this id, ids are 0 to 263, byte 5,190: 300 stands there"
+    );
+}
