@@ -15,7 +15,7 @@ use Rattle.book.specs.declared.Reason.{Reason}
 use Rattle.book.specs.declared.Reason.the-variants.{AllUsed, UnknownCommand, CutShort, NoRoom}
 use Rattle.book.specs.declared.BatchResult.{BatchResult}
 use Rattle.book.specs.Command.{parseAt}
-use Rattle.book.specs.Reply.{recordOf}
+use Rattle.book.specs.Reply.{recordOf, recordSize}
 use Rattle.book.specs.Answer.{answer}
 use Rattle.book.specs.Run.{Turn, Outcome, records, ends, run}
 use Rattle.book.proofs.Runs.{records-append, records-one, records-more, turnOf, Steps, steps-none, ends-all, ends-unknown, ends-cut, ends-full, steps-less, steps-one}
@@ -25,8 +25,8 @@ use Rattle.demands.specs.Step.Chain.{none, next}
 use Rattle.demands.specs.Batch.{result}
 use Rattle.demands.proofs.Chains.{chain-holds}
 use Rattle.judge.specs.declared.Answer.{Answer}
-use Rattle.judge.specs.Judged.{Judged}
-use Rattle.serve.specs.Serving.{sizeOf, Obeyed, EndsAs, Answered}
+use Rattle.judge.specs.Judged.{replyOf, Judged}
+use Rattle.serve.specs.Serving.{Sized, Obeyed, EndsAs, Answered}
 use Rattle.serve.proofs.Recording.{size-is}
 
 -- a chain, and one step more
@@ -44,8 +44,8 @@ report-more r x rep₀ h =
     ∙ sym (append-assoc r x (drop (length r + length x) rep₀))
 
 -- the record has room
-pub turn-fits : (a : Answer) (n written size : ℕ) → written ≤ n → size ≡ sizeOf a → size ≤ n - written → written + sizeOf a ≤ n
-turn-fits a n written size w e h = omega arith
+pub turn-fits : (a : Answer) (t w : List ℕ) (n written size : ℕ) → written ≤ n → Sized a size → size ≤ n - written → written + recordSize (replyOf a t w) ≤ n
+turn-fits a t w n written size l s h = omega (arith, s t w)
 
 -- what is written then is no more than the report
 pub turn-room : (n written size : ℕ) → written ≤ n → size ≤ n - written → written + size ≤ n
@@ -105,12 +105,12 @@ module _ (cs t₀ rep₀ : List ℕ) (used written : ℕ) (t rep : List ℕ) (s 
       pub fewer-left : length cs - after-it < length cs - used
       fewer-left = steps-less cs (length rep₀) (bookOf t₀) used (s .past) (bookOf t) (s .steps) p hp c after-it hc
 
-      module _ (a : Answer) (w : List ℕ) (j : Judged a c t w) (size : ℕ) (hs : size ≡ sizeOf a) where
+      module _ (a : Answer) (w : List ℕ) (j : Judged a c t w) (size : ℕ) (hs : Sized a size) where
         pub ended-full : length rep - written < size → (r : BatchResult) → r ≡ result NoRoom used written → Answered cs t₀ rep₀ r t rep
         ended-full h =
             ended NoRoom
             (ends-full cs (length rep₀) (bookOf t₀) used (s .past) (bookOf t) (s .steps) p hp c after-it hc
-            (omega (arith, room, s .count, serving-fits, size-is a c t w j)))
+            (omega (arith, room, s .count, serving-fits, size-is a c t w j size hs)))
 
         -- ONE TURN
         pub serving-one : size ≤ length rep - written → (t′ rep′ : List ℕ) → Obeyed c t t′ rep written rep′
@@ -119,14 +119,14 @@ module _ (cs t₀ rep₀ : List ℕ) (used written : ℕ) (t rep : List ℕ) (s 
             let u = turnOf (bookOf t) c in
             let b = chain-holds t (s .sound) (u ∷ []) t′ (next (o .step) none) in
             let fits : length (records (s .past)) + length (recordOf (answer (bookOf t) c)) ≤ length rep₀ =
-            omega (arith, room, s .count, serving-fits, size-is a c t w j)
+            omega (arith, room, s .count, serving-fits, size-is a c t w j size hs)
             in
             record {
               past = s .past ++ (u ∷ []);
               steps = rw (b .book) (steps-one cs (length rep₀) (bookOf t₀) used (s .past) (bookOf t) (s .steps) p hp c after-it hc fits);
               chain = chain-more t₀ (s .past) t t′ u (s .chain) (o .step);
               sound = b .sound;
-              count = omega (arith, s .count, records-more (s .past) u, size-is a c t w j);
+              count = omega (arith, s .count, records-more (s .past) u, size-is a c t w j size hs);
               report = o .report ∙ (λ i. write (s .report i) (s .count i) (recordOf (answer (bookOf t) c)))
                   ∙ report-more (records (s .past)) (recordOf (answer (bookOf t) c)) rep₀ fits
                   ∙ (λ i. (ap (λ (y : List ℕ). records (s .past) ++ y) (sym (records-one u)) ∙ sym (records-append (s .past) (u ∷ []))) i ++ drop (sym (records-more (s .past) u) i) rep₀);

@@ -2,25 +2,24 @@
 -- Assumes nothing.
 use mathlib.Core.Path.{_≡_}
 use mathlib.Core.List.{List, _++_}
-use Prim.Native.Nat.{ℕ, _+_, _*_, _≤_}
+use Prim.Native.Nat.{ℕ, _≤_}
 use lib.ListN.{length, drop}
 use Rattle.limits.specs.Limits.{maxSites}
 use Rattle.records.specs.Bytes.{write}
 use Rattle.book.specs.declared.Command.{Command}
 use Rattle.book.specs.declared.BatchResult.{BatchResult}
-use Rattle.book.specs.Reply.{recordOf}
+use Rattle.book.specs.Reply.{recordOf, recordSize}
 use Rattle.book.specs.Answer.{answer}
 use Rattle.book.specs.Run.{Outcome, records, run}
 use Rattle.table.specs.Table.{bookOf}
 use Rattle.demands.specs.Step.{Step, Chain}
 use Rattle.demands.specs.Batch.{result}
 use Rattle.judge.specs.declared.Answer.{Answer}
+use Rattle.judge.specs.Judged.{replyOf}
 
--- the length of an answer's record
-abbrev pub sizeOf : Answer → ℕ
-sizeOf Answer.Done = 1
-sizeOf (Answer.Refused x) = 2
-sizeOf (Answer.Listed l k) = 3 + 10 * k
+-- n is the size of an answer's record, whatever stands in the table and the row
+abbrev pub Sized : Answer → ℕ → Type 0
+Sized a n = (t w : List ℕ) → n ≡ recordSize (replyOf a t w)
 
 -- a list of no more entries than sites can be held
 abbrev pub Few : Answer → Type 0

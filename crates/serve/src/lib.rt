@@ -13,12 +13,13 @@ ghost use lib.ListN.{length};
 ghost use Rattle.row.specs.Vertices.{rowBytes};
 ghost use Rattle.table.specs.Table.{Sound};
 ghost use Rattle.demands.specs.Batch.{result};
-ghost use Rattle.judge.specs.Judged.{Judged};
-ghost use Rattle.serve.specs.Serving.{sizeOf, Obeyed, Answered};
+ghost use Rattle.book.specs.Reply.{recordSize};
+ghost use Rattle.judge.specs.Judged.{replyOf, Judged};
+ghost use Rattle.serve.specs.Serving.{Obeyed, Answered};
 
 // Writes the record of a judged command, and carries it out if it is accepted.
 fn obey(t: &mut [u8], work: &mut [u8], c: Command, a: Answer, report: &mut [u8], at: usize)
-    requires { ⌜ Sound (now t) × (2 * rowBytes ≤ length (now work)) × Judged a c (now t) (now work) × (at + sizeOf a ≤ length (now report)) ⌝ }
+    requires { ⌜ Sound (now t) × (2 * rowBytes ≤ length (now work)) × Judged a c (now t) (now work) × (at + recordSize (replyOf a (now t) (now work)) ≤ length (now report)) ⌝ }
     ensures { λ _. ⌜ Obeyed c (now (t .entry)) (now (t .exit)) (now (report .entry)) at (now (report .exit)) ⌝ }
 {
     record::put(t, work, a, report, at);
