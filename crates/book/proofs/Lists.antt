@@ -3,7 +3,7 @@
 use mathlib.Core.Path.{_≡_, refl, sym, ap, _∙_, subst, subst⁻¹}
 use mathlib.Core.Option.{Option, some}
 use mathlib.Core.List.{List, _∷_, map, List·Memᴰ, List·Memᴰ·head, List·Memᴰ·tail}
-use Prim.Native.Nat.{_+_, _*_, _≤_, _<_}
+use Prim.Native.Nat.{_≤_, _<_}
 use native.Mathlib.Omega.{arith}
 use lib.ListN.{length}
 use Rattle.limits.specs.Limits.{maxSites, maxDenominator}
@@ -18,15 +18,15 @@ use Rattle.split.proofs.Unique.{end-fraction}
 use Rattle.split.proofs.Once.{few}
 use Rattle.split.proofs.Denominators.{bounded}
 use Rattle.split.proofs.Exists.{split-is}
-use Rattle.records.specs.ListRecord.{recordBytes}
 use Rattle.records.specs.Decode.{listedOf, readRecord}
+use Rattle.records.specs.ListRecord.{listSize, recordBytes}
 use Rattle.records.proofs.Length.{record-length}
 use Rattle.records.proofs.ReadBack.{EntrySmall, read-record}
 use Rattle.book.specs.declared.Command.{Command}
 use Rattle.book.specs.declared.Command.the-variants.{Add, Remove, Move, List as ListOf, Stand, Print}
 use Rattle.book.specs.Book.{Book}
 use Rattle.book.specs.Proper.{LegOk, Proper}
-use Rattle.book.specs.Reply.{Reply, done, refused, listed, recordOf}
+use Rattle.book.specs.Reply.{Reply, done, refused, listed, recordOf, recordSize}
 use Rattle.book.specs.Answer.{answer, legAsked}
 use Rattle.book.proofs.Answers.{ListFits, list-accepted, PrintFits, print-accepted, add-not-listed, remove-not-listed, move-not-listed, stand-not-listed}
 use Rattle.book.proofs.ProperBooks.{proper-numbered}
@@ -43,6 +43,12 @@ listed-held l s es h f (List·Memᴰ·tail {x = e} {xs = rest} m) = listed-held 
 start-below : (l : Leg) (s : List Site) (es : List Entry) → Stretches l s es → (f : Entry) → List·Memᴰ f es → f .start .num < f .start .den
 start-below l s es h f (List·Memᴰ·head {x = e} {xs = rest} q) = subst (λ (g : Entry). g .start .num < g .start .den) (sym q) (h .0 .below1)
 start-below l s es h f (List·Memᴰ·tail {x = e} {xs = rest} m) = start-below l s rest (h .1) f m
+
+-- THE SIZE OF A RECORD is the number of its bytes
+pub record-size : (y : Reply) → length (recordOf y) ≡ recordSize y
+record-size done = refl
+record-size (refused x) = refl
+record-size (listed es) = record-length es
 
 -- the leg that a command asks for is on the grid, and this is the split list of it over the book's sites
 pub record BookList (b : Book) (c : Command) (es : List Entry) : Type 0 where
@@ -93,10 +99,10 @@ module _ (b : Book) (ok : Proper b) where
     list-read = read-record es (omega (arith, list-few)) list-small
 
   -- NO RECORD is longer than that of 512 entries
-  pub answer-length : (c : Command) → length (recordOf (answer b c)) ≤ 3 + 10 * maxSites
+  pub answer-length : (c : Command) → length (recordOf (answer b c)) ≤ listSize maxSites
   answer-length c = go (answer b c) refl
     where
-      go : (y : Reply) → answer b c ≡ y → length (recordOf y) ≤ 3 + 10 * maxSites
+      go : (y : Reply) → answer b c ≡ y → length (recordOf y) ≤ listSize maxSites
       go done e = omega arith
       go (refused x) e = omega arith
       go (listed es) e =

@@ -3,7 +3,7 @@
 use mathlib.Core.Path.{_≡_, refl, ap, sym, _∙_}
 use mathlib.Core.Bool.{Bool, true, false}
 use mathlib.Core.List.{List}
-use Prim.Native.Nat.{ℕ, _+_, _*_, _≤_, _<_}
+use Prim.Native.Nat.{ℕ, _+_, _-_, _≤_, _<_}
 use native.Mathlib.Omega.{arith}
 use lib.ListN.{length}
 use Rattle.grid.specs.declared.Leg.{Leg}
@@ -11,23 +11,24 @@ use Rattle.grid.specs.Says.{Says}
 use Rattle.split.specs.SplitList.{Entry}
 use Rattle.row.specs.Vertices.{entriesIn}
 use Rattle.records.specs.Bytes.{write}
-use Rattle.records.specs.ListRecord.{recordBytes}
+use Rattle.records.specs.ListRecord.{recordBytes, listSize}
 use Rattle.records.proofs.Length.{record-length}
+use Rattle.record3d.specs.RowEntries.{entriesFrom}
 use Rattle.record3d.proofs.Entries.{entries-length}
 use Rattle.build_list.specs.SiteArray.{Built}
 use Rattle.list_probe.specs.Probing.{Ready, answer, Written, Probed}
 
 module _ {t : List ℕ} {n : ℕ} {l : Leg} {w w′ : List ℕ} {k : ℕ} (h : Built l t 0 n w w′ k) where
-  size : length (answer t n l) ≡ 3 + 10 * k
+  size : length (answer t n l) ≡ listSize k
   size =
       ap (λ (es : List Entry). length (recordBytes es)) (sym (h .is)) ∙ record-length (entriesIn l t w′ k)
-      ∙ ap (λ (m : ℕ). 3 + 10 * m) (entries-length l t w′ k)
+      ∙ ap listSize (entries-length l t w′ k)
 
-  pub wrote-none : (b : List ℕ) (m : ℕ) → m ≡ 3 + 10 * k → length b < m → Written t n l w w′ b b 0
+  pub wrote-none : (b : List ℕ) (m : ℕ) → m ≡ listSize k → length b < m → Written t n l w w′ b b 0
   wrote-none b m e g =
       record { wrote = λ f. absurd (omega (arith, size)); no-room = λ f. (refl, refl); only = h .only }
 
-  pub wrote-all : {b b′ : List ℕ} {r m : ℕ} → m ≡ 3 + 10 * k → m ≤ length b → b′ ≡ write b 0 (recordBytes (entriesIn l t w′ k)) → r ≡ 0 + (3 + 10 * k)
+  pub wrote-all : {b b′ : List ℕ} {r m : ℕ} → m ≡ listSize k → m ≤ length b → b′ ≡ write b 0 (recordBytes (entriesFrom l t w′ 0 k)) → r ≡ 0 + listSize (k - 0)
       → Written t n l w w′ b b′ r
   wrote-all {b} e g f er =
       record {

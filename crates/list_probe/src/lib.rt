@@ -58,11 +58,11 @@ fn written(t: &[u8], n: usize, leg: Leg, work: &mut [u8], report: &mut [u8]) -> 
     ensures { λ r. ⌜ Written (now (t .entry)) n leg (now (work .entry)) (now (work .exit)) (now (report .entry)) (now (report .exit)) r ⌝ }
 {
     let k = build_list::build(t, 0, n, leg, work);
-    let size = record3d::record_length(k);
+    let size = record3d::list_size(k);
     if report.len() < size {
         return 0;
     }
-    record3d::put_list(t, work, leg, k, report, 0)
+    record3d::put_list(t, work, leg, 0, k, report, 0)
 }
 
 // Writes the record of the list of the leg over the n site records at the beginning of the table, and says how many bytes it has.

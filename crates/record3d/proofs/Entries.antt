@@ -2,9 +2,10 @@
 -- Assumes nothing.
 use mathlib.Core.Path.{_≡_, refl, ap, sym, _∙_}
 use mathlib.Core.List.{List, [], _∷_, _++_, append-assoc}
-use Prim.Native.Nat.{ℕ, zero, suc, _+_, _<_}
+use Prim.Native.Nat.{ℕ, zero, suc, _+_, _-_, _≤_, _<_}
 use native.Mathlib.Omega.{arith}
-use lib.ListN.{length, length-append}
+use lib.ListN.{length, drop, length-append, length-drop, drop-of-length-le}
+use lib.Seq.{drop-append-le}
 use Rattle.words.specs.Words.{putWord}
 use Rattle.grid.specs.declared.Fraction.{Fraction}
 use Rattle.grid.specs.declared.Leg.{Leg}
@@ -15,7 +16,7 @@ use Rattle.split.specs.SplitOf.{changeover, after, entries, onto}
 use Rattle.row.specs.Vertices.{vertexIn, stack, entriesIn}
 use Rattle.records.specs.Bytes.{bytes2, bytes4, write}
 use Rattle.records.specs.ListRecord.{entryBytes, listBytes, recordBytes}
-use Rattle.record3d.specs.RowEntries.{entryAt, startBytes}
+use Rattle.record3d.specs.RowEntries.{entryAt, entriesFrom, startBytes}
 use Rattle.records.proofs.Writing.{write-append}
 use Rattle.record3d.proofs.Writing.{put-word-is}
 
@@ -80,12 +81,23 @@ module _ (l : Leg) (t r : List ℕ) where
   entries-length (suc i) =
       ap length (entries-one i) ∙ length-append (entriesIn l t r i) (entryAt l t r i ∷ []) ∙ (omega (arith, entries-length i))
 
+  -- from the one at j on
+  pub from-none : (j : ℕ) → entriesFrom l t r j j ≡ []
+  from-none j = drop-of-length-le (entriesIn l t r j) {i = j} (omega (arith, entries-length j))
+
+  pub from-one : (j i : ℕ) → j ≤ i → entriesFrom l t r j (suc i) ≡ entriesFrom l t r j i ++ entryAt l t r i ∷ []
+  from-one j i h =
+      ap (drop j) (entries-one i) ∙ drop-append-le j (entriesIn l t r i) (entryAt l t r i ∷ []) (omega (arith, entries-length i))
+
+  pub from-length : (j i : ℕ) → length (entriesFrom l t r j i) ≡ i - j
+  from-length j i = length-drop j (entriesIn l t r i) ∙ ap (λ (n : ℕ). n - j) (entries-length i)
+
 -- The return of `put_list`.
-pub record-is : (l : Leg) (t r : List ℕ) (k : ℕ) (b b₁ b₂ : List ℕ) (p n : ℕ) → n ≡ k → n < 65536 → b₁ ≡ putWord (write b p (61 ∷ [])) (p + 1) n
-    → b₂ ≡ write b₁ (p + 3) (listBytes (entriesIn l t r k)) → b₂ ≡ write b p (recordBytes (entriesIn l t r k))
+pub record-is : (es : List Entry) (b b₁ b₂ : List ℕ) (p n : ℕ) → n ≡ length es → n < 65536 → b₁ ≡ putWord (write b p (0x3D ∷ [])) (p + 1) n
+    → b₂ ≡ write b₁ (p + 3) (listBytes es) → b₂ ≡ write b p (recordBytes es)
 unfolding recordBytes
-record-is l t r k b b₁ b₂ p n en small e₁ e₂ =
+record-is es b b₁ b₂ p n en small e₁ e₂ =
     let h : p + 3 ≡ p + 1 + 2 = omega arith in
-    e₂ ∙ ap (λ (y : List ℕ). write y (p + 3) (listBytes (entriesIn l t r k))) (put-word-is (write b p (61 ∷ [])) b₁ (p + 1) n small e₁)
-    ∙ (λ j. write (write (write b p (61 ∷ [])) (p + 1) (bytes2 ((en ∙ sym (entries-length l t r k)) j))) (h j) (listBytes (entriesIn l t r k)))
-    ∙ sym (write-append (write b p (61 ∷ [])) (p + 1) (bytes2 (length (entriesIn l t r k))) (listBytes (entriesIn l t r k)))
+    e₂ ∙ ap (λ (y : List ℕ). write y (p + 3) (listBytes es)) (put-word-is (write b p (0x3D ∷ [])) b₁ (p + 1) n small e₁)
+    ∙ (λ j. write (write (write b p (0x3D ∷ [])) (p + 1) (bytes2 (en j))) (h j) (listBytes es))
+    ∙ sym (write-append (write b p (0x3D ∷ [])) (p + 1) (bytes2 (length es)) (listBytes es))

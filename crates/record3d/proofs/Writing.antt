@@ -8,6 +8,9 @@ use native.Mathlib.Nat.{mod-eq-of-lt}
 use lib.ListN.{set}
 use Rattle.words.specs.Words.{putWord}
 use Rattle.records.specs.Bytes.{bytes2, bytes4, write}
+use Rattle.book.specs.declared.Cause.{Cause}
+use Rattle.book.specs.Numbers.{causeNumber}
+use Rattle.book.specs.Reply.{refused, recordOf}
 
 -- What `put_word` and `put_long` do.
 pub put-word-is : (b b′ : List ℕ) (i x : ℕ) → x < 65536 → b′ ≡ putWord b i x → b′ ≡ write b i (bytes2 x)
@@ -19,3 +22,7 @@ put-word-is b b′ i x h e =
 pub put-long-is : (b : List ℕ) (i x p q r s : ℕ) → p ≡ x % 256 → q ≡ x / 256 % 256 → r ≡ x / 65536 % 256 → s ≡ x / 16777216 % 256
     → set (set (set (set b i p) (i + 1) q) (i + 1 + 1) r) (i + 1 + 1 + 1) s ≡ write b i (bytes4 x)
 put-long-is b i x p q r s e f g h = λ j. set (set (set (set b i (e j)) (i + 1) (f j)) (i + 1 + 1) (g j)) (i + 1 + 1 + 1) (h j)
+
+-- The return of `put_refusal`.
+pub refusal-is : (x : Cause) (b : List ℕ) (i n : ℕ) → n ≡ causeNumber x → set (set b i 0x21) (i + 1) n ≡ write b i (recordOf (refused x))
+refusal-is x b i n e = ap (λ (y : ℕ). set (set b i 0x21) (i + 1) y) e

@@ -3,13 +3,14 @@
 use mathlib.Core.Path.{_≡_}
 use mathlib.Core.List.{List, _++_}
 use Prim.Native.Nat.{ℕ, zero, suc, _^_, _<_}
+use lib.ListN.{drop}
 use Rattle.grid.specs.declared.Fraction.{Fraction}
 use Rattle.grid.specs.declared.Leg.{Leg}
 use Rattle.grid.specs.Fraction.{zeroFraction, lowest}
 use Rattle.split.specs.SplitList.{Entry}
 use Rattle.split.specs.SplitOf.{changeover}
 use Rattle.row.specs.Places.{siteAt}
-use Rattle.row.specs.Vertices.{placeAt, vertexIn}
+use Rattle.row.specs.Vertices.{placeAt, vertexIn, entriesIn}
 use Rattle.records.specs.Bytes.{bytes2, bytes4}
 
 -- where the stretch of the vertex at i starts
@@ -20,6 +21,10 @@ startAt l t r (suc i) = changeover (vertexIn l t r i) (vertexIn l t r (suc i))
 -- the entry of the vertex at i
 abbrev pub entryAt : Leg → List ℕ → List ℕ → ℕ → Entry
 entryAt l t r i = record { site = siteAt t (placeAt r i); start = startAt l t r i }
+
+-- the entries of the first k, without those before the one at j
+abbrev pub entriesFrom : Leg → List ℕ → List ℕ → ℕ → ℕ → List Entry
+entriesFrom l t r j k = drop j (entriesIn l t r k)
 
 -- in lowest terms, q is where the stretch of the vertex at i starts
 pub record RatioAt (l : Leg) (t r : List ℕ) (i : ℕ) (q : Fraction) : Type 0 where

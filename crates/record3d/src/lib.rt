@@ -1,4 +1,5 @@
-// Record 3D: the list in a row, written to a report.
+// The records of a report, and their sizes: 2B of an accepted change, 21 of a refusal, 3D of the list in a row. Document 01, "Buffers and batches".
+use book::Cause;
 use grid::Fraction;
 use grid::Leg;
 use row::Vertex;
@@ -9,17 +10,42 @@ ghost use Rattle.limits.specs.Limits.{maxSites};
 ghost use Rattle.grid.specs.Fraction.{lowest};
 ghost use Rattle.grid.specs.Position.{LegOnGrid};
 ghost use Rattle.row.specs.Places.{siteAt, HasSite};
-ghost use Rattle.row.specs.Vertices.{placeAt, Held, entriesIn};
+ghost use Rattle.row.specs.Vertices.{placeAt, Held};
 ghost use Rattle.records.specs.Bytes.{bytes4, write};
-ghost use Rattle.records.specs.ListRecord.{entryBytes, listBytes, recordBytes};
-ghost use Rattle.record3d.specs.RowEntries.{startAt, entryAt, RatioAt, startBytes};
+ghost use Rattle.records.specs.ListRecord.{entryBytes, listBytes, recordBytes, listSize};
+ghost use Rattle.book.specs.Reply.{done, refused, recordOf};
+ghost use Rattle.record3d.specs.RowEntries.{startAt, entryAt, entriesFrom, RatioAt, startBytes};
 
-// The bytes of the record of a list of k entries.
-pub fn record_length(k: usize) -> usize
+// The bytes of a record 2B.
+pub const DONE_SIZE: usize = 1;
+
+// The bytes of a record 21.
+pub const REFUSAL_SIZE: usize = 2;
+
+// The bytes of a record 3D of k entries.
+pub fn list_size(k: usize) -> usize
     requires { ⌜ k ≤ maxSites ⌝ }
-    ensures { λ r. ⌜ r ≡ 3 + 10 * k ⌝ }
+    ensures { λ r. ⌜ r ≡ listSize k ⌝ }
 {
     3 + 10 * k
+}
+
+// Writes the record of an accepted change.
+pub fn put_done(report: &mut [u8], at: usize)
+    requires { ⌜ at + 1 ≤ length (now report) ⌝ }
+    ensures { λ _. ⌜ now (report .exit) ≡ write (now (report .entry)) at (recordOf done) ⌝ }
+{
+    report[at] = 0x2B;
+}
+
+// Writes the record of a refusal.
+pub fn put_refusal(cause: Cause, report: &mut [u8], at: usize)
+    requires { ⌜ at + 2 ≤ length (now report) ⌝ }
+    ensures { λ _. ⌜ now (report .exit) ≡ write (now (report .entry)) at (recordOf (refused cause)) ⌝ }
+{
+    let number = book::cause_number(cause);
+    report[at] = 0x21;
+    report[at + 1] = number;
 }
 
 // The number of entries, as the record has it.
@@ -137,29 +163,38 @@ fn put_two(t: &[u8], row: &[u8], leg: Leg, k: usize, i: usize, report: &mut [u8]
     put_starts(report, at, n, m, p, q);
 }
 
-// Writes the entries of the first k.
-fn put_entries(t: &[u8], row: &[u8], leg: Leg, k: usize, report: &mut [u8], at: usize)
-    requires { ⌜ Held leg (now t) (now row) k × LegOnGrid leg × (at + 10 * k ≤ length (now report)) ⌝ }
-    ensures { λ _. ⌜ now (report .exit) ≡ write (now (report .entry)) at (listBytes (entriesIn leg (now (t .entry)) (now (row .entry)) k)) ⌝ }
+// Writes the entries of the first k, from the one at j on.
+fn put_entries(t: &[u8], row: &[u8], leg: Leg, j: usize, k: usize, report: &mut [u8], at: usize)
+    requires { ⌜ Held leg (now t) (now row) k × LegOnGrid leg × (j ≤ k) × (at + 10 * (k - j) ≤ length (now report)) ⌝ }
+    ensures { λ _. ⌜ now (report .exit) ≡ write (now (report .entry)) at (listBytes (entriesFrom leg (now (t .entry)) (now (row .entry)) j k)) ⌝ }
 {
-    let mut i = 0;
+    let mut i = j;
     while i + 1 < k {
-        put_two(t, row, leg, k, i, report, at + 10 * i);
+        put_two(t, row, leg, k, i, report, at + 10 * (i - j));
         i += 2;
     }
     if i < k {
-        put_entry(t, row, leg, k, i, report, at + 10 * i);
+        put_entry(t, row, leg, k, i, report, at + 10 * (i - j));
     }
 }
 
-// Writes the list in the first k of a row as a record, and says where the record ends.
-pub fn put_list(t: &[u8], row: &[u8], leg: Leg, k: usize, report: &mut [u8], at: usize) -> usize
-    requires { ⌜ Held leg (now t) (now row) k × LegOnGrid leg × (at + (3 + 10 * k) ≤ length (now report)) ⌝ }
-    ensures wrote { λ _. ⌜ now (report .exit) ≡ write (now (report .entry)) at (recordBytes (entriesIn leg (now (t .entry)) (now (row .entry)) k)) ⌝ }
-    ensures upto { λ r. ⌜ r ≡ at + (3 + 10 * k) ⌝ }
+// Writes the list in the first k of a row as a record, from the entry at j on, and says where the record ends.
+pub fn put_list(
+    t: &[u8],
+    row: &[u8],
+    leg: Leg,
+    j: usize,
+    k: usize,
+    report: &mut [u8],
+    at: usize,
+) -> usize
+    requires { ⌜ Held leg (now t) (now row) k × LegOnGrid leg × (j ≤ k) × (at + listSize (k - j) ≤ length (now report)) ⌝ }
+    ensures wrote { λ _. ⌜ now (report .exit) ≡ write (now (report .entry)) at (recordBytes (entriesFrom leg (now (t .entry)) (now (row .entry)) j k)) ⌝ }
+    ensures upto { λ r. ⌜ r ≡ at + listSize (k - j) ⌝ }
 {
-    report[at] = 61;
-    words::put_word(report, at + 1, count_of(k));
-    put_entries(t, row, leg, k, report, at + 3);
-    at + record_length(k)
+    let n = k - j;
+    report[at] = 0x3D;
+    words::put_word(report, at + 1, count_of(n));
+    put_entries(t, row, leg, j, k, report, at + 3);
+    at + list_size(n)
 }

@@ -2,11 +2,11 @@
 -- Assumes nothing.
 use mathlib.Core.Path.{_≡_, refl, ap, sym, _∙_}
 use mathlib.Core.List.{List, [], _∷_, _++_, append-assoc, append-nil}
-use Prim.Native.Nat.{ℕ, _+_, _*_}
+use Prim.Native.Nat.{ℕ, _*_}
 use native.Mathlib.Omega.{arith}
 use lib.ListN.{length, length-append}
 use Rattle.split.specs.SplitList.{Entry}
-use Rattle.records.specs.ListRecord.{entryBytes, listBytes, recordBytes}
+use Rattle.records.specs.ListRecord.{entryBytes, listBytes, recordBytes, listSize}
 
 -- an entry has ten bytes
 pub entry-length : (e : Entry) → length (entryBytes e) ≡ 10
@@ -20,7 +20,7 @@ list-length [] = refl
 list-length (e ∷ es) = length-append (entryBytes e) (listBytes es) ∙ omega (arith, entry-length e, list-length es)
 
 -- THE RECORD'S LENGTH
-pub record-length : (es : List Entry) → length (recordBytes es) ≡ 3 + 10 * length es
+pub record-length : (es : List Entry) → length (recordBytes es) ≡ listSize (length es)
 unfolding recordBytes
 record-length es = omega (arith, list-length es)
 

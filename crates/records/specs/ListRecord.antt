@@ -1,7 +1,7 @@
 -- Record 3D: "3D, a 16-bit count, then per entry the site, numerator and denominator (32 bits each)". Document 01, "Buffers and batches".
 -- Assumes nothing.
 use mathlib.Core.List.{List, [], _∷_, _++_}
-use Prim.Native.Nat.{ℕ}
+use Prim.Native.Nat.{ℕ, _+_, _*_}
 use lib.ListN.{length}
 use Rattle.split.specs.SplitList.{Entry}
 use Rattle.records.specs.Bytes.{bytes2, bytes4}
@@ -18,3 +18,7 @@ listBytes (e ∷ es) = entryBytes e ++ listBytes es
 -- the whole record
 unfoldable pub recordBytes : List Entry → List ℕ
 recordBytes es = 0x3D ∷ bytes2 (length es) ++ listBytes es
+
+-- the bytes of a record of k entries: mark and count, and for each entry 2 + 4 + 4
+abbrev pub listSize : ℕ → ℕ
+listSize k = 3 + 10 * k

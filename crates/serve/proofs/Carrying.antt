@@ -1,28 +1,47 @@
 -- A verdict, carried out: the table as the book's answer demands.
 -- Assumes nothing.
-use mathlib.Core.Path.{_≡_, sym, ap, subst, subst⁻¹}
+use mathlib.Core.Path.{_≡_, ap, subst, subst⁻¹, _∙_}
 use mathlib.Core.Bool.{Bool}
 use mathlib.Core.List.{List}
-use Prim.Native.Nat.{ℕ, _<_}
+use Prim.Native.Nat.{ℕ, _+_, _≤_, _<_}
+use native.Mathlib.Omega.{arith}
 use lib.ListN.{length}
 use Rattle.limits.specs.Limits.{maxSites}
 use Rattle.grid.specs.declared.Site.{Site}
 use Rattle.grid.specs.declared.Leg.{Leg}
 use Rattle.grid.specs.Position.{OnGrid, LegOnGrid}
+use Rattle.records.specs.Bytes.{write}
 use Rattle.book.specs.declared.Cause.{Cause}
 use Rattle.book.specs.declared.Command.{Command}
 use Rattle.book.specs.declared.Command.the-variants.{Add, Remove, Move, Stand}
 use Rattle.book.specs.Book.{change}
 use Rattle.book.specs.Proper.{NumberOk}
-use Rattle.book.specs.Reply.{Reply, done, listed}
+use Rattle.book.specs.Reply.{Reply, done, recordOf, recordSize}
 use Rattle.book.specs.Answer.{answer}
-use Rattle.row.specs.Vertices.{entriesIn}
 use Rattle.sites.specs.Lines.{linesIn, StandsAt, StandsNowhere}
 use Rattle.table.specs.Table.{bookOf}
 use Rattle.demands.specs.Step.{Holds, Left, Step}
+use Rattle.judge.specs.declared.Answer.{Answer}
 use Rattle.judge.specs.declared.Verdict.{Verdict}
-use Rattle.judge.specs.Verdict.{Insertable, Findings, Decided}
-use Rattle.serve.specs.Serving.{Carried}
+use Rattle.judge.specs.Judged.{replyOf, RowOk}
+use Rattle.judge.specs.Verdict.{answerOf, Insertable, Findings, Decided}
+use Rattle.serve.specs.Serving.{Carried, Obeyed}
+
+-- ---- the record
+
+module _ (v : Verdict) (a : Answer) (t w : List ℕ) (ha : a ≡ answerOf v) where
+  pub put-row : RowOk (answerOf v) t w → RowOk a t w
+  put-row r = subst⁻¹ (λ (y : Answer). RowOk y t w) ha r
+
+  pub put-fits : (at n : ℕ) → at + recordSize (replyOf (answerOf v) t w) ≤ n → at + recordSize (replyOf a t w) ≤ n
+  put-fits at n h = omega (arith, h, ap (λ (y : Answer). recordSize (replyOf y t w)) ha)
+
+  pub obeyed : (t′ rep rep′ : List ℕ) (at : ℕ) → rep′ ≡ write rep at (recordOf (replyOf a t w)) → Carried v t t′ → Obeyed v t w t′ rep at rep′
+  obeyed t′ rep rep′ at p h = record { carried = h; report = p ∙ ap (λ (y : Answer). write rep at (recordOf (replyOf y t w))) ha }
+
+-- what a decided verdict says of its row
+pub decided-row : (v : Verdict) (c : Command) (t w : List ℕ) → Decided v c t w → RowOk (answerOf v) t w
+decided-row v c t w d = d .judged .row
 
 -- ---- each verdict
 

@@ -16,7 +16,7 @@ use Rattle.book.specs.declared.Reason.the-variants.{AllUsed, UnknownCommand, Cu
 use Rattle.book.specs.declared.BatchResult.{BatchResult}
 use Rattle.book.specs.Numbers.{reasonNumber}
 use Rattle.book.specs.Command.{parseAt}
-use Rattle.book.specs.Reply.{recordOf}
+use Rattle.book.specs.Reply.{recordOf, recordSize}
 use Rattle.book.specs.Answer.{answer}
 use Rattle.book.specs.Run.{Turn, Outcome, records, ends, run}
 use Rattle.book.proofs.Runs.{records-append, records-one, records-more, turnOf, Steps, steps-none, ends-all, ends-unknown, ends-cut, ends-full, steps-less, steps-one}
@@ -27,8 +27,9 @@ use Rattle.demands.specs.Batch.{returns, returnOf}
 use Rattle.demands.proofs.Chains.{chain-holds}
 use Rattle.judge.specs.declared.Answer.{Answer}
 use Rattle.judge.specs.declared.Verdict.{Verdict}
+use Rattle.judge.specs.Judged.{replyOf}
 use Rattle.judge.specs.Verdict.{answerOf, Decided}
-use Rattle.serve.specs.Serving.{sizeOf, Obeyed, EndsAs, Answered}
+use Rattle.serve.specs.Serving.{Sized, Obeyed, EndsAs, Answered}
 use Rattle.serve.proofs.Recording.{size-is}
 use Rattle.serve.proofs.Carrying.{carried-step}
 
@@ -47,8 +48,9 @@ report-more r x rep₀ h =
     ∙ sym (append-assoc r x (drop (length r + length x) rep₀))
 
 -- the record has room
-pub turn-fits : (v : Verdict) (a : Answer) (n written size : ℕ) → written ≤ n → a ≡ answerOf v → size ≡ sizeOf a → size ≤ n - written → written + sizeOf (answerOf v) ≤ n
-turn-fits v a n written size w ha e h = omega (arith, ap sizeOf ha)
+pub turn-fits : (v : Verdict) (a : Answer) (t w : List ℕ) (n written size : ℕ) → written ≤ n → a ≡ answerOf v → Sized a size → size ≤ n - written
+    → written + recordSize (replyOf (answerOf v) t w) ≤ n
+turn-fits v a t w n written size l ha s h = omega (arith, s t w, ap (λ (y : Answer). recordSize (replyOf y t w)) ha)
 
 -- what is written then is no more than the report
 pub turn-room : (n written size : ℕ) → written ≤ n → size ≤ n - written → written + size ≤ n
@@ -108,9 +110,9 @@ module _ (cs t₀ rep₀ : List ℕ) (used written : ℕ) (t rep : List ℕ) (s 
       pub fewer-left : length cs - after-it < length cs - used
       fewer-left = steps-less cs (length rep₀) (bookOf t₀) used (s .past) (bookOf t) (s .steps) p hp c after-it hc
 
-      module _ (v : Verdict) (a : Answer) (w : List ℕ) (d : Decided v c t w) (ha : a ≡ answerOf v) (size : ℕ) (hs : size ≡ sizeOf a) where
+      module _ (v : Verdict) (a : Answer) (w : List ℕ) (d : Decided v c t w) (ha : a ≡ answerOf v) (size : ℕ) (hs : Sized a size) where
         long : size ≡ length (recordOf (answer (bookOf t) c))
-        long = hs ∙ ap sizeOf ha ∙ size-is (answerOf v) c t w (d .judged)
+        long = size-is (answerOf v) c t w (d .judged) size (subst (λ (y : Answer). Sized y size) ha hs)
 
         pub ended-full : length rep - written < size → (r : BatchResult) → returnOf r ≡ returns (reasonNumber NoRoom) used written → Answered cs t₀ rep₀ r t rep
         ended-full h =

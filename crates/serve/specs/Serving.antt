@@ -2,7 +2,7 @@
 -- Assumes nothing.
 use mathlib.Core.Path.{_≡_}
 use mathlib.Core.List.{List, _++_}
-use Prim.Native.Nat.{ℕ, _+_, _*_, _≤_}
+use Prim.Native.Nat.{ℕ, _≤_}
 use lib.ListN.{length, drop}
 use Rattle.limits.specs.Limits.{maxSites}
 use Rattle.records.specs.Bytes.{write}
@@ -10,7 +10,7 @@ use Rattle.book.specs.declared.Command.the-variants.{Add, Remove, Move, Stand}
 use Rattle.book.specs.declared.BatchResult.{BatchResult}
 use Rattle.book.specs.Numbers.{reasonNumber}
 use Rattle.book.specs.Book.{change}
-use Rattle.book.specs.Reply.{recordOf}
+use Rattle.book.specs.Reply.{recordOf, recordSize}
 use Rattle.book.specs.Run.{Outcome, records, run}
 use Rattle.table.specs.Table.{bookOf}
 use Rattle.demands.specs.Step.{Holds, Chain}
@@ -20,11 +20,9 @@ use Rattle.judge.specs.declared.Verdict.{Verdict}
 use Rattle.judge.specs.Judged.{replyOf}
 use Rattle.judge.specs.Verdict.{answerOf}
 
--- the length of an answer's record
-abbrev pub sizeOf : Answer → ℕ
-sizeOf Answer.Done = 1
-sizeOf (Answer.Refused x) = 2
-sizeOf (Answer.Listed l k) = 3 + 10 * k
+-- n is the size of an answer's record, whatever stands in the table and the row
+abbrev pub Sized : Answer → ℕ → Type 0
+Sized a n = (t w : List ℕ) → n ≡ recordSize (replyOf a t w)
 
 -- a list of no more entries than sites can be held
 abbrev pub Few : Answer → Type 0

@@ -13,14 +13,15 @@ ghost use Rattle.row.specs.Vertices.{rowBytes};
 ghost use Rattle.table.specs.Table.{Sound};
 ghost use Rattle.book.specs.Numbers.{reasonNumber};
 ghost use Rattle.demands.specs.Batch.{returns, returnOf};
-ghost use Rattle.judge.specs.Judged.{RowOk};
+ghost use Rattle.book.specs.Reply.{recordSize};
+ghost use Rattle.judge.specs.Judged.{replyOf, RowOk};
 ghost use Rattle.judge.specs.Verdict.{answerOf, Findings};
-ghost use Rattle.serve.specs.Serving.{sizeOf, Obeyed, Answered};
+ghost use Rattle.serve.specs.Serving.{Obeyed, Answered};
 
 // Writes the record of a verdict, and does what it says.
 fn obey(t: &mut [u8], work: &mut [u8], v: Verdict, report: &mut [u8], at: usize)
     requires { ⌜ Sound (now t) × (2 * rowBytes ≤ length (now work)) ⌝ }
-    requires { ⌜ Findings v (now t) × RowOk (answerOf v) (now t) (now work) × (at + sizeOf (answerOf v) ≤ length (now report)) ⌝ }
+    requires { ⌜ Findings v (now t) × RowOk (answerOf v) (now t) (now work) × (at + recordSize (replyOf (answerOf v) (now t) (now work)) ≤ length (now report)) ⌝ }
     ensures { λ _. ⌜ Obeyed v (now (t .entry)) (now (work .entry)) (now (t .exit)) (now (report .entry)) at (now (report .exit)) ⌝ }
 {
     let a = judge::reply(v);

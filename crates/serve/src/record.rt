@@ -1,50 +1,35 @@
 // An answer's record.
-use book::Cause;
 use judge::Answer;
 ghost use mathlib.Core.Path.{_≡_};
 ghost use Prim.Native.Nat.{_+_, _≤_};
 ghost use lib.ListN.{length};
 ghost use Rattle.records.specs.Bytes.{write};
-ghost use Rattle.book.specs.Reply.{refused, recordOf};
+ghost use Rattle.book.specs.Reply.{recordOf, recordSize};
 ghost use Rattle.judge.specs.Judged.{replyOf, RowOk};
-ghost use Rattle.serve.specs.Serving.{sizeOf, Few};
+ghost use Rattle.serve.specs.Serving.{Sized, Few};
 
 // How many bytes it takes.
 pub fn size(a: Answer) -> usize
     requires { ⌜ Few a ⌝ }
-    ensures { λ r. ⌜ r ≡ sizeOf a ⌝ }
+    ensures { λ r. ⌜ Sized a r ⌝ }
 {
     match a {
-        Answer::Done => 1,
-        Answer::Refused(_) => 2,
-        Answer::Listed(_, k) => record3d::record_length(k),
+        Answer::Done => record3d::DONE_SIZE,
+        Answer::Refused(_) => record3d::REFUSAL_SIZE,
+        Answer::Listed(_, k) => record3d::list_size(k),
     }
-}
-
-// Writes the record of a refusal.
-fn put_refusal(cause: Cause, report: &mut [u8], at: usize)
-    requires { ⌜ at + 2 ≤ length (now report) ⌝ }
-    ensures { λ _. ⌜ now (report .exit) ≡ write (now (report .entry)) at (recordOf (refused cause)) ⌝ }
-{
-    let number = book::cause_number(cause);
-    report[at] = 0x21;
-    report[at + 1] = number;
 }
 
 // Writes it to the report from byte `at` on.
 pub fn put(t: &[u8], work: &[u8], a: Answer, report: &mut [u8], at: usize)
-    requires { ⌜ RowOk a (now t) (now work) × (at + sizeOf a ≤ length (now report)) ⌝ }
+    requires { ⌜ RowOk a (now t) (now work) × (at + recordSize (replyOf a (now t) (now work)) ≤ length (now report)) ⌝ }
     ensures { λ _. ⌜ now (report .exit) ≡ write (now (report .entry)) at (recordOf (replyOf a (now (t .entry)) (now (work .entry)))) ⌝ }
 {
     match a {
-        Answer::Done => {
-            report[at] = 0x2B;
-        }
-        Answer::Refused(cause) => {
-            put_refusal(cause, report, at);
-        }
+        Answer::Done => record3d::put_done(report, at),
+        Answer::Refused(cause) => record3d::put_refusal(cause, report, at),
         Answer::Listed(leg, k) => {
-            record3d::put_list(t, work, leg, k, report, at);
+            record3d::put_list(t, work, leg, 0, k, report, at);
         }
     }
 }

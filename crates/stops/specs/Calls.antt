@@ -5,9 +5,10 @@
 use mathlib.Core.Path.{_≡_}
 use mathlib.Core.Bool.{Bool, true, false}
 use mathlib.Core.List.{List, [], _∷_, _++_}
-use Prim.Native.Nat.{ℕ, _+_, _*_, _≤_, _<_}
+use Prim.Native.Nat.{ℕ, _≤_, _<_}
 use lib.ListN.{length, take, drop}
 use Rattle.limits.specs.Limits.{maxSites, workBytes}
+use Rattle.records.specs.ListRecord.{listSize}
 use Rattle.book.specs.declared.Reason.{Reason}
 use Rattle.book.specs.declared.Reason.the-variants.{AllUsed, WrongLength, Broken, UnknownCommand, CutShort, NoRoom}
 use Rattle.book.specs.declared.BatchResult.{BatchResult}
@@ -28,7 +29,7 @@ longestCommand = longestIn commandTable
 
 -- the bytes of a list of all sites
 abbrev pub longestRecord : ℕ
-longestRecord = 3 + 10 * maxSites
+longestRecord = listSize maxSites
 
 -- "A cut command is joined with what follows": the bytes left by the call before, and at least one that was read
 pub record Joined (size : ℕ) (rest held : List ℕ) : Type 0 where

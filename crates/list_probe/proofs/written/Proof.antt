@@ -7,8 +7,8 @@ use Rattle.list_probe.proofs.written.Tie as tie
 build-requires : tie.Need-build-requires
 build-requires c κs = (search ready-sites, search needs, search needs)
 
-record-length-requires : tie.Need-record-length-requires
-record-length-requires c κs = search needs
+list-size-requires : tie.Need-list-size-requires
+list-size-requires c κs = search needs
 
 same-length : tie.Need-same-length
 same-length c = search needs
@@ -33,7 +33,7 @@ written-spec =
     tie.close
     (tie.spec
     build-requires
-    record-length-requires
+    list-size-requires
     same-length
     returns
     put-list-requires

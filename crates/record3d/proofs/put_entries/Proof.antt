@@ -6,16 +6,19 @@ use Rattle.record3d.proofs.put_entries.Statement.{statement}
 use Rattle.record3d.proofs.put_entries.Tie as tie
 
 abbrev Inv-loop : tie.InvT-loop
-Inv-loop t row leg k report₀ at i₀ report i = Putting leg t row k report₀ at i report
+Inv-loop t row leg j k report₀ at i₀ report i = Putting leg t row j k report₀ at i report
 
 abbrev μ-loop : tie.MeasureT-loop
-μ-loop t row leg k report₀ at i₀ report i = k - i
+μ-loop t row leg j k report₀ at i₀ report i = k - i
 
 loop-holds : tie.Need-loop-holds Inv-loop μ-loop
-loop-holds c = search putting-none
+loop-holds c = search (needs, putting-none)
 
 add-loop : tie.Need-add-loop Inv-loop μ-loop
 add-loop c = search needs
+
+sub-put-two : tie.Need-sub-put-two Inv-loop μ-loop
+sub-put-two c = omega arith
 
 mul-put-two : tie.Need-mul-put-two Inv-loop μ-loop
 mul-put-two c = omega arith
@@ -34,6 +37,9 @@ loop-less c = omega arith
 
 loop-again : tie.Need-loop-again Inv-loop μ-loop
 loop-again c = search (needs, putting-two)
+
+sub-put-entry : tie.Need-sub-put-entry Inv-loop μ-loop
+sub-put-entry c = omega arith
 
 mul-put-entry : tie.Need-mul-put-entry Inv-loop μ-loop
 mul-put-entry c = omega arith
@@ -64,12 +70,14 @@ put-entries-spec =
     μ-loop
     loop-holds
     add-loop
+    sub-put-two
     mul-put-two
     add-put-two
     put-two-requires
     add-i
     loop-less
     loop-again
+    sub-put-entry
     mul-put-entry
     add-put-entry
     put-entry-requires

@@ -1,9 +1,14 @@
 use borrow.Author.Needs.{needs}
 use native.Mathlib.Omega.{arith}
 use lib.ListN.{length-set}
-use Rattle.record3d.proofs.Entries.{record-is}
+use mathlib.Core.Path.{sym, _∙_}
+use Rattle.record3d.specs.RowEntries.{entriesFrom}
+use Rattle.record3d.proofs.Entries.{from-length, record-is}
 use Rattle.record3d.proofs.put_list.Statement.{statement}
 use Rattle.record3d.proofs.put_list.Tie as tie
+
+sub-n : tie.Need-sub-n
+sub-n c = search needs
 
 slice-write-report : tie.Need-slice-write-report
 slice-write-report c = search needs
@@ -23,10 +28,10 @@ add-put-entries c = search needs
 put-entries-requires : tie.Need-put-entries-requires
 put-entries-requires c κs =
     let s = c .before .before .before .before .before .before .before .before .before in
-    (s .pre .0, s .pre .1, omega (arith, s .pre .2, c .before .before .before .put-word .kept, length-set (s .args .report .now) (s .args .at) 61))
+    (s .pre .0, s .pre .1, s .pre .2, omega (arith, s .pre .3, c .before .before .before .put-word .kept, length-set (s .args .report .now) (s .args .at) 61))
 
-record-length-requires : tie.Need-record-length-requires
-record-length-requires c κs = search needs
+list-size-requires : tie.Need-list-size-requires
+list-size-requires c κs = search needs
 
 add-result : tie.Need-add-result
 add-result c = search needs
@@ -40,19 +45,26 @@ returns : tie.Need-returns
 returns c =
     let s = c .before .before .before .before .before .before .before .before .before .before .before .before .before in
     let n = c .before .before .before .before .before .before .before .before .count-of in
-    (record-is (s .args .leg) (s .args .t .now) (s .args .row .now) (s .args .k) (s .args .report .now) (c .before .before .before .before .before .before .before .put-word .last .0) (c .before .before .before .put-entries .last .1 .1 .1 .1 .0) (s .args .at) (n .result) (n .ensures) (omega (arith, s .pre .0 .few, n .ensures)) (c .before .before .before .before .before .before .before .put-word .ensures) (c .before .before .before .put-entries .ensures), search needs)
+    let w = c .before .before .before .before .before .before .before .put-word in
+    let p = c .before .before .before .put-entries in
+    let es = from-length (s .args .leg) (s .args .t .now) (s .args .row .now) (s .args .j) (s .args .k) in (
+      record-is (entriesFrom (s .args .leg) (s .args .t .now) (s .args .row .now) (s .args .j) (s .args .k)) (s .args .report .now) (w .last .0)
+          (p .last .1 .1 .1 .1 .1 .0) (s .args .at) (n .result) (n .ensures ∙ sym es) (omega (arith, s .pre .0 .few, n .ensures)) (w .ensures) (p .ensures),
+      search needs,
+    )
 
 pub put-list-spec : {M : Type 1} → statement M
 put-list-spec =
     tie.close
     (tie.spec
+    sub-n
     slice-write-report
     add-put-word
     count-of-requires
     put-word-requires
     add-put-entries
     put-entries-requires
-    record-length-requires
+    list-size-requires
     add-result
     same-length
     returns)

@@ -1,4 +1,4 @@
-use Rattle.serve.proofs.Recording.{done-fits, put-done, refusal-fits, put-refused, list-fits, list-held, list-leg, put-listed}
+use Rattle.serve.proofs.Recording.{one-fits, put-done, refusal-fits, put-refused, list-fits, list-held, list-leg, put-listed}
 use borrow.Author.Needs.{needs}
 use Rattle.serve.proofs.record.put.Statement.{statement}
 use Rattle.serve.proofs.record.put.Tie as tie
@@ -6,8 +6,8 @@ use Rattle.serve.proofs.record.put.Tie as tie
 enum-told : tie.Need-enum-told
 enum-told c = search needs
 
-slice-write-report : tie.Need-slice-write-report
-slice-write-report c = search (needs, done-fits)
+put-done-requires : tie.Need-put-done-requires
+put-done-requires c κs = search (needs, one-fits)
 
 enum-known-a : tie.Need-enum-known-a
 enum-known-a c = search needs
@@ -19,7 +19,7 @@ enum-known-a-2 : tie.Need-enum-known-a-2
 enum-known-a-2 c = search needs
 
 put-list-requires : tie.Need-put-list-requires
-put-list-requires c κs = (search (needs, list-held), search (needs, list-leg), search (needs, list-fits))
+put-list-requires c κs = (search (needs, list-held), search (needs, list-leg), search needs, search (needs, list-fits))
 
 same-length : tie.Need-same-length
 same-length c = search needs
@@ -44,7 +44,7 @@ put-spec =
     tie.close
     (tie.spec
     enum-told
-    slice-write-report
+    put-done-requires
     enum-known-a
     put-refusal-requires
     enum-known-a-2

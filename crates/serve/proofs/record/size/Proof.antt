@@ -1,4 +1,4 @@
-use Rattle.serve.proofs.Recording.{size-few, size-listed}
+use Rattle.serve.proofs.Recording.{done-sized, refusal-sized, size-few, list-sized}
 use borrow.Author.Needs.{needs}
 use Rattle.serve.proofs.record.size.Statement.{statement}
 use Rattle.serve.proofs.record.size.Tie as tie
@@ -12,17 +12,17 @@ enum-told-2 c = search needs
 enum-known-a : tie.Need-enum-known-a
 enum-known-a c = search needs
 
-record-length-requires : tie.Need-record-length-requires
-record-length-requires c κs = search (needs, size-few)
+list-size-requires : tie.Need-list-size-requires
+list-size-requires c κs = search (needs, size-few)
 
 returns : tie.Need-returns
-returns c = search needs
+returns c = search (needs, done-sized)
 
 returns-2 : tie.Need-returns-2
-returns-2 c = search needs
+returns-2 c = search (needs, refusal-sized)
 
 returns-3 : tie.Need-returns-3
-returns-3 c = search (needs, size-listed)
+returns-3 c = search (needs, list-sized)
 
 pub size-spec : {M : Type 1} → statement M
 size-spec =
@@ -31,7 +31,7 @@ size-spec =
     enum-told
     enum-told-2
     enum-known-a
-    record-length-requires
+    list-size-requires
     returns
     returns-2
     returns-3)

@@ -1,9 +1,9 @@
 use native.Mathlib.Omega.{arith}
 use lib.ListN.{length-set}
-use Rattle.serve.proofs.Recording.{refusal-is}
+use Rattle.record3d.proofs.Writing.{refusal-is}
 use borrow.Author.Needs.{needs}
-use Rattle.serve.proofs.record.put_refusal.Statement.{statement}
-use Rattle.serve.proofs.record.put_refusal.Tie as tie
+use Rattle.record3d.proofs.put_refusal.Statement.{statement}
+use Rattle.record3d.proofs.put_refusal.Tie as tie
 
 cause-number-requires : tie.Need-cause-number-requires
 cause-number-requires c κs = search needs
