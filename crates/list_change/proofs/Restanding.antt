@@ -16,26 +16,26 @@ use Rattle.split.specs.SplitList.{Entry}
 use Rattle.row.specs.Vertices.{entriesIn}
 use Rattle.book.specs.Book.{listOf}
 use Rattle.book.specs.Proper.{LegOk}
-use Rattle.sites.specs.Lines.{countIn, linesIn}
+use Rattle.sites.specs.Lines.{linesIn}
 use Rattle.standing.specs.declared.Standing.{Standing}
 use Rattle.standing.specs.Layout.{lengthStart, listStart}
 use Rattle.standing.specs.Standing.{legIn, wordsFrom, standingIn, numbersOf, asOption, ListStored}
 use Rattle.node.specs.Layout.{treeStart}
 use Rattle.node.specs.Tally.{total}
 use Rattle.rtree.proofs.Outside.{rooted-below, leaves-below}
+use Rattle.tree_check.specs.Leaves.{leafEntries}
 use Rattle.tree_check.specs.Tied.{Tied}
-use Rattle.table.specs.Table.{bookOf, leafEntries, Whole}
+use Rattle.table.specs.Table.{bookOf, Whole}
 use Rattle.table.specs.Listing.{ListsTable}
 use Rattle.table.proofs.Same.{lines-same, sites-same, leg-same, header-same}
-use Rattle.table.proofs.Leaves.{tied-lines, lines-tied}
 use Rattle.demands.specs.Step.{Holds}
 
 -- a change below the tree keeps the tree's rules and leaf entries, if the lines stay
-pub tied-below : {lo : ℕ} (b b′ : List ℕ) → Only lo treeStart b b′ → linesIn b′ ≡ linesIn b → Tied (countIn b) b → Tied (countIn b′) b′
+pub tied-below : {lo : ℕ} (b b′ : List ℕ) → Only lo treeStart b b′ → linesIn b′ ≡ linesIn b → Tied b → Tied b′
 tied-below b b′ o e t =
     record {
       rooted = rooted-below o (t .rooted);
-      leaf = λ w. lines-tied b′ w (ap (total w) (leaves-below o) ∙ tied-lines b t w ∙ sym (ap (λ (s : List Site). total w (leafEntries s)) e));
+      leaf = λ w. ap (total w) (leaves-below o) ∙ t .leaf w ∙ sym (ap (λ (s : List Site). total w (leafEntries s)) e);
     }
 
 module _ (b b′ : List ℕ) (w : Whole b) (es : List Entry) (st : ListStored es b b′) where

@@ -1,4 +1,5 @@
 pub mod Every
+pub mod Members
 pub mod Totals
 pub mod Kept
 pub mod Inside

@@ -3,7 +3,7 @@
 use grid::Position;
 use grid::Site;
 ghost use mathlib.Core.Path.{_≡_};
-ghost use Prim.Native.Nat.{_-_, _<_};
+ghost use Prim.Native.Nat.{_-_, _<_, _≤_};
 ghost use lib.ListN.{length};
 ghost use Rattle.limits.specs.Limits.{maxSites, tableBytes};
 ghost use Rattle.words.specs.Words.{wordAt};
@@ -42,7 +42,7 @@ pub fn count(t: &[u8]) -> usize
 }
 
 // The number in record k.
-fn number(t: &[u8], k: usize) -> u16
+pub fn number(t: &[u8], k: usize) -> u16
     requires { ⌜ (length (now t) ≡ tableBytes) × (k < maxSites) ⌝ }
     ensures { λ r. ⌜ r ≡ wordAt (now (t .entry)) (recordStart k) ⌝ }
 {
@@ -136,4 +136,38 @@ pub fn find(t: &[u8], n: u16) -> Found
     let gap = (first - n) as usize;
     let from = lowest(at, gap);
     bisect(t, n, from, at)
+}
+
+// The record after k, or k where it is the last of c.
+fn next(k: usize, c: usize) -> usize
+    requires { ⌜ k < c ⌝ }
+    ensures { λ r. ⌜ (k ≤ r) × (r < c) ⌝ }
+{
+    let j = k + 1;
+    if j < c { j } else { k }
+}
+
+// Record j where `there` says so, else record k. A choice of values: it falls either way as often, so that a branch would be foreseen half the time.
+fn either(there: bool, j: usize, k: usize) -> usize
+    requires { ⌜ k ≤ j ⌝ }
+    ensures { λ r. ⌜ r ≤ j ⌝ }
+{
+    if there { j } else { k }
+}
+
+// Where number n stands, looked for at record k and at the one behind it first. Any k would do.
+pub fn find_near(t: &[u8], n: u16, k: usize) -> Found
+    requires { ⌜ Array (now t) ⌝ }
+    ensures { λ r. ⌜ FoundAs r n (linesIn (now (t .entry))) ⌝ }
+{
+    let c = count(t);
+    if k < c {
+        let j = next(k, c);
+        let at = either(number(t, j) == n, j, k);
+        let m = number(t, at);
+        if m == n {
+            return Found::At(at);
+        }
+    }
+    bisect(t, n, 0, c)
 }

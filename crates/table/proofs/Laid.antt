@@ -3,7 +3,6 @@
 use mathlib.Core.Path.{_≡_, refl, sym, ap, subst, _∙_}
 use mathlib.Core.List.{List, [], List·Memᴰ, List·Memᴰ·not-nil}
 use mathlib.Core.Option.{Option, none}
-use Prim.Native.Nat.{ℕ}
 use native.Mathlib.Omega.{arith}
 use borrow.Author.Tests.{eq-eqb}
 use Rattle.words.specs.Words.{wordAt}
@@ -18,8 +17,7 @@ use Rattle.standing.specs.Standing.{legIn, wordsFrom, standingIn, numbersOf, Ze
 use Rattle.node.specs.Tally.{total}
 use Rattle.empty_table.specs.EmptyTable.{emptyTable}
 use Rattle.empty_table.proofs.EmptyTree.{empty-length, empty-low, empty-word, empty-rooted, empty-leaves}
-use Rattle.tree_check.specs.Sites.{leafList}
-use Rattle.node.specs.Node.{firsts}
+use Rattle.tree_check.specs.Leaves.{leafEntries}
 use Rattle.table.specs.Table.{bookOf, Sound}
 
 no-count : countIn emptyTable ≡ 0
@@ -63,7 +61,7 @@ no-list = ap (wordsFrom emptyTable listStart) (empty-word lengthStart (omega ari
 
 -- THE TABLE JUST LAID OUT IS SOUND
 pub laid-sound : Sound emptyTable
-unfolding leafList firsts numbersOf total
+unfolding leafEntries numbersOf total
 laid-sound =
     record {
       whole = record {
@@ -72,7 +70,7 @@ laid-sound =
         header = laid-header;
         tree = record {
           rooted = empty-rooted;
-          leaf = λ w. ap (total w) empty-leaves ∙ sym (ap (λ (n : ℕ). total w (leafList emptyTable n)) no-count);
+          leaf = λ w. ap (total w) empty-leaves ∙ sym (ap (λ (s : List Site). total w (leafEntries s)) no-lines);
         };
       };
       standing = record {

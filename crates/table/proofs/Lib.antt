@@ -1,5 +1,3 @@
-pub mod Totals
 pub mod Same
-pub mod Leaves
 pub mod Books
 pub mod Laid

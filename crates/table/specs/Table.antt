@@ -3,39 +3,20 @@
 -- or the standing list's rule".
 -- Assumes nothing.
 use mathlib.Core.Path.{_≡_}
-use mathlib.Core.List.{List, [], _∷_}
+use mathlib.Core.List.{List}
 use Prim.Native.Nat.{ℕ}
 use lib.ListN.{length}
 use Rattle.limits.specs.Limits.{tableBytes}
-use Rattle.grid.specs.declared.Site.{Site}
 use Rattle.book.specs.Book.{Book, standingList}
 use Rattle.book.specs.Proper.{LegOk}
-use Rattle.sites.specs.Lines.{countIn, linesIn}
+use Rattle.sites.specs.Lines.{linesIn}
 use Rattle.sites.specs.Rules.{SitesOk}
 use Rattle.standing.specs.Standing.{legIn, standingIn, numbersOf, HeaderOk}
-use Rattle.node.specs.declared.Entry.{Entry}
 use Rattle.tree_check.specs.Tied.{Tied}
 
 -- the book that a table holds: its site array and its standing leg
 abbrev pub bookOf : List ℕ → Book
 bookOf b = record { lines = linesIn b; leg = legIn b }
-
--- the leaf entry of a site: its number, its position as a box, and a spare number of 0
-abbrev pub leafEntry : Site → Entry
-leafEntry p =
-    record {
-      reference = p .number;
-      west = p .position .east;
-      south = p .position .north;
-      east = p .position .east;
-      north = p .position .north;
-      spare = 0;
-    }
-
--- the leaf entries of sites
-unfoldable pub leafEntries : List Site → List Entry
-leafEntries [] = []
-leafEntries (p ∷ s) = leafEntry p ∷ leafEntries s
 
 -- the first half: length, sites, header and tree
 pub record Whole (b : List ℕ) : Type 0 where
@@ -45,7 +26,7 @@ pub record Whole (b : List ℕ) : Type 0 where
   -- "the docs/ layout"
   pub header : HeaderOk b
   -- "a tree rule"; every held site is in one leaf entry, and there is no other
-  pub tree : Tied (countIn b) b
+  pub tree : Tied b
 
 -- the second half: the standing leg and the standing list
 pub record StandingOk (b : List ℕ) : Type 0 where

@@ -28,17 +28,17 @@ use Rattle.node.specs.declared.Entry.{Entry}
 use Rattle.node.specs.Layout.{treeStart}
 use Rattle.node.specs.Header.{rootIn}
 use Rattle.node.specs.Tally.{total}
-use Rattle.node.proofs.Counting.{total-append}
+use Rattle.node.proofs.Counting.{total-append, total-one}
 use Rattle.rtree.specs.Rooted.{Rooted, leavesIn}
 use Rattle.rtree.proofs.Outside.{rooted-below, leaves-below}
 use Rattle.tree_add.specs.Added.{Added}
 use Rattle.tree_remove.specs.Removal.{Removed}
-use Rattle.table.specs.Table.{leafEntry, leafEntries, Whole}
+use Rattle.tree_check.specs.Leaves.{leafEntry, leafEntries}
+use Rattle.tree_check.proofs.Leaves.{leaves-append, tied-count}
+use Rattle.table.specs.Table.{Whole}
 use Rattle.table.proofs.Same.{lines-same, sites-same, leg-same, list-same, header-same}
-use Rattle.table.proofs.Leaves.{tied-lines, lines-tied, leaves-append}
-use Rattle.table.proofs.Totals.{total-ones}
 use Rattle.table_change.specs.Changes.{Swapped, Relined}
-use Rattle.table_search.proofs.Points.{leaf-count, line-leaf}
+use Rattle.table_search.proofs.Points.{line-leaf}
 
 -- ---- totals of lines
 
@@ -98,7 +98,7 @@ relined l m b b₁ b₂ w c s e o r t =
         len = o .len ∙ c .len ∙ w .len;
         sites = sites-same b₁ b₂ (λ i x h. o .low i (omega arith)) (λ i x h. o .low i (omega arith)) s;
         header = header-same b b₂ (λ i x h. o .low i (omega arith) ∙ c .header i x (omega arith)) (λ i x h. o .low i (omega arith) ∙ c .header i (omega arith) h) (w .header);
-        tree = record { rooted = r; leaf = λ v. lines-tied b₂ v (t v ∙ sym (ap (λ (x : List Site). total v (leafEntries x)) same)) };
+        tree = record { rooted = r; leaf = λ v. t v ∙ sym (ap (λ (x : List Site). total v (leafEntries x)) same) };
       };
       lines = same;
       leg = leg-same b b₂ (λ i x h. o .low i (omega arith) ∙ c .header i x (omega arith));
@@ -121,14 +121,14 @@ absent-inside b k n f = absent-counted b f
 
 module _ (b b₁ : List ℕ) (k : ℕ) (p : Site) (w : Whole b) (f : StandsNowhere k (p .number) (linesIn b)) where
   pub grow-few : length (linesIn b) < maxSites → Changed (inserted k p (linesIn b)) b b₁ → length (leavesIn b₁) < maxSites
-  grow-few h c = omega (arith, ap length (changed-leaves (inserted k p (linesIn b)) b b₁ c), leaf-count b w)
+  grow-few h c = omega (arith, ap length (changed-leaves (inserted k p (linesIn b)) b b₁ c), tied-count b (w .tree))
 
   -- ADDED to both
   pub grown : (b₂ : List ℕ) (e : Entry) → NumberOk p → OnGrid (p .position) → Changed (inserted k p (linesIn b)) b b₁ → e ≡ leafEntry p → Added e b₁ b₂
       → Relined (writeLine p (linesIn b)) b b₂
   grown b₂ e np on c q a =
       relined (inserted k p (linesIn b)) (writeLine p (linesIn b)) b b₁ b₂ w c (insert-kept k p f c np on (w .sites)) (insert-lines k p f c) (a .only) (a .rooted)
-      (λ v. a .leaf v ∙ (omega (arith, ap v q, ap (total v) (changed-leaves (inserted k p (linesIn b)) b b₁ c), tied-lines b (w .tree) v, total-write v p (linesIn b))))
+      (λ v. a .leaf v ∙ (omega (arith, ap v q, ap (total v) (changed-leaves (inserted k p (linesIn b)) b b₁ c), w .tree .leaf v, total-write v p (linesIn b))))
 
 -- ---- one site less
 
@@ -159,7 +159,7 @@ module _ (b b₁ : List ℕ) (k n : ℕ) (w : Whole b) (f : StandsAt k n (linesI
         a .leaf v,
         ap v (q ∙ ap leafEntry (qs ∙ line-is)),
         ap (total v) (changed-leaves (deleted k (linesIn b)) b b₁ c),
-        tied-lines b (w .tree) v,
+        w .tree .leaf v,
         total-strike v n (linesIn b) k f (w .sites .rising),
       ))
 
@@ -169,7 +169,7 @@ module _ (b b₁ : List ℕ) (k n : ℕ) (w : Whole b) (f : StandsAt k n (linesI
   move-there p s e qs q c = leaf-there (placed k p (linesIn b)) s e qs q c
 
   pub move-few : (p : Position) → Changed (placed k p (linesIn b)) b b₁ → length (leavesIn b₁) ≤ maxSites
-  move-few p c = omega (arith, ap length (changed-leaves (placed k p (linesIn b)) b b₁ c), leaf-count b w, lines-length b, w .sites .few)
+  move-few p c = omega (arith, ap length (changed-leaves (placed k p (linesIn b)) b b₁ c), tied-count b (w .tree), lines-length b, w .sites .few)
 
   -- MOVED in both
   pub moved : (p : Position) (b₂ : List ℕ) (s : Site) (e d : Entry) → OnGrid p → s ≡ lineAt b k → e ≡ leafEntry s → d ≡ leafEntry (siteAs n p)
@@ -183,7 +183,7 @@ module _ (b b₁ : List ℕ) (k n : ℕ) (w : Whole b) (f : StandsAt k n (linesI
         ap v (q ∙ ap leafEntry (qs ∙ line-is)),
         ap v qd,
         ap (total v) (changed-leaves (placed k p (linesIn b)) b b₁ c),
-        tied-lines b (w .tree) v,
+        w .tree .leaf v,
         total-strike v n (linesIn b) k f (w .sites .rising),
         total-write v (siteAs n p) (strikeLine n (linesIn b)),
         ap (λ (x : List Site). total v (leafEntries x)) (move-is n p (linesIn b) (w .sites .rising) (at-held f)),
@@ -191,7 +191,7 @@ module _ (b b₁ : List ℕ) (k n : ℕ) (w : Whole b) (f : StandsAt k n (linesI
 
 -- one leaf entry for another
 pub swap-few : (old : Entry) (b b₁ : List ℕ) → length (leavesIn b) ≤ maxSites → Removed old b b₁ → length (leavesIn b₁) < maxSites
-swap-few old b b₁ h a = omega (arith, a .leaf (λ x. 1), total-ones (leavesIn b₁), total-ones (leavesIn b))
+swap-few old b b₁ h a = omega (arith, a .leaf (λ x. 1), total-one (leavesIn b₁), total-one (leavesIn b))
 
 pub swapped : (old new : Entry) (b b₁ b₂ : List ℕ) → Removed old b b₁ → Added new b₁ b₂ → Swapped old new b b₂
 swapped old new b b₁ b₂ a g =

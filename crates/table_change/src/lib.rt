@@ -3,6 +3,7 @@ use grid::Leg;
 use grid::Position;
 use grid::Site;
 use node::Entry;
+use tree_check::leaf_entry;
 ghost use mathlib.Core.Path.{_≡_};
 ghost use Prim.Native.Nat.{_*_, _<_, _≤_};
 ghost use lib.ListN.{length};
@@ -13,28 +14,12 @@ ghost use Rattle.book.specs.declared.Command.{Command};
 ghost use Rattle.book.specs.Book.{writeLine, strikeLine, moveLine, change};
 ghost use Rattle.book.specs.Proper.{NumberOk};
 ghost use Rattle.sites.specs.Lines.{linesIn, StandsAt, StandsNowhere};
-ghost use Rattle.table.specs.Table.{bookOf, leafEntry, Whole, Sound};
+ghost use Rattle.table.specs.Table.{bookOf, Whole, Sound};
 ghost use Rattle.demands.specs.Step.{Holds};
 ghost use mathlib.Core.List.{List·Memᴰ};
 ghost use Rattle.node.specs.Header.{rootIn};
 ghost use Rattle.rtree.specs.Rooted.{Rooted, leavesIn};
 ghost use Rattle.table_change.specs.Changes.{Swapped, Relined};
-
-// The leaf entry of a site.
-fn leaf(p: Site) -> Entry
-    ensures { λ r. ⌜ r ≡ leafEntry p ⌝ }
-{
-    let east = p.position.east;
-    let north = p.position.north;
-    Entry {
-        reference: p.number,
-        west: east,
-        south: north,
-        east: east,
-        north: north,
-        spare: 0,
-    }
-}
 
 // Adds a site whose record goes before record k.
 fn grow(t: &mut [u8], k: usize, site: Site)
@@ -43,7 +28,7 @@ fn grow(t: &mut [u8], k: usize, site: Site)
     ensures { λ _. ⌜ Relined (writeLine site (linesIn (now (t .entry)))) (now (t .entry)) (now (t .exit)) ⌝ }
 {
     sites::change::insert(t, k, site);
-    let e = leaf(site);
+    let e = leaf_entry(site);
     tree_add::add(t, e);
 }
 
@@ -52,7 +37,7 @@ fn shrink(t: &mut [u8], k: usize, n: u16)
     requires { ⌜ Whole (now t) × StandsAt k n (linesIn (now t)) ⌝ }
     ensures { λ _. ⌜ Relined (strikeLine n (linesIn (now (t .entry)))) (now (t .entry)) (now (t .exit)) ⌝ }
 {
-    let e = leaf(sites::line(t, k));
+    let e = leaf_entry(sites::line(t, k));
     sites::change::delete(t, k);
     tree_remove::remove(t, e);
 }
@@ -71,8 +56,8 @@ fn relocate(t: &mut [u8], k: usize, n: u16, p: Position)
     requires { ⌜ Whole (now t) × StandsAt k n (linesIn (now t)) × OnGrid p ⌝ }
     ensures { λ _. ⌜ Relined (moveLine n p (linesIn (now (t .entry)))) (now (t .entry)) (now (t .exit)) ⌝ }
 {
-    let old = leaf(sites::line(t, k));
-    let new = leaf(Site {
+    let old = leaf_entry(sites::line(t, k));
+    let new = leaf_entry(Site {
         number: n,
         position: p,
     });

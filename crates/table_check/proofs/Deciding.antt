@@ -4,12 +4,12 @@ use mathlib.Core.Path.{_≡_, refl, sym, ap, subst, _∙_}
 use mathlib.Core.Bool.{Bool, true, false}
 use mathlib.Core.List.{List, []}
 use mathlib.Core.Option.{Option, none, some}
-use Prim.Native.Nat.{ℕ, _+_, _≤_, _<_}
+use Prim.Native.Nat.{ℕ}
 use native.Mathlib.Omega.{arith}
 use lib.ListN.{length}
 use lib.Dec.{eqb}
 use borrow.Author.Tests.{eqb-true, eqb-false}
-use Rattle.limits.specs.Limits.{maxSites, tableBytes}
+use Rattle.limits.specs.Limits.{tableBytes}
 use Rattle.words.specs.Words.{wordAt}
 use Rattle.grid.specs.declared.Leg.{Leg}
 use Rattle.grid.specs.Position.{LegOnGrid}
@@ -18,15 +18,12 @@ use Rattle.grid.proofs.Says.{says-yes, says-no, says-map}
 use Rattle.row.specs.Vertices.{entriesIn}
 use Rattle.book.specs.Book.{listOf, standingList}
 use Rattle.book.specs.Proper.{LegOk}
-use Rattle.sites.specs.Lines.{countIn, linesIn}
+use Rattle.sites.specs.Lines.{linesIn, Array}
 use Rattle.sites.specs.Rules.{SitesOk}
-use Rattle.sites.proofs.Reading.{lines-length, number-at}
-use Rattle.sites.proofs.Order.{rising-at}
+use Rattle.sites.proofs.Kept.{sites-array}
 use Rattle.standing.specs.declared.Standing.{Standing}
 use Rattle.standing.specs.Layout.{lengthStart, listStart}
 use Rattle.standing.specs.Standing.{legIn, wordsFrom, standingIn, numbersOf, HeaderOk, asOption}
-use Rattle.node.specs.Told.{Told}
-use Rattle.tree_check.specs.Sites.{numberAt, Rising}
 use Rattle.tree_check.specs.Tied.{Tied}
 use Rattle.table.specs.Table.{bookOf, Whole, StandingOk, Sound}
 use Rattle.table.specs.Listing.{ListsTable}
@@ -78,16 +75,6 @@ module _ (b : List ℕ) (s : Standing) (w : Whole b) (q : asOption s ≡ legIn b
 
 -- ---- sites, header and tree
 
-pub sites-rise : (b : List ℕ) (q : Bool) (n : ℕ) → Says q (SitesOk b) → q ≡ true → n ≡ countIn b → Rising n b
-unfolding Rising numberAt
-sites-rise b q n s e c k h =
-    let ok = says-yes q s e in
-    let i : k + 1 < length (linesIn b) = omega (arith, lines-length b) in
-    omega (arith, rising-at (linesIn b) (ok .rising) k (k + 1) (omega arith) i, number-at b k (omega arith), number-at b (k + 1) (omega arith))
-
-pub sites-few : (b : List ℕ) (q : Bool) (n : ℕ) → Says q (SitesOk b) → q ≡ true → n ≡ countIn b → n ≤ maxSites
-sites-few b q n s e c = omega (arith, says-yes q s e .few)
-
 module _ (b : List ℕ) (len : length b ≡ tableBytes) where
   pub sites-not : (q : Bool) → Says q (SitesOk b) → q ≡ false → ¬ Whole b
   sites-not q s e w = says-no q s e (w .sites)
@@ -95,10 +82,12 @@ module _ (b : List ℕ) (len : length b ≡ tableBytes) where
   pub header-not : (q : Bool) → Says q (HeaderOk b) → q ≡ false → ¬ Whole b
   header-not q s e w = says-no q s e (w .header)
 
-  pub whole-says : (q p r : Bool) (n : ℕ) → Says q (SitesOk b) → q ≡ true → Says p (HeaderOk b) → p ≡ true → n ≡ countIn b → Told r (Tied n b) (Unit {0}) → Says r (Whole b)
-  whole-says q p true n s e h f c t =
-      record { len = len; sites = says-yes q s e; header = says-yes p h f; tree = subst (λ (m : ℕ). Tied m b) c (t .yes refl .0) }
-  whole-says q p false n s e h f c t = λ w. t .no refl (subst (λ (m : ℕ). Tied m b) (sym c) (w .tree))
+  pub sites-yes : (q : Bool) → Says q (SitesOk b) → q ≡ true → Array b
+  sites-yes q s e = sites-array len (says-yes q s e)
+
+  pub whole-says : (q p r : Bool) → Says q (SitesOk b) → q ≡ true → Says p (HeaderOk b) → p ≡ true → Says r (Tied b) → Says r (Whole b)
+  whole-says q p r s e h f t =
+      says-map r (λ x. record { len = len; sites = says-yes q s e; header = says-yes p h f; tree = x }) (λ w. w .tree) t
 
 -- ---- both halves
 

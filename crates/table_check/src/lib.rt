@@ -61,8 +61,7 @@ fn whole_ok(t: &[u8], work: &mut [u8]) -> bool
 {
     if sites::rules::check(t) {
         if standing::header_ok(t) {
-            let n = sites::count(t);
-            return tree_check::check(t, n, &mut work[..tree_check::SEEN_BYTES]);
+            return tree_check::check(t, &mut work[..tree_check::SEEN_BYTES]);
         }
     }
     false

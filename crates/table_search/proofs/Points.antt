@@ -1,37 +1,29 @@
 -- What a search may count on in a whole table: the tree's leaf entries are points on the grid, as many as lines, and their sites are the lines.
 -- Assumes nothing.
-use mathlib.Core.Path.{_≡_, refl, sym, ap, subst, _∙_}
+use mathlib.Core.Path.{_≡_, refl, sym, ap, subst}
 use mathlib.Core.List.{List, [], _∷_, List·Memᴰ, List·Memᴰ·head, List·Memᴰ·tail}
-use Prim.Native.Nat.{ℕ, _+_, _-_, _≤_}
+use Prim.Native.Nat.{ℕ, _≤_}
 use native.Mathlib.Omega.{arith}
 use lib.ListN.{length}
-use Rattle.limits.specs.Limits.{gridWidth, maxSites}
+use Rattle.limits.specs.Limits.{maxSites}
 use Rattle.grid.specs.declared.Site.{Site}
 use Rattle.split.specs.SplitList.{SameSites, SitesOnGrid}
 use Rattle.sites.specs.Lines.{linesIn}
 use Rattle.sites.proofs.Reading.{lines-length}
 use Rattle.node.specs.declared.Entry.{Entry}
-use Rattle.node.specs.Tally.{total}
 use Rattle.rtree.specs.Tree.{Each}
 use Rattle.rtree.specs.Rooted.{leavesIn}
-use Rattle.rtree.proofs.Every.{each-map}
+use Rattle.rtree.proofs.Members.{same-member, same-each}
 use Rattle.tree_search.specs.Sites.{siteOf, LeafPoint, sites}
-use Rattle.table.specs.Table.{leafEntry, leafEntries, Whole}
-use Rattle.table.proofs.Totals.{same-member, same-zero, same-length}
-use Rattle.table.proofs.Leaves.{tied-lines, leaves-length}
+use Rattle.tree_check.specs.Leaves.{leafEntry, leafEntries}
+use Rattle.tree_check.proofs.Leaves.{tied-count}
+use Rattle.table.specs.Table.{Whole}
 
--- 0 exactly where the entry is a point on the grid
-unfoldable off : Entry → ℕ
-off e = ((e .east - e .west) + (e .west - e .east)) + ((e .north - e .south) + (e .south - e .north)) + ((e .west - gridWidth) + (e .south - gridWidth))
-
-off-point : (e : Entry) → off e ≡ 0 → LeafPoint e
-unfolding off
-off-point e h = record { east = omega arith; north = omega arith; on-grid = record { east = omega arith; north = omega arith } }
-
-line-off : (s : List Site) → SitesOnGrid s → Each (λ e. off e ≡ 0) (leafEntries s)
-unfolding Each leafEntries off
-line-off [] g = tt
-line-off (p ∷ s) g = let h = g p (List·Memᴰ·head refl) in (omega (arith, h .east, h .north), line-off s (λ q m. g q (List·Memᴰ·tail m)))
+line-points : (s : List Site) → SitesOnGrid s → Each LeafPoint (leafEntries s)
+unfolding Each leafEntries
+line-points [] g = tt
+line-points (p ∷ s) g =
+    (record { east = refl; north = refl; on-grid = g p (List·Memᴰ·head refl) }, line-points s (λ q m. g q (List·Memᴰ·tail m)))
 
 entry-of : (s : List Site) (p : Site) → List·Memᴰ p s → List·Memᴰ (leafEntry p) (leafEntries s)
 unfolding leafEntries
@@ -39,21 +31,15 @@ entry-of (q ∷ s) p (List·Memᴰ·head e) = List·Memᴰ·head (ap leafEntry e
 entry-of (q ∷ s) p (List·Memᴰ·tail m) = List·Memᴰ·tail (entry-of s p m)
 
 module _ (b : List ℕ) (w : Whole b) where
-  totals : (v : Entry → ℕ) → total v (leavesIn b) ≡ total v (leafEntries (linesIn b))
-  totals = tied-lines b (w .tree)
-
   -- POINTS ON THE GRID
   pub leaf-points : Each LeafPoint (leavesIn b)
-  leaf-points = each-map (λ e. off e ≡ 0) LeafPoint off-point (leavesIn b) (same-zero (leavesIn b) (leafEntries (linesIn b)) totals off (line-off (linesIn b) (w .sites .onGrid)))
-
-  pub leaf-count : length (leavesIn b) ≡ length (linesIn b)
-  leaf-count = same-length (leavesIn b) (leafEntries (linesIn b)) totals ∙ leaves-length (linesIn b)
+  leaf-points = same-each (leavesIn b) (leafEntries (linesIn b)) (w .tree .leaf) LeafPoint (line-points (linesIn b) (w .sites .onGrid))
 
   pub leaf-few : length (leavesIn b) ≤ maxSites
-  leaf-few = omega (arith, leaf-count, lines-length b, w .sites .few)
+  leaf-few = omega (arith, tied-count b (w .tree), lines-length b, w .sites .few)
 
   pub line-leaf : (p : Site) → List·Memᴰ p (linesIn b) → List·Memᴰ (leafEntry p) (leavesIn b)
-  line-leaf p m = same-member (leafEntries (linesIn b)) (leavesIn b) (λ v. sym (totals v)) (leafEntry p) (entry-of (linesIn b) p m)
+  line-leaf p m = same-member (leafEntries (linesIn b)) (leavesIn b) (λ v. sym (w .tree .leaf v)) (leafEntry p) (entry-of (linesIn b) p m)
 
 site-of : (l : List Entry) (e : Entry) → List·Memᴰ e l → List·Memᴰ (siteOf e) (sites l)
 unfolding sites
@@ -84,5 +70,5 @@ tree-sites b w =
       back = λ p m.
           let f = from (leavesIn b) p m in
           subst (λ (x : Site). List·Memᴰ x (linesIn b)) (f .is)
-          (line-of (linesIn b) (f .entry) (same-member (leavesIn b) (leafEntries (linesIn b)) (tied-lines b (w .tree)) (f .entry) (f .member)));
+          (line-of (linesIn b) (f .entry) (same-member (leavesIn b) (leafEntries (linesIn b)) (w .tree .leaf) (f .entry) (f .member)));
     }

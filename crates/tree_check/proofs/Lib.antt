@@ -1,9 +1,8 @@
-pub mod Rises
+pub mod Leaves
 pub mod Marking
 pub mod Stack
 pub mod Passing
 pub mod RootPassing
 pub mod Shares
 pub mod Pool
-pub mod Astray
 pub mod Tying

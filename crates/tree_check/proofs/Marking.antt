@@ -1,5 +1,6 @@
 -- Laws of marks: one more is set, all are taken away, all are set.
 -- Assumes nothing.
+use mathlib.Core.Bool.{Bool, true, false}
 use mathlib.Core.List.{List}
 use mathlib.Core.Path.{_≡_, refl, ap, _∙_}
 use Prim.Native.Nat.{ℕ, min, _+_, _≤_, _<_}
@@ -10,10 +11,10 @@ use borrow.Author.Tests.{ltb-true, ltb-false, ne-eqb}
 use lib.Dec.{ltb}
 use lib.ListN.{length, getD, set, length-set}
 use lib.Seq.{getD-set-same, getD-set-other}
+use Rattle.grid.specs.Says.{Says}
 use Rattle.node.specs.Tally.{hit}
 use Rattle.node.proofs.Counting.{hit-same}
 use Rattle.tree_check.specs.Marks.{markBytes, seenBytes, Blank, Full, Fresh, Marked, Bits, Prepared}
-use Rattle.tree_check.specs.Says.{Says}
 
 pub hit-not : (x y : ℕ) → (x ≡ y → ⊥) → hit x y ≡ 0
 unfolding hit
@@ -71,13 +72,11 @@ unfolding Fresh
 fresh-at f o p lt h p′ = omega (arith, p′ p lt)
 
 -- a walk goes on after what it has marked
-pub prepared-on : (n : ℕ) (b o o₁ : List ℕ) (f : ℕ → ℕ) → Prepared n b o → Fresh f o → Marked f o o₁ → length o₁ ≡ length o → Prepared n b o₁
+pub prepared-on : (b o o₁ : List ℕ) (f : ℕ → ℕ) → Prepared b o → Fresh f o → Marked f o o₁ → length o₁ ≡ length o → Prepared b o₁
 unfolding Fresh Marked Bits
-prepared-on n b o o₁ f s p r len =
+prepared-on b o o₁ f s p r len =
     record {
-      len = s .len;
-      few = s .few;
-      rising = s .rising;
+      array = s .array;
       room = len ∙ s .room;
       bits = λ m lt. omega (arith, p m lt, r m lt);
     }
@@ -140,7 +139,11 @@ least-one o i v r l q =
     }
 
 pub least-told : (o : List ℕ) (l i v : ℕ) → l ≤ i → i ≤ l → Least o i v → Says (ltb 0 v) (Full l o)
-least-told o l i v ge le p =
-    let q : i ≡ l = omega arith in
-    let s : Least o l v = rw q at p in
-    record { yes = λ z. (s .yes (ltb-true 0 v z), tt); no = λ z f. omega (arith, ltb-false 0 v z, s .no f) }
+least-told o l i v ge le p = go (ltb 0 v) refl
+  where
+    all : Least o l v
+    all = let q : i ≡ l = omega arith in rw q at p
+
+    go : (t : Bool) → ltb 0 v ≡ t → Says t (Full l o)
+    go true z = all .yes (ltb-true 0 v z)
+    go false z = λ f. omega (arith, ltb-false 0 v z, all .no f)

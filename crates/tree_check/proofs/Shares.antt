@@ -6,13 +6,14 @@ use mathlib.Core.Path.{_≡_, refl, ap}
 use Prim.Native.Nat.{ℕ, zero, suc, _+_, _*_, _≤_, _<_}
 use native.Mathlib.Nat.{eq-or-lt-of-le}
 use native.Mathlib.Omega.{arith}
-use lib.ListN.{length}
+use lib.ListN.{length, getD}
+use Rattle.grid.specs.declared.Site.{Site}
+use Rattle.sites.specs.Lines.{noSite}
 use Rattle.node.specs.declared.Entry.{Entry}
-use Rattle.node.specs.Node.{firsts}
 use Rattle.node.specs.Tally.{total, hit, tally, Within}
-use Rattle.node.proofs.Counting.{hit-same, total-append, total-one}
+use Rattle.node.proofs.Counting.{hit-same, total-one}
 use Rattle.rtree.specs.Tree.{Each}
-use Rattle.tree_check.specs.Sites.{leafOf, leafList, recordOf, Known}
+use Rattle.tree_check.specs.Leaves.{leafEntry, leafEntries, indexOf, Known}
 use Rattle.tree_check.proofs.Marking.{hit-not}
 
 -- f 0 + f 1 + .., n of them
@@ -25,7 +26,13 @@ unfolding sum
 sum-ext f g zero q = refl
 sum-ext f g (suc n) q = omega (arith, sum-ext f g n (λ k l. q k (omega arith)), q n (omega arith))
 
-pub sum-zero : (f : ℕ → ℕ) (n : ℕ) → ((k : ℕ) → k < n → f k ≡ 0) → sum f n ≡ 0
+-- the first one apart
+sum-first : (f : ℕ → ℕ) (n : ℕ) → sum f (suc n) ≡ f 0 + sum (λ k. f (suc k)) n
+unfolding sum
+sum-first f zero = omega arith
+sum-first f (suc n) = omega (arith, sum-first f n)
+
+sum-zero : (f : ℕ → ℕ) (n : ℕ) → ((k : ℕ) → k < n → f k ≡ 0) → sum f n ≡ 0
 unfolding sum
 sum-zero f zero z = refl
 sum-zero f (suc n) z = omega (arith, sum-zero f n (λ k l. z k (omega arith)), z n (omega arith))
@@ -114,31 +121,27 @@ length-spread n l w =
     let e = sum-ext (λ m. tally m l * 1) (λ m. tally m l) n (λ m h. omega arith) in
     omega (arith, total-one l, total-spread (λ _. 1) n l w)
 
--- a total over the leaf entries of records, record by record
-pub total-known : (b : List ℕ) (n : ℕ) (w : Entry → ℕ) (l : List Entry) → Each (Known b n) l
-    → total w l ≡ sum (λ k. total (λ e. hit k (recordOf b n (e .reference))) l * w (leafOf b k)) n
+-- a total over the leaf entries of lines, line by line
+pub total-known : (s : List Site) (w : Entry → ℕ) (l : List Entry) → Each (Known s) l
+    → total w l ≡ sum (λ k. total (λ e. hit k (indexOf s (e .reference))) l * w (leafEntry (getD s k noSite))) (length s)
 unfolding total Each
-total-known b n w [] p = let z = sum-zero (λ k. 0 * w (leafOf b k)) n (λ k h. omega arith) in omega arith
-total-known b n w (e ∷ l) p =
-    let v : ℕ → ℕ = λ k. w (leafOf b k) in
-    let f : ℕ → ℕ = λ k. hit k (recordOf b n (e .reference)) in
-    let g : ℕ → ℕ = λ k. total (λ d. hit k (recordOf b n (d .reference))) l in
-    let q = sum-ext (λ k. (f k + g k) * v k) (λ k. f k * v k + g k * v k) n (λ k h. omega arith) in
+total-known s w [] p = let z = sum-zero (λ k. 0 * w (leafEntry (getD s k noSite))) (length s) (λ k h. omega arith) in omega arith
+total-known s w (e ∷ l) p =
+    let v : ℕ → ℕ = λ k. w (leafEntry (getD s k noSite)) in
+    let f : ℕ → ℕ = λ k. hit k (indexOf s (e .reference)) in
+    let g : ℕ → ℕ = λ k. total (λ d. hit k (indexOf s (d .reference))) l in
+    let q = sum-ext (λ k. (f k + g k) * v k) (λ k. f k * v k + g k * v k) (length s) (λ k h. omega arith) in
     omega (
       arith,
       q,
-      sum-add (λ k. f k * v k) (λ k. g k * v k) n,
-      sum-hit v n (recordOf b n (e .reference)) (p .0 .held),
+      sum-add (λ k. f k * v k) (λ k. g k * v k) (length s),
+      sum-hit v (length s) (indexOf s (e .reference)) (p .0 .held),
       ap w (p .0 .leaf),
-      total-known b n w l (p .1),
+      total-known s w l (p .1),
     )
 
--- a total over the leaf entries of the first n records
-total-firsts : (w : Entry → ℕ) (f : ℕ → Entry) (n : ℕ) → total w (firsts f n) ≡ sum (λ k. w (f k)) n
-unfolding total firsts sum
-total-firsts w f zero = refl
-total-firsts w f (suc n) = omega (arith, total-append w (firsts f n) (f n ∷ []), total-firsts w f n)
-
-pub total-list : (w : Entry → ℕ) (b : List ℕ) (n : ℕ) → total w (leafList b n) ≡ sum (λ k. w (leafOf b k)) n
-unfolding leafList
-total-list w b n = total-firsts w (leafOf b) n
+-- a total over the leaf entries of all lines
+pub total-lines : (w : Entry → ℕ) (s : List Site) → total w (leafEntries s) ≡ sum (λ k. w (leafEntry (getD s k noSite))) (length s)
+unfolding total leafEntries sum
+total-lines w [] = refl
+total-lines w (p ∷ s) = omega (arith, sum-first (λ k. w (leafEntry (getD (p ∷ s) k noSite))) (length s), total-lines w s)

@@ -7,8 +7,14 @@ use mathlib.Core.Path.{_≡_, refl, sym, ap, _∙_}
 use Prim.Native.Nat.{ℕ, _+_, _*_, _≤_, _<_}
 use native.Mathlib.Decide.{ℕ-discrete}
 use native.Mathlib.Omega.{arith}
-use lib.ListN.{length}
-use Rattle.limits.specs.Limits.{maxSites, maxNodes, tableBytes}
+use lib.ListN.{length, getD}
+use Rattle.limits.specs.Limits.{maxSites, maxNodes}
+use Rattle.grid.specs.declared.Site.{Site}
+use Rattle.grid.specs.Says.{Says}
+use Rattle.grid.proofs.Says.{says-map}
+use Rattle.book.specs.Proper.{Rising}
+use Rattle.sites.specs.Lines.{countIn, linesIn, noSite, numberOf, Array}
+use Rattle.sites.proofs.Reading.{lines-length}
 use Rattle.node.specs.declared.Entry.{Entry}
 use Rattle.node.specs.declared.Root.{Root}
 use Rattle.node.specs.Header.{rootIn}
@@ -16,36 +22,33 @@ use Rattle.node.specs.Node.{entries}
 use Rattle.node.specs.Free.{free}
 use Rattle.node.specs.Tally.{total, hit, tally, Within}
 use Rattle.node.specs.Told.{Told}
-use Rattle.node.proofs.Counting.{hit-same, le-or-lt, total-one}
-use Rattle.node.proofs.Telling.{told-no, told-map}
+use Rattle.node.proofs.Counting.{hit-same, le-or-lt}
 use Rattle.rtree.specs.Tree.{Each}
 use Rattle.rtree.specs.Rooted.{treeLeaves, treeNodes, Rooted, leavesIn}
-use Rattle.rtree.proofs.Every.{each-map}
+use Rattle.rtree.proofs.Members.{same-each}
 use Rattle.rtree.proofs.Roots.{root-levels}
 use Rattle.tree_check.specs.Marks.{recordMark, Blank, Full, Fresh, Marked, FreePass}
-use Rattle.tree_check.specs.Sites.{leafOf, leafList, Rising, recordOf, Known}
-use Rattle.tree_check.specs.Says.{Says}
+use Rattle.tree_check.specs.Leaves.{leafEntry, leafEntries, indexOf, Known}
 use Rattle.tree_check.specs.Tied.{Tied}
 use Rattle.tree_check.specs.Walk.{asked, Low, rootMet, RootPass}
 use Rattle.tree_check.proofs.Marking.{hit-not}
-use Rattle.tree_check.proofs.Shares.{sum, sum-ext, sum-zero, sum-one, sum-add, sum-full, hits-high, hits-in, length-spread, total-known, total-list}
+use Rattle.tree_check.proofs.Shares.{sum, sum-ext, sum-one, sum-add, sum-full, hits-high, hits-in, length-spread, total-known, total-lines}
 use Rattle.tree_check.proofs.Pool.{root-pool}
-use Rattle.tree_check.proofs.Astray.{miss, miss-known, total-none, own-record, own-miss}
+use Rattle.tree_check.proofs.Leaves.{tied-count, own-index, own-known}
 
--- the marks that the leaf entries L ask for
-abbrev leafHits : List ℕ → ℕ → List Entry → ℕ → ℕ
-leafHits b n L m = total (λ e. hit m (recordMark (recordOf b n (e .reference)))) L
+-- the marks that the leaf entries L ask for, where s are the lines
+abbrev leafHits : List Site → List Entry → ℕ → ℕ
+leafHits s L m = total (λ e. hit m (recordMark (indexOf s (e .reference)))) L
 
-module _ (n : ℕ) (b : List ℕ) (r : Rising n b) where
-  -- the records ask for one mark each
-  list-hits : (m : ℕ) → leafHits b n (leafList b n) m ≡ sum (λ k. hit m (maxNodes + k)) n
-  list-hits m =
-      total-list (λ e. hit m (recordMark (recordOf b n (e .reference)))) b n
-      ∙ sum-ext
-      (λ k. hit m (recordMark (recordOf b n (leafOf b k .reference))))
-      (λ k. hit m (maxNodes + k))
-      n
-      (λ k lt. ap (λ (x : ℕ). hit m (maxNodes + x)) (own-record n b r k lt))
+-- the lines ask for one mark each
+line-hits : (s : List Site) → Rising s → (m : ℕ) → leafHits s (leafEntries s) m ≡ sum (λ k. hit m (maxNodes + k)) (length s)
+line-hits s r m =
+    total-lines (λ e. hit m (recordMark (indexOf s (e .reference)))) s
+    ∙ sum-ext
+    (λ k. hit m (recordMark (indexOf s (numberOf s k))))
+    (λ k. hit m (maxNodes + k))
+    (length s)
+    (λ k lt. ap (λ (x : ℕ). hit m (maxNodes + x)) (own-index s r k lt))
 
 -- the marks of nodes stand below maxNodes, those of records from there on
 total-zero : (w : Entry → ℕ) → ((e : Entry) → w e ≡ 0) → (l : List Entry) → total w l ≡ 0
@@ -65,71 +68,63 @@ hit-shift a x y = go (ℕ-discrete x y)
     go (yes q) = hit-same (a + x) (a + y) (omega arith) ∙ sym (hit-same x y q)
     go (no ne) = hit-not (a + x) (a + y) (λ q. ne (omega arith)) ∙ sym (hit-not x y ne)
 
-node-part : (b : List ℕ) (n : ℕ) (N : List ℕ) (L : List Entry) (m : ℕ) → m < maxNodes → asked b n N L m ≡ tally m N
+node-part : (s : List Site) (N : List ℕ) (L : List Entry) (m : ℕ) → m < maxNodes → asked s N L m ≡ tally m N
 unfolding asked
-node-part b n N L m lt =
+node-part s N L m lt =
     omega (
       arith,
       total-zero
-          (λ e. hit m (recordMark (recordOf b n (e .reference))))
-          (λ e. hit-not m (recordMark (recordOf b n (e .reference))) (omega arith))
+          (λ e. hit m (recordMark (indexOf s (e .reference))))
+          (λ e. hit-not m (recordMark (indexOf s (e .reference))) (omega arith))
           L,
     )
 
-record-part : (b : List ℕ) (n : ℕ) (N : List ℕ) (L : List Entry) (m : ℕ) → (0 < tally m N → m < maxNodes) → maxNodes ≤ m → asked b n N L m ≡ leafHits b n L m
+record-part : (s : List Site) (N : List ℕ) (L : List Entry) (m : ℕ) → (0 < tally m N → m < maxNodes) → maxNodes ≤ m → asked s N L m ≡ leafHits s L m
 unfolding asked
-record-part b n N L m pool le =
+record-part s N L m pool le =
     ⊎-elim
     (λ (none : tally m N ≤ 0). omega arith)
     (λ (some : 0 < tally m N). absurd (omega (arith, pool some)))
     (le-or-lt (tally m N) 0)
 
+-- how many lines there are
+abbrev held : List ℕ → ℕ
+held b = length (linesIn b)
+
+few : (b : List ℕ) → Array b → held b ≤ maxSites
+few b a = omega (arith, a .few, lines-length b)
+
 -- what a tied table asks for
-module _ (n : ℕ) (b : List ℕ) (r : Rising n b) (t : Tied n b) where
-  leaf-total : (w : Entry → ℕ) → total w (treeLeaves (entries b) (rootIn b)) ≡ total w (leafList b n)
+module _ (b : List ℕ) (a : Array b) (t : Tied b) where
+  leaf-total : (w : Entry → ℕ) → total w (treeLeaves (entries b) (rootIn b)) ≡ total w (leafEntries (linesIn b))
   unfolding leavesIn
   leaf-total w = t .leaf w
 
-  -- as many leaf entries as records, each that of a record
-  pub leaf-count : length (treeLeaves (entries b) (rootIn b)) ≡ n
-  leaf-count =
-      omega (
-        arith,
-        total-one (treeLeaves (entries b) (rootIn b)),
-        leaf-total (λ _. 1),
-        total-list (λ _. 1) b n,
-        sum-one (λ _. 1) n (λ k lt. refl),
-      )
-
-  pub tied-known : Each (Known b n) (treeLeaves (entries b) (rootIn b))
+  tied-known : Each (Known (linesIn b)) (treeLeaves (entries b) (rootIn b))
   tied-known =
-      each-map
-      (λ e. miss b n e ≡ 0)
-      (Known b n)
-      (miss-known b n)
+      same-each
       (treeLeaves (entries b) (rootIn b))
-      (total-none
-      (miss b n)
-      (treeLeaves (entries b) (rootIn b))
-      (leaf-total (miss b n) ∙ total-list (miss b n) b n ∙ sum-zero (λ k. miss b n (leafOf b k)) n (own-miss n b r)))
+      (leafEntries (linesIn b))
+      leaf-total
+      (Known (linesIn b))
+      (own-known (linesIn b) (a .rising))
 
-  node-met : (m : ℕ) → m < maxNodes → rootMet b n (rootIn b) m ≡ tally m (treeNodes (entries b) (rootIn b))
+  node-met : (m : ℕ) → m < maxNodes → rootMet b (rootIn b) m ≡ tally m (treeNodes (entries b) (rootIn b))
   unfolding rootMet
-  node-met m lt = node-part b n (treeNodes (entries b) (rootIn b)) (treeLeaves (entries b) (rootIn b)) m lt
+  node-met m lt = node-part (linesIn b) (treeNodes (entries b) (rootIn b)) (treeLeaves (entries b) (rootIn b)) m lt
 
-  record-met : (m : ℕ) → maxNodes ≤ m → rootMet b n (rootIn b) m ≡ sum (λ k. hit m (maxNodes + k)) n
+  record-met : (m : ℕ) → maxNodes ≤ m → rootMet b (rootIn b) m ≡ sum (λ k. hit m (maxNodes + k)) (held b)
   unfolding rootMet
   record-met m le =
       record-part
-      b
-      n
+      (linesIn b)
       (treeNodes (entries b) (rootIn b))
       (treeLeaves (entries b) (rootIn b))
       m
       (λ some. t .rooted .within m (omega arith))
       le
-      ∙ leaf-total (λ e. hit m (recordMark (recordOf b n (e .reference))))
-      ∙ list-hits n b r m
+      ∙ leaf-total (λ e. hit m (recordMark (indexOf (linesIn b) (e .reference))))
+      ∙ line-hits (linesIn b) (a .rising) m
 
   record-free : (m : ℕ) → maxNodes ≤ m → tally m (free b) ≡ 0
   record-free m le =
@@ -138,15 +133,15 @@ module _ (n : ℕ) (b : List ℕ) (r : Rising n b) (t : Tied n b) where
       (λ (some : 0 < tally m (free b)). absurd (omega (arith, t .rooted .within m (omega arith))))
       (le-or-lt (tally m (free b)) 0)
 
-  record-most : (m : ℕ) → maxNodes ≤ m → rootMet b n (rootIn b) m ≤ 1
+  record-most : (m : ℕ) → maxNodes ≤ m → rootMet b (rootIn b) m ≤ 1
   record-most m le =
       ⊎-elim
-      (λ (out : maxNodes + n ≤ m). omega (arith, record-met m le, hits-high m maxNodes n out))
-      (λ (in′ : m < maxNodes + n). omega (arith, record-met m le, hits-in m maxNodes n le in′))
-      (le-or-lt (maxNodes + n) m)
+      (λ (out : maxNodes + held b ≤ m). omega (arith, record-met m le, hits-high m maxNodes (held b) out))
+      (λ (in′ : m < maxNodes + held b). omega (arith, record-met m le, hits-in m maxNodes (held b) le in′))
+      (le-or-lt (maxNodes + held b) m)
 
   -- none of the tree's marks and the free nodes' is asked for twice
-  tied-apart : (m : ℕ) → rootMet b n (rootIn b) m + tally m (free b) ≤ 1
+  tied-apart : (m : ℕ) → rootMet b (rootIn b) m + tally m (free b) ≤ 1
   tied-apart m =
       ⊎-elim
       (λ (le : maxNodes ≤ m). omega (arith, record-most m le, record-free m le))
@@ -167,10 +162,10 @@ module _ (n : ℕ) (b : List ℕ) (r : Rising n b) (t : Tied n b) where
             length-spread maxNodes (free b) (λ m some. t .rooted .within m (omega arith)),
           )
 
-  tied-each : (m : ℕ) → m < maxNodes + n → rootMet b n (rootIn b) m + tally m (free b) ≡ 1
+  tied-each : (m : ℕ) → m < maxNodes + held b → rootMet b (rootIn b) m + tally m (free b) ≡ 1
   tied-each m h =
       ⊎-elim
-      (λ (le : maxNodes ≤ m). omega (arith, record-met m le, hits-in m maxNodes n le h, record-free m le))
+      (λ (le : maxNodes ≤ m). omega (arith, record-met m le, hits-in m maxNodes (held b) le h, record-free m le))
       (λ (lt : m < maxNodes). omega (arith, node-met m lt, node-each m lt))
       (le-or-lt maxNodes m)
 
@@ -180,22 +175,23 @@ module _ (n : ℕ) (b : List ℕ) (r : Rising n b) (t : Tied n b) where
   tied-low (Root.Top g c) rt le = root-levels g c b rt le
 
   -- "There are at most six levels"
-  pub tied-levels : n ≤ maxSites → Low (rootIn b)
-  tied-levels few = tied-low (rootIn b) (t .rooted) (omega (arith, leaf-count))
+  tied-levels : Low (rootIn b)
+  unfolding leavesIn
+  tied-levels = tied-low (rootIn b) (t .rooted) (omega (arith, tied-count b t, few b a))
 
   -- so the test of a tied table goes through
   module _ (o : List ℕ) (z : Blank o) where
-    tied-root : n ≤ maxSites → RootPass b n (rootIn b) o
+    tied-root : RootPass b (rootIn b) o
     unfolding Blank Fresh
-    tied-root few =
+    tied-root =
         record {
           top = t .rooted .top;
-          low = tied-levels few;
+          low = tied-levels;
           known = tied-known;
           fresh = λ m lt. omega (arith, z m lt, tied-apart m);
         }
 
-    module _ (o₁ : List ℕ) (p : Marked (rootMet b n (rootIn b)) o o₁) where
+    module _ (o₁ : List ℕ) (p : Marked (rootMet b (rootIn b)) o o₁) where
       tied-free : FreePass b o₁
       unfolding Blank Fresh Marked Within
       tied-free =
@@ -204,14 +200,15 @@ module _ (n : ℕ) (b : List ℕ) (r : Rising n b) (t : Tied n b) where
             fresh = λ m lt. omega (arith, z m lt, p m lt, tied-apart m);
           }
 
-      tied-full : (o₂ : List ℕ) → n ≤ maxSites → Marked (λ m. tally m (free b)) o₁ o₂ → Full (maxNodes + n) o₂
+      tied-full : (o₂ : List ℕ) → Marked (λ m. tally m (free b)) o₁ o₂ → Full (maxNodes + held b) o₂
       unfolding Blank Marked Full
-      tied-full o₂ few q m lt =
+      tied-full o₂ q m lt =
+          let most = few b a in
           omega (arith, z m (omega arith), p m (omega arith), q m (omega arith), tied-each m lt)
 
 -- and what goes through is tied
-module _ (n : ℕ) (b o o₁ o₂ : List ℕ) (len : length b ≡ tableBytes) (few : n ≤ maxSites) (z : Blank o) (a : RootPass b n (rootIn b) o)
-    (p : Marked (rootMet b n (rootIn b)) o o₁) (f : FreePass b o₁) (q : Marked (λ m. tally m (free b)) o₁ o₂) (u : Full (maxNodes + n) o₂) where
+module _ (b o o₁ o₂ : List ℕ) (ar : Array b) (z : Blank o) (a : RootPass b (rootIn b) o)
+    (p : Marked (rootMet b (rootIn b)) o o₁) (f : FreePass b o₁) (q : Marked (λ m. tally m (free b)) o₁ o₂) (u : Full (maxNodes + held b) o₂) where
   pool : (m : ℕ) → 0 < tally m (treeNodes (entries b) (rootIn b)) → m < maxNodes
   pool m some = root-pool (entries b) (rootIn b) m (a .top) some
 
@@ -220,14 +217,16 @@ module _ (n : ℕ) (b o o₁ o₂ : List ℕ) (len : length b ≡ tableBytes) (f
   free-pool m some = f .within m some
 
   -- each mark is asked for once
-  once : (m : ℕ) → m < maxNodes + n → rootMet b n (rootIn b) m + tally m (free b) ≡ 1
+  once : (m : ℕ) → m < maxNodes + held b → rootMet b (rootIn b) m + tally m (free b) ≡ 1
   unfolding Blank Fresh Marked Full
-  once m lt = omega (arith, z m (omega arith), p m (omega arith), q m (omega arith), f .fresh m (omega arith), u m lt)
+  once m lt =
+      let most = few b ar in
+      omega (arith, z m (omega arith), p m (omega arith), q m (omega arith), f .fresh m (omega arith), u m lt)
 
   node-once : (m : ℕ) → m < maxNodes → tally m (treeNodes (entries b) (rootIn b)) + tally m (free b) ≡ 1
   unfolding rootMet
   node-once m lt =
-      omega (arith, once m (omega arith), node-part b n (treeNodes (entries b) (rootIn b)) (treeLeaves (entries b) (rootIn b)) m lt)
+      omega (arith, once m (omega arith), node-part (linesIn b) (treeNodes (entries b) (rootIn b)) (treeLeaves (entries b) (rootIn b)) m lt)
 
   none-past : (m : ℕ) → maxNodes ≤ m → tally m (treeNodes (entries b) (rootIn b)) + tally m (free b) ≡ 0
   none-past m le =
@@ -244,7 +243,7 @@ module _ (n : ℕ) (b o o₁ o₂ : List ℕ) (len : length b ≡ tableBytes) (f
   unfolding Within
   passed-rooted =
       record {
-        len = len;
+        len = ar .len;
         top = a .top;
         apart = λ m.
             ⊎-elim
@@ -266,7 +265,7 @@ module _ (n : ℕ) (b o o₁ o₂ : List ℕ) (len : length b ≡ tableBytes) (f
             );
       }
 
-  record-once : (k : ℕ) → k < n → total (λ e. hit k (recordOf b n (e .reference))) (treeLeaves (entries b) (rootIn b)) ≡ 1
+  record-once : (k : ℕ) → k < held b → total (λ e. hit k (indexOf (linesIn b) (e .reference))) (treeLeaves (entries b) (rootIn b)) ≡ 1
   unfolding rootMet
   record-once k lt =
       let m : ℕ = maxNodes + k in
@@ -274,44 +273,45 @@ module _ (n : ℕ) (b o o₁ o₂ : List ℕ) (len : length b ≡ tableBytes) (f
         arith,
         once m (omega arith),
         none-past m (omega arith),
-        record-part b n (treeNodes (entries b) (rootIn b)) (treeLeaves (entries b) (rootIn b)) m (pool m) (omega arith),
+        record-part (linesIn b) (treeNodes (entries b) (rootIn b)) (treeLeaves (entries b) (rootIn b)) m (pool m) (omega arith),
         total-same
-            (λ e. hit m (recordMark (recordOf b n (e .reference))))
-            (λ e. hit k (recordOf b n (e .reference)))
-            (λ e. hit-shift maxNodes k (recordOf b n (e .reference)))
+            (λ e. hit m (recordMark (indexOf (linesIn b) (e .reference))))
+            (λ e. hit k (indexOf (linesIn b) (e .reference)))
+            (λ e. hit-shift maxNodes k (indexOf (linesIn b) (e .reference)))
             (treeLeaves (entries b) (rootIn b)),
       )
 
-  passed-tied : Tied n b
+  passed-tied : Tied b
   unfolding leavesIn
   passed-tied =
       record {
         rooted = passed-rooted;
         leaf = λ w.
-            total-known b n w (treeLeaves (entries b) (rootIn b)) (a .known)
+            total-known (linesIn b) w (treeLeaves (entries b) (rootIn b)) (a .known)
             ∙ sum-ext
-            (λ k. total (λ e. hit k (recordOf b n (e .reference))) (treeLeaves (entries b) (rootIn b)) * w (leafOf b k))
-            (λ k. w (leafOf b k))
-            n
+            (λ k. total (λ e. hit k (indexOf (linesIn b) (e .reference))) (treeLeaves (entries b) (rootIn b)) * w (leafEntry (getD (linesIn b) k noSite)))
+            (λ k. w (leafEntry (getD (linesIn b) k noSite)))
+            (held b)
             (λ k lt. rw (record-once k lt) (omega arith))
-            ∙ sym (total-list w b n);
+            ∙ sym (total-lines w (linesIn b));
       }
 
 -- the answers of `check`
-module _ (n : ℕ) (b : List ℕ) (len : length b ≡ tableBytes) (few : n ≤ maxSites) (rise : Rising n b) (o : List ℕ) (z : Blank o) where
-  pub check-root-no : {B : Type 0} (r : Bool) → Told r (RootPass b n (rootIn b) o) B → r ≡ false → Says false (Tied n b)
-  check-root-no r a w = told-no (λ t. a .no w (tied-root n b rise t o z few))
+module _ (b : List ℕ) (ar : Array b) (o : List ℕ) (z : Blank o) where
+  pub check-root-no : {B : Type 0} (r : Bool) → Told r (RootPass b (rootIn b) o) B → r ≡ false → ¬ Tied b
+  check-root-no r a w t = a .no w (tied-root b ar t o z)
 
-  module _ (o₁ : List ℕ) (r : Bool) (a : Told r (RootPass b n (rootIn b) o) (Marked (rootMet b n (rootIn b)) o o₁)) (went : r ≡ true) where
-    pub check-free-no : {B : Type 0} (s : Bool) → Told s (FreePass b o₁) B → s ≡ false → Says false (Tied n b)
-    check-free-no s f w = told-no (λ t. f .no w (tied-free n b rise t o z o₁ (a .yes went .1)))
+  module _ (o₁ : List ℕ) (r : Bool) (a : Told r (RootPass b (rootIn b) o) (Marked (rootMet b (rootIn b)) o o₁)) (went : r ≡ true) where
+    pub check-free-no : {B : Type 0} (s : Bool) → Told s (FreePass b o₁) B → s ≡ false → ¬ Tied b
+    check-free-no s f w t = f .no w (tied-free b ar t o z o₁ (a .yes went .1))
 
-    pub check-told : (s u : Bool) (o₂ : List ℕ) → Told s (FreePass b o₁) (Marked (λ m. tally m (free b)) o₁ o₂) → s ≡ true → Says u (Full (maxNodes + n) o₂) → Says u (Tied n b)
-    check-told s u o₂ f too w =
+    pub check-told : (s u : Bool) (n : ℕ) (o₂ : List ℕ) → n ≡ countIn b → Told s (FreePass b o₁) (Marked (λ m. tally m (free b)) o₁ o₂) → s ≡ true
+        → Says u (Full (maxNodes + n) o₂) → Says u (Tied b)
+    check-told s u n o₂ c f too w =
         let x = a .yes went in
         let y = f .yes too in
-        told-map
-        (passed-tied n b o o₁ o₂ len few z (x .0) (x .1) (y .0) (y .1))
-        (λ t. tied-full n b rise t o z o₁ (x .1) o₂ few (y .1))
-        (λ i. i)
+        let q : n ≡ held b = omega (arith, lines-length b) in
+        says-map u
+        (λ v. passed-tied b o o₁ o₂ ar z (x .0) (x .1) (y .0) (y .1) (rw q at v))
+        (λ t. rw q (tied-full b ar t o z o₁ (x .1) o₂ (y .1)))
         w

@@ -1,5 +1,4 @@
-pub mod Says
-pub mod Sites
+pub mod Leaves
 pub mod Tied
 pub mod Marks
 pub mod Walk

@@ -5,10 +5,10 @@ use mathlib.Core.List.{List}
 use mathlib.Core.Path.{_≡_}
 use Prim.Native.Nat.{ℕ, _+_, _≤_, _<_}
 use lib.ListN.{length, getD}
-use Rattle.limits.specs.Limits.{maxSites, maxNodes, tableBytes}
+use Rattle.limits.specs.Limits.{maxSites, maxNodes}
+use Rattle.sites.specs.Lines.{Array}
 use Rattle.node.specs.Free.{free}
 use Rattle.node.specs.Tally.{tally, Within}
-use Rattle.tree_check.specs.Sites.{Rising}
 
 -- the marks
 abbrev pub markBytes : ℕ
@@ -43,10 +43,8 @@ unfoldable pub Bits : List ℕ → Type 0
 Bits o = (m : ℕ) → m < markBytes → getD o m 0 ≤ 1
 
 -- the table b and the marks o, as a walk needs them
-pub record Prepared (n : ℕ) (b o : List ℕ) : Type 0 where
-  pub len : length b ≡ tableBytes
-  pub few : n ≤ maxSites
-  pub rising : Rising n b
+pub record Prepared (b o : List ℕ) : Type 0 where
+  pub array : Array b
   pub room : length o ≡ seenBytes
   pub bits : Bits o
 

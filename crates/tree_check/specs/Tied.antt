@@ -7,10 +7,11 @@ use Rattle.node.specs.declared.Entry.{Entry}
 use Rattle.node.specs.Header.{rootIn}
 use Rattle.node.specs.Tally.{total}
 use Rattle.rtree.specs.Rooted.{Rooted, leavesIn}
-use Rattle.tree_check.specs.Sites.{leafList}
+use Rattle.sites.specs.Lines.{linesIn}
+use Rattle.tree_check.specs.Leaves.{leafEntries}
 
--- the tree that the header tells keeps its rules, and its leaf entries are those of the first n records of the site array
-pub record Tied (n : ℕ) (b : List ℕ) : Type 0 where
+-- the tree that the header tells keeps its rules, and its leaf entries are those of the lines of the site array
+pub record Tied (b : List ℕ) : Type 0 where
   pub rooted : Rooted (rootIn b) b
   -- "Every held site is in one leaf entry", and there is no other leaf entry: whatever is counted, both give the same total
-  pub leaf : (w : Entry → ℕ) → total w (leavesIn b) ≡ total w (leafList b n)
+  pub leaf : (w : Entry → ℕ) → total w (leavesIn b) ≡ total w (leafEntries (linesIn b))

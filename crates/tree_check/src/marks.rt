@@ -2,9 +2,9 @@
 ghost use mathlib.Core.Path.{_≡_};
 ghost use Prim.Native.Nat.{_≤_, _<_, min};
 ghost use lib.ListN.{length, getD, set};
+ghost use Rattle.grid.specs.Says.{Says};
 ghost use Rattle.node.specs.Told.{Told};
 ghost use Rattle.tree_check.specs.Marks.{markBytes, seenBytes, Blank, Full};
-ghost use Rattle.tree_check.specs.Says.{Says};
 
 // A byte for each node and for each record.
 const MARK_BYTES: usize = 776;

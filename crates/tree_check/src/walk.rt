@@ -1,7 +1,8 @@
 // The walk over the tree. "A node is read by reading its entries, and an entry above the leaves by reading its child node": two functions that
 // call each other, the height falling at each descent.
+use crate::hints;
+use crate::leaf_entry;
 use crate::marks;
-use crate::sites;
 use limits::MAX_LEVELS;
 use limits::MAX_NODES;
 use limits::MIN_ENTRIES;
@@ -10,33 +11,36 @@ use node::Root;
 use node::boxes;
 use node::header;
 use node::pool;
+use sites::Found;
 ghost use mathlib.Core.List.{[], _∷_};
 ghost use mathlib.Core.Path.{_≡_};
 ghost use Prim.Native.Nat.{_<_};
 ghost use lib.ListN.{length};
 ghost use Rattle.limits.specs.Limits.{maxNodes, tableBytes};
+ghost use Rattle.grid.specs.Says.{Says};
 ghost use Rattle.node.specs.declared.Root.{Root};
 ghost use Rattle.node.specs.Header.{rootIn};
 ghost use Rattle.node.specs.Node.{entries};
 ghost use Rattle.node.specs.Told.{Told};
 ghost use Rattle.tree_check.specs.Marks.{Marked, Prepared};
-ghost use Rattle.tree_check.specs.Says.{Says};
 ghost use Rattle.tree_check.specs.Walk.{met, Pass, Fits, Enough, rootMet, RootPass};
 
 // Whether the leaf entry e is that of a record that has no mark yet. Marks the record.
-fn check_leaf(t: &[u8], n: usize, e: Entry, seen: &mut [u8]) -> bool
-    requires { ⌜ Prepared n (now t) (now seen) ⌝ }
-    ensures { λ r. ⌜ Told r (Pass (now (t .entry)) n 0 (e ∷ []) (now (seen .entry))) (Marked (met (now (t .entry)) n 0 (e ∷ [])) (now (seen .entry)) (now (seen .exit))) ⌝ }
+fn check_leaf(t: &[u8], e: Entry, seen: &mut [u8]) -> bool
+    requires { ⌜ Prepared (now t) (now seen) ⌝ }
+    ensures { λ r. ⌜ Told r (Pass (now (t .entry)) 0 (e ∷ []) (now (seen .entry))) (Marked (met (now (t .entry)) 0 (e ∷ [])) (now (seen .entry)) (now (seen .exit))) ⌝ }
 {
-    let k = sites::find(t, n, e.reference, seen);
-    if n <= k {
-        return false;
+    let f = hints::find(t, e.reference, seen);
+    match f {
+        Found::Absent(_) => false,
+        Found::At(k) => {
+            let p = leaf_entry(sites::line(t, k));
+            if boxes::same(e, p) {
+                return marks::mark(seen, MAX_NODES + k);
+            }
+            false
+        }
     }
-    let p = sites::leaf_of(t, k);
-    if boxes::same(e, p) {
-        return marks::mark(seen, MAX_NODES + k);
-    }
-    false
 }
 
 // Whether e's child node has entries enough and e is the smallest box of them.
@@ -53,15 +57,15 @@ fn fits(t: &[u8], e: Entry) -> bool
 }
 
 // Whether the entries of the leaf c pass. Marks their records.
-fn check_leaves(t: &[u8], n: usize, c: usize, seen: &mut [u8]) -> bool
-    requires { ⌜ Prepared n (now t) (now seen) × (c < maxNodes) ⌝ }
-    ensures { λ r. ⌜ Told r (Pass (now (t .entry)) n 0 (entries (now (t .entry)) c) (now (seen .entry))) (Marked (met (now (t .entry)) n 0 (entries (now (t .entry)) c)) (now (seen .entry)) (now (seen .exit))) ⌝ }
+fn check_leaves(t: &[u8], c: usize, seen: &mut [u8]) -> bool
+    requires { ⌜ Prepared (now t) (now seen) × (c < maxNodes) ⌝ }
+    ensures { λ r. ⌜ Told r (Pass (now (t .entry)) 0 (entries (now (t .entry)) c) (now (seen .entry))) (Marked (met (now (t .entry)) 0 (entries (now (t .entry)) c)) (now (seen .entry)) (now (seen .exit))) ⌝ }
 {
     let m = pool::count(t, c);
     let mut k = 0;
     while k < m {
         let e = pool::entry_at(t, c, k);
-        if check_leaf(t, n, e, seen) {
+        if check_leaf(t, e, seen) {
             k += 1;
             continue;
         }
@@ -71,9 +75,9 @@ fn check_leaves(t: &[u8], n: usize, c: usize, seen: &mut [u8]) -> bool
 }
 
 // Whether the entry e, which stands at height h above the leaf entries, passes. Marks what lies under it.
-fn check_entry(t: &[u8], n: usize, h: usize, e: Entry, seen: &mut [u8]) -> bool
-    requires { ⌜ Prepared n (now t) (now seen) × (h ≡ 0 → ⊥) ⌝ }
-    ensures { λ r. ⌜ Told r (Pass (now (t .entry)) n h (e ∷ []) (now (seen .entry))) (Marked (met (now (t .entry)) n h (e ∷ [])) (now (seen .entry)) (now (seen .exit))) ⌝ }
+fn check_entry(t: &[u8], h: usize, e: Entry, seen: &mut [u8]) -> bool
+    requires { ⌜ Prepared (now t) (now seen) × (h ≡ 0 → ⊥) ⌝ }
+    ensures { λ r. ⌜ Told r (Pass (now (t .entry)) h (e ∷ []) (now (seen .entry))) (Marked (met (now (t .entry)) h (e ∷ [])) (now (seen .entry)) (now (seen .exit))) ⌝ }
 {
     let c = e.reference as usize;
     if MAX_NODES <= c {
@@ -82,25 +86,25 @@ fn check_entry(t: &[u8], n: usize, h: usize, e: Entry, seen: &mut [u8]) -> bool
     let first = marks::mark(seen, c);
     if first {
         if fits(t, e) {
-            return check_node(t, n, h - 1, c, seen);
+            return check_node(t, h - 1, c, seen);
         }
     }
     false
 }
 
 // Whether the entries of node c, which stand at height h, pass. Marks what lies under them.
-fn check_node(t: &[u8], n: usize, h: usize, c: usize, seen: &mut [u8]) -> bool
-    requires { ⌜ Prepared n (now t) (now seen) × (c < maxNodes) ⌝ }
-    ensures { λ r. ⌜ Told r (Pass (now (t .entry)) n h (entries (now (t .entry)) c) (now (seen .entry))) (Marked (met (now (t .entry)) n h (entries (now (t .entry)) c)) (now (seen .entry)) (now (seen .exit))) ⌝ }
+fn check_node(t: &[u8], h: usize, c: usize, seen: &mut [u8]) -> bool
+    requires { ⌜ Prepared (now t) (now seen) × (c < maxNodes) ⌝ }
+    ensures { λ r. ⌜ Told r (Pass (now (t .entry)) h (entries (now (t .entry)) c) (now (seen .entry))) (Marked (met (now (t .entry)) h (entries (now (t .entry)) c)) (now (seen .entry)) (now (seen .exit))) ⌝ }
 {
     if h == 0 {
-        return check_leaves(t, n, c, seen);
+        return check_leaves(t, c, seen);
     }
     let m = pool::count(t, c);
     let mut k = 0;
     while k < m {
         let e = pool::entry_at(t, c, k);
-        if check_entry(t, n, h, e, seen) {
+        if check_entry(t, h, e, seen) {
             k += 1;
             continue;
         }
@@ -128,9 +132,9 @@ fn enough(t: &[u8], g: usize, c: usize) -> bool
 }
 
 // Whether the tree under the node c, whose entries stand at height g, passes. Marks what lies under it.
-fn check_top(t: &[u8], n: usize, g: usize, c: usize, seen: &mut [u8]) -> bool
-    requires { ⌜ Prepared n (now t) (now seen) ⌝ }
-    ensures { λ r. ⌜ Told r (RootPass (now (t .entry)) n (Root.Top g c) (now (seen .entry))) (Marked (rootMet (now (t .entry)) n (Root.Top g c)) (now (seen .entry)) (now (seen .exit))) ⌝ }
+fn check_top(t: &[u8], g: usize, c: usize, seen: &mut [u8]) -> bool
+    requires { ⌜ Prepared (now t) (now seen) ⌝ }
+    ensures { λ r. ⌜ Told r (RootPass (now (t .entry)) (Root.Top g c) (now (seen .entry))) (Marked (rootMet (now (t .entry)) (Root.Top g c)) (now (seen .entry)) (now (seen .exit))) ⌝ }
 {
     if MAX_LEVELS <= g {
         return false;
@@ -140,19 +144,19 @@ fn check_top(t: &[u8], n: usize, g: usize, c: usize, seen: &mut [u8]) -> bool
     }
     if enough(t, g, c) {
         if marks::mark(seen, c) {
-            return check_node(t, n, g, c, seen);
+            return check_node(t, g, c, seen);
         }
     }
     false
 }
 
 // Whether the tree that the header tells passes. Marks what lies under it.
-pub fn check_root(t: &[u8], n: usize, seen: &mut [u8]) -> bool
-    requires { ⌜ Prepared n (now t) (now seen) ⌝ }
-    ensures { λ r. ⌜ Told r (RootPass (now (t .entry)) n (rootIn (now (t .entry))) (now (seen .entry))) (Marked (rootMet (now (t .entry)) n (rootIn (now (t .entry)))) (now (seen .entry)) (now (seen .exit))) ⌝ }
+pub fn check_root(t: &[u8], seen: &mut [u8]) -> bool
+    requires { ⌜ Prepared (now t) (now seen) ⌝ }
+    ensures { λ r. ⌜ Told r (RootPass (now (t .entry)) (rootIn (now (t .entry))) (now (seen .entry))) (Marked (rootMet (now (t .entry)) (rootIn (now (t .entry)))) (now (seen .entry)) (now (seen .exit))) ⌝ }
 {
     match header::read_root(t) {
         Root::Empty => true,
-        Root::Top(g, c) => check_top(t, n, g, c, seen),
+        Root::Top(g, c) => check_top(t, g, c, seen),
     }
 }

@@ -6,8 +6,8 @@ use Rattle.table_change.proofs.grow.Tie as tie
 insert-requires : tie.Need-insert-requires
 insert-requires c κs = (search (needs, whole-array), search (needs, whole-room), search (needs, absent-inside))
 
-leaf-requires : tie.Need-leaf-requires
-leaf-requires c κs = search needs
+leaf-entry-requires : tie.Need-leaf-entry-requires
+leaf-entry-requires c κs = search needs
 
 add-requires : tie.Need-add-requires
 add-requires c κs = (search (needs, changed-rooted), search (needs, grow-few))
@@ -19,4 +19,4 @@ returns : tie.Need-returns
 returns c = search (needs, grown)
 
 pub grow-spec : {M : Type 1} → statement M
-grow-spec = tie.close (tie.spec insert-requires leaf-requires add-requires same-length returns)
+grow-spec = tie.close (tie.spec insert-requires leaf-entry-requires add-requires same-length returns)

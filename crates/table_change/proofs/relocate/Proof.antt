@@ -6,11 +6,11 @@ use Rattle.table_change.proofs.relocate.Tie as tie
 line-requires : tie.Need-line-requires
 line-requires c κs = (search needs, search (needs, line-few))
 
-leaf-requires : tie.Need-leaf-requires
-leaf-requires c κs = search needs
+leaf-entry-requires : tie.Need-leaf-entry-requires
+leaf-entry-requires c κs = search needs
 
-leaf-requires-2 : tie.Need-leaf-requires-2
-leaf-requires-2 c κs = search needs
+leaf-entry-requires-2 : tie.Need-leaf-entry-requires-2
+leaf-entry-requires-2 c κs = search needs
 
 place-requires : tie.Need-place-requires
 place-requires c κs = (search (needs, whole-array), search (needs, at-inside))
@@ -29,8 +29,8 @@ relocate-spec =
     tie.close
     (tie.spec
     line-requires
-    leaf-requires
-    leaf-requires-2
+    leaf-entry-requires
+    leaf-entry-requires-2
     place-requires
     swap-leaf-requires
     same-length

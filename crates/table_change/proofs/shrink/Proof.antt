@@ -6,8 +6,8 @@ use Rattle.table_change.proofs.shrink.Tie as tie
 line-requires : tie.Need-line-requires
 line-requires c κs = (search needs, search (needs, line-few))
 
-leaf-requires : tie.Need-leaf-requires
-leaf-requires c κs = search needs
+leaf-entry-requires : tie.Need-leaf-entry-requires
+leaf-entry-requires c κs = search needs
 
 delete-requires : tie.Need-delete-requires
 delete-requires c κs = (search (needs, whole-array), search (needs, at-inside))
@@ -24,4 +24,4 @@ returns c = search (needs, shrunk)
 pub shrink-spec : {M : Type 1} → statement M
 shrink-spec =
     tie.close
-    (tie.spec line-requires leaf-requires delete-requires remove-requires same-length returns)
+    (tie.spec line-requires leaf-entry-requires delete-requires remove-requires same-length returns)

@@ -1,4 +1,4 @@
-use Rattle.table_check.proofs.Deciding.{sites-rise, sites-few, sites-not, header-not, whole-says}
+use Rattle.table_check.proofs.Deciding.{sites-yes, sites-not, header-not, whole-says}
 use lib.Seq.{length-take-le}
 use borrow.Author.Needs.{needs}
 use Rattle.table_check.proofs.whole_ok.Statement.{statement}
@@ -10,9 +10,6 @@ check-requires c κs = search needs
 header-ok-requires : tie.Need-header-ok-requires
 header-ok-requires c κs = search needs
 
-count-requires : tie.Need-count-requires
-count-requires c κs = search needs
-
 slice-relend-prefix-check : tie.Need-slice-relend-prefix-check
 slice-relend-prefix-check c = search needs
 
@@ -20,7 +17,7 @@ slice-aggregate-check : tie.Need-slice-aggregate-check
 slice-aggregate-check c = search (needs, length-take-le)
 
 check-requires-2 : tie.Need-check-requires-2
-check-requires-2 c κs = (search needs, search (needs, sites-few), search (needs, sites-rise), search (needs, length-take-le))
+check-requires-2 c κs = (search (needs, sites-yes), search (needs, length-take-le))
 
 same-length : tie.Need-same-length
 same-length c = search needs
@@ -40,7 +37,6 @@ whole-ok-spec =
     (tie.spec
     check-requires
     header-ok-requires
-    count-requires
     slice-relend-prefix-check
     slice-aggregate-check
     check-requires-2

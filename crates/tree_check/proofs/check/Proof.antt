@@ -5,6 +5,9 @@ use borrow.Author.Needs.{needs}
 use Rattle.tree_check.proofs.check.Statement.{statement}
 use Rattle.tree_check.proofs.check.Tie as tie
 
+count-requires : tie.Need-count-requires
+count-requires c κs = search needs
+
 note-requires : tie.Need-note-requires
 note-requires c κs = search needs
 
@@ -18,7 +21,7 @@ check-free-requires : tie.Need-check-free-requires
 check-free-requires c κs = (
   search needs,
   search needs,
-  bits-next _ _ _ _ _ _ (c .before .before .before .before .check-root .ensures) (c .before .if1 .taken),
+  bits-next _ _ _ _ _ (c .before .before .before .before .check-root .ensures) (c .before .if1 .taken),
 )
 
 add-full : tie.Need-add-full
@@ -49,6 +52,7 @@ pub check-spec : {M : Type 1} → statement M
 check-spec =
     tie.close
     (tie.spec
+    count-requires
     note-requires
     clear-requires
     check-root-requires

@@ -19,10 +19,10 @@ use Rattle.tree_check.proofs.walk.+check_entry+check_node.{statement}
 use Rattle.tree_check.proofs.walk.+check_entry+check_node.Tie.{close}
 
 abbrev μ-check-entry : Measures 2 check-entry-kinds.ps ℕ
-μ-check-entry κs a = 2 * a .1 .1 .0
+μ-check-entry κs a = 2 * a .1 .0
 
 abbrev μ-check-node : Measures 2 check-node-kinds.ps ℕ
-μ-check-node κs a = 2 * a .1 .1 .0 + 1
+μ-check-node κs a = 2 * a .1 .0 + 1
 
 abbrev check-entry-at : ℕ → In 2 check-entry-kinds.ps
 check-entry-at t =
@@ -99,10 +99,10 @@ check-entry-returns-4 : (t : ℕ) → check-entry-lts.Need-returns-4 (check-entr
 check-entry-returns-4 t c = search entry-met
 
 abbrev check-node-Inv-loop : check-node-lts.InvT-loop
-check-node-Inv-loop t n h c seen₀ m k₀ seen k = Left t n h c seen₀ k seen
+check-node-Inv-loop t h c seen₀ m k₀ seen k = Left t h c seen₀ k seen
 
 abbrev check-node-μ-loop : check-node-lts.MeasureT-loop
-check-node-μ-loop t n h c seen₀ m k₀ seen k = m - k
+check-node-μ-loop t h c seen₀ m k₀ seen k = m - k
 
 check-node-check-leaves-requires : (t : ℕ) → check-node-lts.Need-check-leaves-requires (check-node-claims t) (check-node-at t) check-node.Post check-node-Inv-loop check-node-μ-loop
 check-node-check-leaves-requires t c κs = search needs

@@ -5,10 +5,10 @@ use Rattle.tree_check.proofs.walk.check_leaves.Statement.{statement}
 use Rattle.tree_check.proofs.walk.check_leaves.Tie as tie
 
 abbrev Inv-loop : tie.InvT-loop
-Inv-loop t n c seen₀ m k₀ seen k = Left t n 0 c seen₀ k seen
+Inv-loop t c seen₀ m k₀ seen k = Left t 0 c seen₀ k seen
 
 abbrev μ-loop : tie.MeasureT-loop
-μ-loop t n c seen₀ m k₀ seen k = m - k
+μ-loop t c seen₀ m k₀ seen k = m - k
 
 count-requires : tie.Need-count-requires Inv-loop μ-loop
 count-requires c κs = search needs

@@ -3,8 +3,8 @@ use Prim.Native.Nat.{_-_, _≤_}
 use lib.ListN.{length}
 use borrow.Author.Needs.{needs}
 use Rattle.tree_check.specs.Marks.{seenBytes}
-use Rattle.tree_check.proofs.sites.note.Statement.{statement}
-use Rattle.tree_check.proofs.sites.note.Tie as tie
+use Rattle.tree_check.proofs.hints.note.Statement.{statement}
+use Rattle.tree_check.proofs.hints.note.Tie as tie
 
 abbrev Inv-loop : tie.InvT-loop
 Inv-loop t n seen₀ k₀ seen k = (k ≤ n) × (length seen ≡ seenBytes)
@@ -15,8 +15,8 @@ abbrev μ-loop : tie.MeasureT-loop
 loop-holds : tie.Need-loop-holds Inv-loop μ-loop
 loop-holds c = search needs
 
-number-at-requires : tie.Need-number-at-requires Inv-loop μ-loop
-number-at-requires c κs = search needs
+number-requires : tie.Need-number-requires Inv-loop μ-loop
+number-requires c κs = search needs
 
 hint-at-requires : tie.Need-hint-at-requires Inv-loop μ-loop
 hint-at-requires c κs = search needs
@@ -49,7 +49,7 @@ note-spec =
     Inv-loop
     μ-loop
     loop-holds
-    number-at-requires
+    number-requires
     hint-at-requires
     cast-seen
     slice-write-seen
