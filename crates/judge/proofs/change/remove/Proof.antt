@@ -1,0 +1,33 @@
+use Rattle.judge.proofs.Deciding.{remove-zero, remove-done, remove-absent}
+use borrow.Author.Needs.{needs}
+use Rattle.judge.proofs.change.remove.Statement.{statement}
+use Rattle.judge.proofs.change.remove.Tie as tie
+
+returns : tie.Need-returns
+returns c = search (needs, remove-zero)
+
+find-requires : tie.Need-find-requires
+find-requires c κs = search needs
+
+enum-told : tie.Need-enum-told
+enum-told c = search needs
+
+enum-told-2 : tie.Need-enum-told-2
+enum-told-2 c = search needs
+
+returns-2 : tie.Need-returns-2
+returns-2 c = search (needs, remove-done)
+
+returns-3 : tie.Need-returns-3
+returns-3 c = search (needs, remove-absent)
+
+pub remove-spec : {M : Type 1} → statement M
+remove-spec =
+    tie.close
+    (tie.spec
+    returns
+    find-requires
+    enum-told
+    enum-told-2
+    returns-2
+    returns-3)
