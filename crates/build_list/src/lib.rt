@@ -1,4 +1,4 @@
-// The list of a leg over a whole site array, built with no tree: for checking a stored list, and for tests.
+// The list of a leg over a whole site array, built with no tree, for tests of the list code by itself (list_probe).
 use grid::Leg;
 ghost use Prim.Native.Nat.{_*_, _≤_};
 ghost use lib.ListN.{length};

@@ -39,7 +39,10 @@ module _ (v : Verdict) (a : Answer) (t w : List ℕ) (ha : a ≡ answerOf v) whe
   pub obeyed : (t′ rep rep′ : List ℕ) (at : ℕ) → rep′ ≡ write rep at (recordOf (replyOf a t w)) → Carried v t t′ → Obeyed v t w t′ rep at rep′
   obeyed t′ rep rep′ at p h = record { carried = h; report = p ∙ ap (λ (y : Answer). write rep at (recordOf (replyOf y t w))) ha }
 
--- what a decided verdict says of its row
+-- what a decided verdict says of the table and of its row
+pub decided-found : (v : Verdict) (c : Command) (t w : List ℕ) → Decided v c t w → Findings v t
+decided-found v c t w d = d .found
+
 pub decided-row : (v : Verdict) (c : Command) (t w : List ℕ) → Decided v c t w → RowOk (answerOf v) t w
 decided-row v c t w d = d .judged .row
 

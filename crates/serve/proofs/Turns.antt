@@ -1,6 +1,6 @@
 -- The loop over the commands: at its head the run so far is the book's, and the table and the report are as the book's turns leave them.
 -- Assumes nothing.
-use mathlib.Core.Path.{_≡_, refl, sym, ap, subst, _∙_}
+use mathlib.Core.Path.{_≡_, refl, sym, ap, subst, subst⁻¹, _∙_}
 use mathlib.Core.List.{List, [], _∷_, _++_, append-assoc}
 use Prim.Native.Nat.{ℕ, _+_, _-_, _≤_, _<_}
 use native.Mathlib.Omega.{arith}
@@ -29,8 +29,8 @@ use Rattle.judge.specs.declared.Answer.{Answer}
 use Rattle.judge.specs.declared.Verdict.{Verdict}
 use Rattle.judge.specs.Judged.{replyOf}
 use Rattle.judge.specs.Verdict.{answerOf, Decided}
-use Rattle.serve.specs.Serving.{Sized, Obeyed, EndsAs, Answered}
-use Rattle.serve.proofs.Recording.{size-is}
+use Rattle.serve.specs.Serving.{Sized, Few, Obeyed, EndsAs, Answered}
+use Rattle.serve.proofs.Recording.{size-is, judged-few}
 use Rattle.serve.proofs.Carrying.{carried-step}
 
 -- a chain, and one step more
@@ -46,6 +46,10 @@ report-more r x rep₀ h =
     write-is (r ++ drop (length r) rep₀) (length r) x (omega arith)
     ∙ (λ i. take-append-seam r (drop (length r) rep₀) i ++ (x ++ (drop-append-add r (drop (length r) rep₀) (length x) ∙ drop-drop (length x) (length r) rep₀) i))
     ∙ sym (append-assoc r x (drop (length r + length x) rep₀))
+
+-- a list has few entries
+pub turn-few : (v : Verdict) (a : Answer) (c : Command) (t w : List ℕ) → a ≡ answerOf v → Decided v c t w → Few a
+turn-few v a c t w ha d = subst⁻¹ Few ha (judged-few (answerOf v) c t w (d .judged))
 
 -- the record has room
 pub turn-fits : (v : Verdict) (a : Answer) (t w : List ℕ) (n written size : ℕ) → written ≤ n → a ≡ answerOf v → Sized a size → size ≤ n - written

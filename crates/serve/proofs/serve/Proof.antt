@@ -2,8 +2,8 @@ use borrow.Author.Needs.{needs}
 use mathlib.Core.Path.{_≡_}
 use Prim.Native.Nat.{_-_}
 use lib.ListN.{length}
-use Rattle.serve.proofs.Recording.{judged-few}
-use Rattle.serve.proofs.Turns.{Serving, serving-none, serving-sound, serving-fits, turn-fits, turn-room, ended-all, ended-unknown, ended-cut, ended-full, fewer-left, serving-one}
+use Rattle.serve.proofs.Carrying.{decided-found, decided-row}
+use Rattle.serve.proofs.Turns.{Serving, turn-few, serving-none, serving-sound, serving-fits, turn-fits, turn-room, ended-all, ended-unknown, ended-cut, ended-full, fewer-left, serving-one}
 use Rattle.serve.proofs.serve.Statement.{statement}
 use Rattle.serve.proofs.serve.Tie as tie
 
@@ -79,8 +79,11 @@ enum-known-p c = search needs
 judge-requires : tie.Need-judge-requires Inv-loop μ-loop
 judge-requires c κs = (search (needs, serving-sound), search needs)
 
+reply-requires : tie.Need-reply-requires Inv-loop μ-loop
+reply-requires c κs = search needs
+
 size-requires : tie.Need-size-requires Inv-loop μ-loop
-size-requires c κs = search (needs, judged-few)
+size-requires c κs = search (needs, turn-few)
 
 sub-if1 : tie.Need-sub-if1 Inv-loop μ-loop
 sub-if1 c = search (needs, serving-fits)
@@ -104,7 +107,7 @@ add-upto : tie.Need-add-upto Inv-loop μ-loop
 add-upto c = search (needs, turn-room, serving-fits)
 
 obey-requires : tie.Need-obey-requires Inv-loop μ-loop
-obey-requires c κs = (search (needs, serving-sound), search needs, search needs, search (needs, turn-fits, serving-fits))
+obey-requires c κs = ((search (needs, serving-sound), search needs), (search (needs, decided-found), search (needs, decided-row), search (needs, turn-fits, serving-fits)))
 
 loop-less : tie.Need-loop-less Inv-loop μ-loop
 loop-less c = search (needs, fewer-left)
@@ -140,6 +143,7 @@ serve-spec =
     returns-3
     enum-known-p
     judge-requires
+    reply-requires
     size-requires
     sub-if1
     ended-requires-4
