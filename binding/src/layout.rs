@@ -13,8 +13,10 @@ pub const TABLE_LEN: usize = 32_768;
 pub const WORK_LEN: usize = 8_192;
 pub const MOST_SITES: usize = 512;
 
-/// Where the layout's number stands and what it is; none where the layout has no number.
-pub const LAYOUT: Option<(usize, u16)> = None;
+/// The layout's own number: a table with another one is of another layout.
+pub const LAYOUT_NUMBER: u16 = 1;
+/// What releases before 0.6.0 left there; all else stood where it stands now.
+pub const UNNUMBERED: u16 = 0;
 
 /// The header's words.
 pub const SITES_HELD: usize = 0;
@@ -22,10 +24,8 @@ pub const LEG_FLAG: usize = 2;
 /// Easting and northing of S, then of E.
 pub const LEG_WORDS: [usize; 4] = [4, 6, 8, 10];
 pub const ENTRIES_LISTED: usize = 12;
-pub const HEADER_KEPT: Range<usize> = match LAYOUT {
-    None => 14..64,
-    Some((at, _)) => at + 2..64,
-};
+pub const LAYOUT: usize = 14;
+pub const HEADER_KEPT: Range<usize> = 16..64;
 
 pub const SITE_ARRAY: usize = 64;
 pub const RECORD_LEN: usize = 8;
@@ -118,9 +118,7 @@ pub fn entries(table: &[u8], node: usize) -> impl Iterator<Item = Entry> + '_ {
 /// The bytes that laying out writes.
 pub fn empty_table() -> Vec<u8> {
     let mut table = vec![0; TABLE_LEN];
-    if let Some((at, layout)) = LAYOUT {
-        put_word(&mut table, at, layout);
-    }
+    put_word(&mut table, LAYOUT, LAYOUT_NUMBER);
     put_number(&mut table, FREE_NODES, MOST_NODES);
     for k in 0..MOST_NODES {
         put_number(&mut table, free_at(k), k);

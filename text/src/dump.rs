@@ -7,8 +7,18 @@ use crate::command::Command;
 use crate::desk::Desk;
 use crate::service::Service;
 use crate::status::{Failure, Met};
-use crate::table;
+use crate::{store, table};
+use binding::layout::{LAYOUT, LAYOUT_NUMBER, TABLE_LEN, UNNUMBERED, put_word, word};
+use std::ffi::OsStr;
 use std::io::Write;
+
+/// A service on a table that it takes, or took when layouts had no number yet.
+pub fn table_of(file: &OsStr, mut table: Vec<u8>) -> Result<Service, Failure> {
+    if table.len() == TABLE_LEN && word(&table, LAYOUT) == UNNUMBERED {
+        put_word(&mut table, LAYOUT, LAYOUT_NUMBER);
+    }
+    store::table_of(file, table)
+}
 
 pub fn dump<W: Write, E: Write>(service: &Service, desk: &mut Desk<W, E>) -> Result<Met, Failure> {
     let adds = table::sites(service.table()).into_iter().map(Command::Add);

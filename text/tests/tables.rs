@@ -319,6 +319,41 @@ fn a_dump_makes_the_same_lists_anew() {
     }
 }
 
+/// Before release 0.6.0 the layout's number was 0: not served, but told and dumped.
+#[test]
+fn a_table_without_a_layout_number_is_carried_over() {
+    let (file, old) = (table("numbered"), table("without a number"));
+    on(&file, &["--create"], STOPS);
+    let mut bytes = std::fs::read(&file).unwrap();
+    assert_eq!(bytes[14..16], [1, 0]);
+    bytes[14] = 0;
+    std::fs::write(&old, &bytes).unwrap();
+    let served = on(&old, &[], "print\n");
+    assert_eq!((served.code, served.text()), (5, ""));
+    let told = file_mode("--check", &old);
+    let what = "no number of a layout, as before release 0.6.0: --dump reads such";
+    let expected = format!(
+        "broken: the service refuses it with reason 65
+header: {what}, byte 14: 0 stands there, 1 belongs there
+sites that can still be read: 2
+add 1 2 3
+add 2 7 1
+"
+    );
+    assert_eq!((told.code, told.text()), (5, expected.as_str()));
+    let dump = file_mode("--dump", &old);
+    assert_eq!((dump.code, dump.text()), (0, STOPS));
+    assert!(std::fs::read(&old).unwrap() == bytes);
+    // A number that this release does not know, and a fault elsewhere.
+    for (at, byte) in [(14, 2), (15, 1), (20, 1)] {
+        let mut other = bytes.clone();
+        other[at] = byte;
+        std::fs::write(&old, &other).unwrap();
+        let dump = file_mode("--dump", &old);
+        assert_eq!((dump.code, dump.text()), (5, ""));
+    }
+}
+
 #[test]
 fn a_file_that_is_no_table() {
     let file = table("none");

@@ -1,4 +1,4 @@
--- The empty table: every byte below the stack of free nodes is 0, its tree is empty, and every node of the pool is free.
+-- The empty table: every byte below the stack of free nodes is 0 but for the layout's number, its tree is empty, and every node of the pool is free.
 -- Assumes nothing.
 use mathlib.Core.Path.{_≡_, refl, ap, _∙_}
 use mathlib.Core.List.{List, [], _∷_}
@@ -9,8 +9,8 @@ use mathlib.Core.Bool.{Bool, true, false, cond}
 use lib.Dec.{eqb}
 use borrow.Author.Tests.{ne-eqb}
 use lib.ListN.{length, getD, length-replicate, getD-replicate}
-use Rattle.limits.specs.Limits.{maxNodes, tableBytes}
-use Rattle.words.specs.Words.{wordAt, putWord}
+use Rattle.limits.specs.Limits.{maxNodes, tableBytes, layoutStart, layoutNumber}
+use Rattle.words.specs.Words.{wordAt, putWord, Only}
 use Rattle.words.proofs.Frame.{only-putWord, word-putWord, word-low, word-high}
 use Rattle.node.specs.declared.Root.{Root}
 use Rattle.node.specs.Layout.{treeStart, freeStart, stackStart, upTo}
@@ -19,37 +19,60 @@ use Rattle.node.specs.Header.{rootOf, rootIn}
 use Rattle.node.specs.Tally.{total, hit, tally}
 use Rattle.node.proofs.Counting.{upTo-low, hit-eq}
 use Rattle.rtree.specs.Rooted.{treeLeaves, treeNodes, RootSound, Rooted, leavesIn}
-use Rattle.empty_table.specs.EmptyTable.{zeros, stacked, emptyTable}
+use Rattle.empty_table.specs.EmptyTable.{zeros, stacked, numbered, emptyTable}
 use Rattle.empty_table.proofs.Laying.{stacked-length}
+
+-- the layout's number alone
+numbered-only : Only layoutStart (layoutStart + 2) (zeros tableBytes) numbered
+unfolding numbered
+numbered-only = only-putWord (zeros tableBytes) layoutStart layoutNumber
+
+stacked-numbered : length (stacked maxNodes numbered) ≡ tableBytes
+stacked-numbered = stacked-length maxNodes numbered ∙ numbered-only .len ∙ length-replicate {A = ℕ} tableBytes 0
 
 pub empty-length : length emptyTable ≡ tableBytes
 unfolding emptyTable
-empty-length =
-    only-putWord (stacked maxNodes (zeros tableBytes)) freeStart maxNodes .len ∙ stacked-length maxNodes (zeros tableBytes)
-    ∙ length-replicate {A = ℕ} tableBytes 0
+empty-length = only-putWord (stacked maxNodes numbered) freeStart maxNodes .len ∙ stacked-numbered
 
 stacked-low : (k : ℕ) (b : List ℕ) (i : ℕ) → i < stackStart → getD (stacked k b) i 0 ≡ getD b i 0
 unfolding stacked
 stacked-low zero b i h = refl
 stacked-low (suc k) b i h = only-putWord (stacked k b) (stackStart + 2 * k) k .low i (omega arith) ∙ stacked-low k b i h
 
--- EVERY BYTE BELOW THE STACK is 0
-pub empty-low : (i : ℕ) → i < freeStart → getD emptyTable i 0 ≡ 0
+-- below the stack nothing but the layout's number is written
+below-stack : (i : ℕ) → i < freeStart → getD emptyTable i 0 ≡ getD numbered i 0
 unfolding emptyTable
-empty-low i h =
-    only-putWord (stacked maxNodes (zeros tableBytes)) freeStart maxNodes .low i h
-    ∙ stacked-low maxNodes (zeros tableBytes) i (omega arith)
-    ∙ getD-replicate {A = ℕ} tableBytes i 0 0 (omega arith)
+below-stack i h = only-putWord (stacked maxNodes numbered) freeStart maxNodes .low i h ∙ stacked-low maxNodes numbered i (omega arith)
 
--- every number below it too
-pub empty-word : (i : ℕ) → i + 2 ≤ freeStart → wordAt emptyTable i ≡ 0
+no-byte : (i : ℕ) → i < freeStart → getD (zeros tableBytes) i 0 ≡ 0
+no-byte i h = getD-replicate {A = ℕ} tableBytes i 0 0 (omega arith)
+
+-- EVERY BYTE BELOW THE STACK is 0: those before the layout's number,
+pub empty-low : (i : ℕ) → i < layoutStart → getD emptyTable i 0 ≡ 0
+empty-low i h = below-stack i (omega arith) ∙ numbered-only .low i h ∙ no-byte i (omega arith)
+
+-- and those behind it
+pub empty-behind : (i : ℕ) → layoutStart + 2 ≤ i → i < freeStart → getD emptyTable i 0 ≡ 0
+empty-behind i l h = below-stack i h ∙ numbered-only .high i l ∙ no-byte i h
+
+-- every number before it too
+pub empty-word : (i : ℕ) → i + 2 ≤ layoutStart → wordAt emptyTable i ≡ 0
 unfolding wordAt
 empty-word i h = omega (arith, empty-low i (omega arith), empty-low (i + 1) (omega arith))
 
+-- THE LAYOUT'S NUMBER stands in its place
+pub empty-layout : wordAt emptyTable layoutStart ≡ layoutNumber
+unfolding wordAt numbered
+empty-layout =
+    let s : wordAt numbered layoutStart ≡ layoutNumber = word-putWord (zeros tableBytes) layoutStart layoutNumber (omega (arith, length-replicate {A = ℕ} tableBytes 0)) in
+    omega (arith, s, below-stack layoutStart (omega arith), below-stack (layoutStart + 1) (omega arith))
+
 -- THE TREE IS EMPTY
 pub empty-root : rootIn emptyTable ≡ Root.Empty
-unfolding rootIn rootOf
-empty-root = rw (empty-word treeStart (omega arith))
+unfolding rootIn rootOf wordAt
+empty-root =
+    let w : wordAt emptyTable treeStart ≡ 0 = omega (arith, empty-behind treeStart (omega arith) (omega arith), empty-behind (treeStart + 1) (omega arith) (omega arith)) in
+    rw w
 
 -- the ids of the nodes below k, the last one first
 unfoldable below : ℕ → List ℕ
@@ -75,12 +98,12 @@ numbers-below b (suc k) h = rw (h k (omega arith), numbers-below b k (λ j l. h 
 empty-free : free emptyTable ≡ below maxNodes
 unfolding free emptyTable
 empty-free =
-    let s : length (stacked maxNodes (zeros tableBytes)) ≡ tableBytes = stacked-length maxNodes (zeros tableBytes) ∙ length-replicate {A = ℕ} tableBytes 0 in
-    let w : wordAt emptyTable freeStart ≡ maxNodes = word-putWord (stacked maxNodes (zeros tableBytes)) freeStart maxNodes (omega arith) in
+    let s = stacked-numbered in
+    let w : wordAt emptyTable freeStart ≡ maxNodes = word-putWord (stacked maxNodes numbered) freeStart maxNodes (omega arith) in
     let u : upTo maxNodes (wordAt emptyTable freeStart) ≡ maxNodes = ap (upTo maxNodes) w ∙ upTo-low maxNodes maxNodes (omega arith) in
     ap (numbers emptyTable stackStart) u
-    ∙ numbers-below emptyTable maxNodes (λ j h. word-high (only-putWord (stacked maxNodes (zeros tableBytes)) freeStart maxNodes) (stackStart + 2 * j) (omega arith)
-    ∙ stacked-at maxNodes (zeros tableBytes) (length-replicate {A = ℕ} tableBytes 0) (omega arith) j h)
+    ∙ numbers-below emptyTable maxNodes (λ j h. word-high (only-putWord (stacked maxNodes numbered) freeStart maxNodes) (stackStart + 2 * j) (omega arith)
+    ∙ stacked-at maxNodes numbered (numbered-only .len ∙ length-replicate {A = ℕ} tableBytes 0) (omega arith) j h)
 
 below-length : (k : ℕ) → length (below k) ≡ k
 unfolding below

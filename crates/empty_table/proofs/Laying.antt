@@ -8,11 +8,11 @@ use native.Mathlib.Numerals.{add-one}
 use lib.ListN.{length, set, drop}
 use lib.Seq.{drop-length}
 use borrow.Author.Fill.{fill-more}
-use Rattle.limits.specs.Limits.{maxNodes, tableBytes}
+use Rattle.limits.specs.Limits.{maxNodes, tableBytes, layoutStart, layoutNumber}
 use Rattle.words.specs.Words.{putWord}
 use Rattle.words.proofs.Frame.{only-putWord}
 use Rattle.node.specs.Layout.{freeStart, stackStart}
-use Rattle.empty_table.specs.EmptyTable.{zeros, stacked, emptyTable}
+use Rattle.empty_table.specs.EmptyTable.{zeros, stacked, numbered, emptyTable}
 
 -- i bytes of d are set to 0
 pub clear-next : (d b : List ℕ) (i : ℕ) → b ≡ zeros i ++ drop i d → i < length b → length b ≡ length d → set b i 0 ≡ zeros (i + 1) ++ drop (i + 1) d
@@ -50,7 +50,10 @@ stacking-one b₀ k b b′ s h e =
 pub stacking-all : (b₀ : List ℕ) (k : ℕ) (b : List ℕ) → Stacking b₀ k b → maxNodes ≤ k → b ≡ stacked maxNodes b₀
 stacking-all b₀ k b s h = let e : k ≡ maxNodes = omega (arith, s .within) in s .so-far ∙ ap (λ (j : ℕ). stacked j b₀) e
 
--- all three steps
-pub laid : (b b₁ b₂ b₃ : List ℕ) → length b ≡ tableBytes → b₁ ≡ zeros (length b) → b₂ ≡ stacked maxNodes b₁ → b₃ ≡ putWord b₂ freeStart maxNodes → b₃ ≡ emptyTable
-unfolding emptyTable
-laid b b₁ b₂ b₃ h e₁ e₂ e₃ = e₃ ∙ ap (λ (x : List ℕ). putWord x freeStart maxNodes) (e₂ ∙ ap (stacked maxNodes) (e₁ ∙ ap zeros h))
+-- all four steps
+pub laid : (b b₁ b₂ b₃ b₄ : List ℕ) → length b ≡ tableBytes → b₁ ≡ zeros (length b) → b₂ ≡ putWord b₁ layoutStart layoutNumber → b₃ ≡ stacked maxNodes b₂
+    → b₄ ≡ putWord b₃ freeStart maxNodes → b₄ ≡ emptyTable
+unfolding emptyTable numbered
+laid b b₁ b₂ b₃ b₄ h e₁ e₂ e₃ e₄ =
+    let n : b₂ ≡ numbered = e₂ ∙ ap (λ (x : List ℕ). putWord x layoutStart layoutNumber) (e₁ ∙ ap zeros h) in
+    e₄ ∙ ap (λ (x : List ℕ). putWord x freeStart maxNodes) (e₃ ∙ ap (stacked maxNodes) n)

@@ -1,10 +1,10 @@
--- What laying out writes: "The laying-out call writes an empty table with no standing leg." Every byte is fixed: zero, but for the stack of
--- free nodes, on which all nodes of the pool stand.
+-- What laying out writes: "The laying-out call writes an empty table with no standing leg." Every byte is fixed: zero, but for the layout's
+-- number and the stack of free nodes, on which all nodes of the pool stand.
 -- Assumes nothing.
 use mathlib.Core.List.{List}
 use Prim.Native.Nat.{ℕ, zero, suc, _+_, _*_}
 use lib.ListN.{replicate}
-use Rattle.limits.specs.Limits.{maxNodes, tableBytes}
+use Rattle.limits.specs.Limits.{maxNodes, tableBytes, layoutStart, layoutNumber}
 use Rattle.words.specs.Words.{putWord}
 use Rattle.node.specs.Layout.{freeStart, stackStart}
 
@@ -17,6 +17,10 @@ unfoldable pub stacked : ℕ → List ℕ → List ℕ
 stacked zero b = b
 stacked (suc k) b = putWord (stacked k b) (stackStart + 2 * k) k
 
+-- a table's bytes, all 0 but for the layout's number
+unfoldable pub numbered : List ℕ
+numbered = putWord (zeros tableBytes) layoutStart layoutNumber
+
 -- the empty table
 unfoldable pub emptyTable : List ℕ
-emptyTable = putWord (stacked maxNodes (zeros tableBytes)) freeStart maxNodes
+emptyTable = putWord (stacked maxNodes numbered) freeStart maxNodes

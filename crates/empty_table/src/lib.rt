@@ -33,6 +33,7 @@ pub fn lay(t: &mut [u8])
     ensures { λ _. ⌜ now (t .exit) ≡ emptyTable ⌝ }
 {
     clear(t);
+    words::put_word(t, limits::LAYOUT_START, limits::LAYOUT_NUMBER);
     stack_all(t);
     words::put_word(t, node::FREE_START, limits::MAX_NODES as u16);
 }

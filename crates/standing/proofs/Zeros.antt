@@ -7,6 +7,7 @@ use Prim.Native.Nat.{ℕ, _+_, _≤_, _<_}
 use native.Mathlib.Omega.{arith}
 use native.Mathlib.Decide.{decLt}
 use lib.ListN.{getD}
+use Rattle.limits.specs.Limits.{layoutStart, layoutNumber}
 use Rattle.words.specs.Words.{wordAt}
 use Rattle.grid.specs.Says.{Says}
 use Rattle.standing.specs.Layout.{flagStart, legStart, lengthStart, keptStart, keptEnd}
@@ -37,16 +38,16 @@ pub not-zero : (b : List ℕ) (lo hi i : ℕ) → Zeroing b lo hi i → i < hi �
 unfolding ZeroFrom
 not-zero b lo hi i z l h k = h (k i (z .from) l)
 
-module _ (b : List ℕ) (f : ℕ) (e : f ≡ wordAt b flagStart) where
-  pub leg-left : (q : Bool) → f ≡ 0 → Says q (ZeroFrom b legStart lengthStart) → q ≡ false → ¬ HeaderOk b
-  leg-left true z h x k = absurd (true≢false x)
-  leg-left false z h x k = h (k .unset (sym e ∙ z))
+pub leg-left : (b : List ℕ) (f : ℕ) (q : Bool) → f ≡ wordAt b flagStart → f ≡ 0 → Says q (ZeroFrom b legStart lengthStart) → q ≡ false → ¬ HeaderOk b
+leg-left b f true e z h x k = absurd (true≢false x)
+leg-left b f false e z h x k = h (k .unset (sym e ∙ z))
 
+module _ (b : List ℕ) (f n : ℕ) (a : n ≡ wordAt b layoutStart) (m : n ≡ layoutNumber) (e : f ≡ wordAt b flagStart) where
   pub unset-ok : (q r : Bool) → f ≡ 0 → Says q (ZeroFrom b legStart lengthStart) → q ≡ true → Says r (ZeroFrom b keptStart keptEnd) → Says r (HeaderOk b)
   unset-ok false r z h x k = absurd (true≢false (sym x))
-  unset-ok true true z h x k = record { flag = omega arith; unset = λ y. h; kept = k }
+  unset-ok true true z h x k = record { layout = sym a ∙ m; flag = omega arith; unset = λ y. h; kept = k }
   unset-ok true false z h x k = λ g. k (g .kept)
 
   pub set-ok : (r : Bool) → f ≤ 1 → (f ≡ 0 → ⊥) → Says r (ZeroFrom b keptStart keptEnd) → Says r (HeaderOk b)
-  set-ok true l nz k = record { flag = omega arith; unset = λ x. absurd (nz (e ∙ x)); kept = k }
+  set-ok true l nz k = record { layout = sym a ∙ m; flag = omega arith; unset = λ x. absurd (nz (e ∙ x)); kept = k }
   set-ok false l nz k = λ g. k (g .kept)

@@ -1,7 +1,7 @@
 -- Where the standing leg and the standing list stand in the table (docs/LAYOUT.md).
 -- Assumes nothing.
 use Prim.Native.Nat.{ℕ, _+_, _*_}
-use Rattle.limits.specs.Limits.{maxSites}
+use Rattle.limits.specs.Limits.{maxSites, layoutStart}
 
 -- 1 where a standing leg is set, else 0
 abbrev pub flagStart : ℕ
@@ -15,9 +15,9 @@ legStart = 4
 abbrev pub lengthStart : ℕ
 lengthStart = 12
 
--- header bytes that are kept for later
+-- header bytes that are kept for later, behind the layout's number
 abbrev pub keptStart : ℕ
-keptStart = 14
+keptStart = layoutStart + 2
 
 -- where they end
 abbrev pub keptEnd : ℕ

@@ -8,6 +8,7 @@ use mathlib.Core.Bool.{cond}
 use Prim.Native.Nat.{ℕ, zero, suc, _+_, _*_, _≤_, _<_}
 use lib.ListN.{length, getD}
 use lib.Dec.{eqb}
+use Rattle.limits.specs.Limits.{layoutStart, layoutNumber}
 use Rattle.words.specs.Words.{wordAt, putWord, Only}
 use Rattle.grid.specs.declared.Position.{Position}
 use Rattle.grid.specs.declared.Leg.{Leg}
@@ -47,8 +48,9 @@ numbersOf (e ∷ es) = e .site .number ∷ numbersOf es
 unfoldable pub ZeroFrom : List ℕ → ℕ → ℕ → Type 0
 ZeroFrom b lo hi = (i : ℕ) → lo ≤ i → i < hi → getD b i 0 ≡ 0
 
--- the layout of the header: the flag is 0 or 1, without a leg its words are 0, and what is kept for later is 0
+-- the layout of the header: its number is this layout's, the flag is 0 or 1, without a leg its words are 0, and what is kept for later is 0
 pub record HeaderOk (b : List ℕ) : Type 0 where
+  pub layout : wordAt b layoutStart ≡ layoutNumber
   pub flag : wordAt b flagStart ≤ 1
   pub unset : wordAt b flagStart ≡ 0 → ZeroFrom b legStart lengthStart
   pub kept : ZeroFrom b keptStart keptEnd
@@ -78,5 +80,5 @@ pub record ListStored (es : List Entry) (b b′ : List ℕ) : Type 0 where
   pub len : length b′ ≡ length b
   pub list : standingIn b′ ≡ numbersOf es
   pub low : (i : ℕ) → i < lengthStart → getD b′ i 0 ≡ getD b i 0
-  pub between : (i : ℕ) → keptStart ≤ i → i < listStart → getD b′ i 0 ≡ getD b i 0
+  pub between : (i : ℕ) → layoutStart ≤ i → i < listStart → getD b′ i 0 ≡ getD b i 0
   pub high : (i : ℕ) → listEnd ≤ i → getD b′ i 0 ≡ getD b i 0

@@ -22,7 +22,7 @@ const LEG_START: usize = 4;
 
 pub const LENGTH_START: usize = 12;
 
-const KEPT_START: usize = 14;
+const KEPT_START: usize = limits::LAYOUT_START + 2;
 
 const KEPT_END: usize = 64;
 
@@ -94,6 +94,10 @@ pub fn header_ok(t: &[u8]) -> bool
     requires { ⌜ length (now t) ≡ tableBytes ⌝ }
     ensures { λ r. ⌜ Says r (HeaderOk (now (t .entry))) ⌝ }
 {
+    let layout = words::word(t, limits::LAYOUT_START);
+    if layout != limits::LAYOUT_NUMBER {
+        return false;
+    }
     let flag = words::word(t, FLAG_START);
     if 1 < flag {
         return false;

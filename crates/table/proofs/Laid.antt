@@ -17,7 +17,7 @@ use Rattle.standing.specs.Layout.{flagStart, lengthStart, listStart}
 use Rattle.standing.specs.Standing.{legIn, wordsFrom, standingIn, numbersOf, ZeroFrom, HeaderOk}
 use Rattle.node.specs.Tally.{total}
 use Rattle.empty_table.specs.EmptyTable.{emptyTable}
-use Rattle.empty_table.proofs.EmptyTree.{empty-length, empty-low, empty-word, empty-rooted, empty-leaves}
+use Rattle.empty_table.proofs.EmptyTree.{empty-length, empty-low, empty-behind, empty-word, empty-layout, empty-rooted, empty-leaves}
 use Rattle.tree_check.specs.Sites.{leafList}
 use Rattle.node.specs.Node.{firsts}
 use Rattle.table.specs.Table.{bookOf, Sound}
@@ -52,9 +52,10 @@ laid-header : HeaderOk emptyTable
 unfolding ZeroFrom
 laid-header =
     record {
+      layout = empty-layout;
       flag = omega (arith, empty-word flagStart (omega arith));
       unset = λ z i l u. empty-low i (omega arith);
-      kept = λ i l u. empty-low i (omega arith);
+      kept = λ i l u. empty-behind i l (omega arith);
     }
 
 no-list : standingIn emptyTable ≡ []

@@ -5,14 +5,14 @@ use mathlib.Core.List.{List, _∷_, List·Memᴰ}
 use Prim.Native.Nat.{ℕ, zero, suc, _+_, _*_, _≤_, _<_}
 use native.Mathlib.Omega.{arith}
 use lib.ListN.{getD}
-use Rattle.limits.specs.Limits.{maxSites}
+use Rattle.limits.specs.Limits.{maxSites, layoutStart}
 use Rattle.words.specs.Words.{wordAt}
 use Rattle.grid.specs.declared.Site.{Site}
 use Rattle.row.specs.Places.{siteAtByte}
 use Rattle.sites.specs.Layout.{siteStart, recordStart, siteEnd}
 use Rattle.sites.specs.Lines.{countIn, lineAt, linesFrom, linesIn, SpareZero}
 use Rattle.sites.specs.Rules.{SitesOk}
-use Rattle.standing.specs.Layout.{flagStart, legStart, lengthStart, keptStart, keptEnd, listStart, listEnd}
+use Rattle.standing.specs.Layout.{flagStart, legStart, lengthStart, keptEnd, listStart, listEnd}
 use Rattle.standing.specs.Standing.{positionWords, legIn, wordsFrom, standingIn, ZeroFrom, HeaderOk}
 
 -- the bytes from lo up to hi are the same
@@ -81,18 +81,19 @@ words-same b b′ s i zero l h = refl
 words-same b b′ s i (suc n) l h =
     ap₂ (λ (x : ℕ) (y : List ℕ). x ∷ y) (word-same b b′ s i l (omega arith)) (words-same b b′ s (i + 2) n (omega arith) (omega arith))
 
-pub list-same : (b b′ : List ℕ) → Same lengthStart keptStart b b′ → Same listStart listEnd b b′ → wordAt b lengthStart ≤ maxSites → standingIn b′ ≡ standingIn b
+pub list-same : (b b′ : List ℕ) → Same lengthStart layoutStart b b′ → Same listStart listEnd b b′ → wordAt b lengthStart ≤ maxSites → standingIn b′ ≡ standingIn b
 unfolding standingIn
 list-same b b′ c s few =
     ap (wordsFrom b′ listStart) (word-same b b′ c lengthStart (omega arith) (omega arith))
     ∙ words-same b b′ s listStart (wordAt b lengthStart) (omega arith) (omega arith)
 
 -- the header's layout
-pub header-same : (b b′ : List ℕ) → Same flagStart lengthStart b b′ → Same keptStart keptEnd b b′ → HeaderOk b → HeaderOk b′
+pub header-same : (b b′ : List ℕ) → Same flagStart lengthStart b b′ → Same layoutStart keptEnd b b′ → HeaderOk b → HeaderOk b′
 unfolding ZeroFrom
 header-same b b′ s k h =
     record {
+      layout = word-same b b′ k layoutStart (omega arith) (omega arith) ∙ h .layout;
       flag = omega (arith, word-same b b′ s flagStart (omega arith) (omega arith), h .flag);
       unset = λ z i l u. s i (omega arith) u ∙ h .unset (sym (word-same b b′ s flagStart (omega arith) (omega arith)) ∙ z) i l u;
-      kept = λ i l u. k i l u ∙ h .kept i l u;
+      kept = λ i l u. k i (omega arith) u ∙ h .kept i l u;
     }

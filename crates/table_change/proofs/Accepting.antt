@@ -5,7 +5,9 @@ use mathlib.Core.Bool.{false}
 use mathlib.Core.List.{List}
 use Prim.Native.Nat.{ℕ}
 use native.Mathlib.Omega.{arith}
+use Rattle.limits.specs.Limits.{layoutStart}
 use Rattle.words.specs.Words.{Only}
+use Rattle.words.proofs.Frame.{word-high}
 use Rattle.grid.specs.declared.Position.{Position}
 use Rattle.grid.specs.declared.Site.{Site}
 use Rattle.grid.specs.declared.Leg.{Leg}
@@ -86,6 +88,7 @@ module _ (b b₁ : List ℕ) (l : Leg) (s : Sound b) (on : LegOnGrid l) (st : Le
         len = st .only .len ∙ s .whole .len;
         sites = sites-same b b₁ (λ i x h. st .only .low i h) (λ i x h. st .only .high i (omega arith)) (s .whole .sites);
         header = record {
+          layout = word-high (st .only) layoutStart (omega arith) ∙ s .whole .header .layout;
           flag = omega (arith, st .flag);
           unset = λ z. absurd (omega (arith, st .flag));
           kept = λ i x h. st .only .high i (omega arith) ∙ s .whole .header .kept i x h;

@@ -6,8 +6,8 @@
 mod tree;
 
 use crate::bytes::{
-    ENTRIES_LISTED, FAR_EDGE, HEADER_KEPT, LAYOUT, LEG_FLAG, LEG_WORDS, LEVELS, MOST_SITES, Record,
-    SITES_HELD, TABLE_LEN, leg, listed, number, records, sites, word,
+    ENTRIES_LISTED, FAR_EDGE, HEADER_KEPT, LAYOUT, LAYOUT_NUMBER, LEG_FLAG, LEG_WORDS, LEVELS,
+    MOST_SITES, Record, SITES_HELD, TABLE_LEN, leg, listed, number, records, sites, word,
 };
 use reference::book::Book;
 use std::collections::BTreeSet;
@@ -92,8 +92,7 @@ pub fn broken_rules(table: &[u8]) -> Vec<Rule> {
         table[HEADER_KEPT].iter().all(|byte| *byte == 0),
         Rule::HeaderKeptZero,
     );
-    let layout = LAYOUT.is_none_or(|(at, number)| word(table, at) == number);
-    broken.unless(layout, Rule::LayoutNumber);
+    broken.unless(word(table, LAYOUT) == LAYOUT_NUMBER, Rule::LayoutNumber);
     site_rules(table, &mut broken);
     leg_rules(table, &mut broken);
     // A list is that of sites and a leg that can be read.

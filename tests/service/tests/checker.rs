@@ -5,9 +5,9 @@ use reference::command::{add, stand};
 use reference::grid::{Leg, MOST_SITES, Site};
 use reference::random::Random;
 use service::bytes::{
-    ENTRIES_LISTED, FAR_EDGE, FREE_NODES, HEADER_KEPT, LAYOUT, LEG_FLAG, LEG_WORDS, LEVELS,
-    RECORD_LEN, ROOT, SITE_ARRAY, SITES_HELD, empty_table, entry_at, free_at, listed_at, node_at,
-    number, put_number, put_word, record_at, word,
+    ENTRIES_LISTED, FAR_EDGE, FREE_NODES, HEADER_KEPT, LAYOUT, LAYOUT_NUMBER, LEG_FLAG, LEG_WORDS,
+    LEVELS, RECORD_LEN, ROOT, SITE_ARRAY, SITES_HELD, empty_table, entry_at, free_at, listed_at,
+    node_at, number, put_number, put_word, record_at, word,
 };
 use service::draw::Pool;
 use service::shape::{self, Dealing};
@@ -73,11 +73,11 @@ fn one_site_and_a_leg_stand_where_the_layout_says() {
     let commands = [add(Site::new(513, 2, -3)), stand(leg)].concat();
     let answer = Model.batch(&mut table, &mut [1; 8_192], &commands, &mut [0; 2]);
     assert_eq!(answer, (0, 16, 2));
-    // 1 site, a leg, (8000,8000) to (8010,7990), 1 entry.
+    // 1 site, a leg, (8000,8000) to (8010,7990), 1 entry, layout 1.
     let header = [
-        1, 0, 1, 0, 0x40, 0x1F, 0x40, 0x1F, 0x4A, 0x1F, 0x36, 0x1F, 1, 0,
+        1, 0, 1, 0, 0x40, 0x1F, 0x40, 0x1F, 0x4A, 0x1F, 0x36, 0x1F, 1, 0, 1, 0,
     ];
-    assert_eq!(table[..14], header);
+    assert_eq!(table[..16], header);
     assert!(table[HEADER_KEPT].iter().all(|byte| *byte == 0));
     // Site 513 at (8002,7997).
     let record = [0x01, 0x02, 0x42, 0x1F, 0x3D, 0x1F, 0, 0];
@@ -135,8 +135,11 @@ fn rules_on_header_and_sites_are_named() {
     let kept = edited(|t, _| t[HEADER_KEPT.start] = 1);
     assert_eq!(kept, [Rule::HeaderKeptZero]);
     assert_eq!(edited(|t, _| t[63] = 128), [Rule::HeaderKeptZero]);
-    if let Some((at, layout)) = LAYOUT {
-        let other = edited(|t, _| put_word(t, at, layout + 1));
+    for number in (0..=u16::MAX)
+        .filter(|number| *number != LAYOUT_NUMBER)
+        .step_by(255)
+    {
+        let other = edited(|t, _| put_word(t, LAYOUT, number));
         assert_eq!(other, [Rule::LayoutNumber]);
     }
     let kept = edited(|t, _| t[record_at(39) + 7] = 1);

@@ -1,8 +1,9 @@
 //! docs/LAYOUT.md and the crate that reads tables have the same numbers.
 
 use service::bytes::{
-    ENTRIES_LISTED, FREE_NODES, LEG_FLAG, LEG_WORDS, LEVELS, NODE_LEN, NODE_POOL, RECORD_LEN, ROOT,
-    SITE_ARRAY, SITES_HELD, STACK, STACK_END, STANDING_LIST, TABLE_LEN,
+    ENTRIES_LISTED, FREE_NODES, HEADER_KEPT, LAYOUT, LAYOUT_NUMBER, LEG_FLAG, LEG_WORDS, LEVELS,
+    NODE_LEN, NODE_POOL, RECORD_LEN, ROOT, SITE_ARRAY, SITES_HELD, STACK, STACK_END, STANDING_LIST,
+    TABLE_LEN,
 };
 use std::path::Path;
 
@@ -69,6 +70,8 @@ fn the_words_stand_where_the_code_reads_them() {
     ];
     assert_eq!(leg.map(at), LEG_WORDS);
     assert_eq!(at("number of entries of the standing list"), ENTRIES_LISTED);
+    assert_eq!(at("number of the layout"), LAYOUT);
+    assert_eq!(at("kept for later"), HEADER_KEPT.start);
     assert_eq!(at("number of levels"), LEVELS);
     assert_eq!(at("id of the root node"), ROOT);
     assert_eq!(at("number of free nodes"), FREE_NODES);
@@ -79,4 +82,17 @@ fn the_words_stand_where_the_code_reads_them() {
     );
     assert!(text.contains(&record) && text.contains(&node));
     assert_eq!(NODE_POOL, 6_896);
+}
+
+#[test]
+fn the_last_layout_listed_is_the_one_that_the_code_writes() {
+    let text = text();
+    let (_, listed) = text.split_once("## Layout numbers").unwrap();
+    let (listed, _) = listed.split_once("\n## ").unwrap();
+    let numbers: Vec<usize> = rows(listed, number).iter().map(|(n, _)| *n).collect();
+    let last = usize::from(LAYOUT_NUMBER);
+    assert_eq!(numbers, (0..=last).collect::<Vec<_>>());
+    assert!(text.contains(&format!(
+        "then {last} to the word at {LAYOUT}, 264 to the word at 5,188"
+    )));
 }

@@ -1,15 +1,17 @@
 //! The header's number of the layout and the bytes kept for later.
 
 use super::fault::Fault;
-use binding::layout::{HEADER_KEPT, LAYOUT, word};
+use binding::layout::{HEADER_KEPT, LAYOUT, LAYOUT_NUMBER, UNNUMBERED, word};
 
 pub fn faults(table: &[u8]) -> Vec<Fault> {
     let mut faults = Vec::new();
-    if let Some((at, layout)) = LAYOUT
-        && word(table, at) != layout
-    {
-        let what = "the number of another layout: this release cannot read it";
-        faults.push(Fault::at(table, at, "header", what).belongs(layout));
+    let other = match word(table, LAYOUT) {
+        LAYOUT_NUMBER => None,
+        UNNUMBERED => Some("no number of a layout, as before release 0.6.0: --dump reads such"),
+        _ => Some("the number of another layout: this release cannot read it"),
+    };
+    if let Some(what) = other {
+        faults.push(Fault::at(table, LAYOUT, "header", what).belongs(LAYOUT_NUMBER));
     }
     for at in HEADER_KEPT.step_by(2) {
         if word(table, at) != 0 {

@@ -3,9 +3,9 @@
 use super::faults;
 use crate::service::Service;
 use binding::layout::{
-    ENTRIES_LISTED, FREE_NODES, HEADER_KEPT, LAYOUT, LEG_FLAG, LEVELS, MOST_LEVELS, ROOT,
-    SITES_HELD, STACK_END, TABLE_LEN, entry_at, free_at, listed_at, node_at, number, put_number,
-    put_word, record_at, word,
+    ENTRIES_LISTED, FREE_NODES, HEADER_KEPT, LAYOUT, LAYOUT_NUMBER, LEG_FLAG, LEVELS, MOST_LEVELS,
+    ROOT, SITES_HELD, STACK_END, TABLE_LEN, entry_at, free_at, listed_at, node_at, number,
+    put_number, put_word, record_at, word,
 };
 use reference::book::Book;
 use reference::command::{add, stand};
@@ -167,14 +167,16 @@ fn rules_on_header_and_sites() {
             HEADER_KEPT.start
         )]
     );
-    if let Some((at, layout)) = LAYOUT {
-        let other = edited(|t, _, _| put_word(t, at, layout + 1));
-        let what = "the number of another layout: this release cannot read it";
-        let (stands, belongs) = (layout + 1, layout);
+    let unnumbered = "no number of a layout, as before release 0.6.0: --dump reads such";
+    let unknown = "the number of another layout: this release cannot read it";
+    for number in [0, 2, 256, 257, u16::MAX] {
+        assert_ne!(number, LAYOUT_NUMBER);
+        let what = if number == 0 { unnumbered } else { unknown };
+        let stands = super::grouped(number.into());
         assert_eq!(
-            other,
+            edited(|t, _, _| put_word(t, LAYOUT, number)),
             [format!(
-                "header: {what}, byte {at}: {stands} stands there, {belongs} belongs there"
+                "header: {what}, byte 14: {stands} stands there, 1 belongs there"
             )]
         );
     }

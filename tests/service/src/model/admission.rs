@@ -3,8 +3,8 @@
 
 use crate::bytes::{
     self, ENTRIES_LISTED, Entry, FEWEST_ENTRIES, FEWEST_IN_ROOT, FREE_NODES, HEADER_KEPT, LAYOUT,
-    LEG_FLAG, LEG_WORDS, LEVELS, MOST_ENTRIES, MOST_LEVELS, MOST_NODES, ROOT, SITES_HELD, free_at,
-    leg, listed, node_at, number, position, sites, word,
+    LAYOUT_NUMBER, LEG_FLAG, LEG_WORDS, LEVELS, MOST_ENTRIES, MOST_LEVELS, MOST_NODES, ROOT,
+    SITES_HELD, free_at, leg, listed, node_at, number, position, sites, word,
 };
 use reference::grid::{MOST_SITES, Site};
 use reference::hull;
@@ -18,7 +18,7 @@ fn header(table: &[u8]) -> bool {
         && number(table, ENTRIES_LISTED) <= MOST_SITES
         && number(table, LEVELS) <= MOST_LEVELS
         && number(table, FREE_NODES) <= MOST_NODES;
-    let layout = LAYOUT.is_none_or(|(at, number)| word(table, at) == number);
+    let layout = word(table, LAYOUT) == LAYOUT_NUMBER;
     counts && layout && table[HEADER_KEPT].iter().all(|byte| *byte == 0)
 }
 
