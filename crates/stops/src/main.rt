@@ -1,4 +1,5 @@
 // The batch program: commands from standard input, reports to standard output. Document 01, "Legs to try", last paragraph.
+mod arguments;
 mod streams;
 
 use book::Reason;
@@ -187,6 +188,9 @@ fn end(reason: Reason) {
 }
 
 fn main() {
+    if arguments::answered() {
+        return;
+    }
     let mut table = [0u8; limits::TABLE_BYTES];
     let mut work = [0u8; limits::WORK_BYTES];
     let mut input = [0; 4096];

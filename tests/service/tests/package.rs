@@ -136,6 +136,8 @@ fn installed_used_and_taken_away() {
 
     let said = done(Command::new(prefix.join("bin/stops-text")).arg("--version"));
     assert_eq!(said, format!("stops-text {version}\n"));
+    let said = done(Command::new(prefix.join("bin/stops")).arg("--version"));
+    assert_eq!(said, format!("stops {version}\n"));
     manual_pages(&prefix.join("share/man"), &version);
     make(&at_root("."), &["uninstall", &option]);
     assert_eq!(files(&prefix), [""; 0]);

@@ -148,6 +148,54 @@ fn megabytes() {
     assert_eq!(output[output.len() - 2..], [0x2E, 0]);
 }
 
+/// What the program does with these arguments, and a command that it may leave unread.
+fn run_with(arguments: &[&str]) -> Output {
+    run(
+        Command::new(PROGRAM).args(arguments),
+        Stdio::piped(),
+        &print(),
+    )
+}
+
+#[test]
+fn the_version_is_that_of_the_header_and_the_changes() {
+    let root = Path::new(env!("CARGO_MANIFEST_DIR")).join("../..");
+    let text = |file: &str| std::fs::read_to_string(root.join(file)).unwrap();
+    let output = run_with(&["--version"]);
+    let line = str::from_utf8(&output.stdout).unwrap();
+    let version = line
+        .strip_prefix("stops ")
+        .unwrap()
+        .strip_suffix('\n')
+        .unwrap();
+    assert_eq!((said(&output), output.status.code()), ("", Some(0)));
+    assert!(text("include/stops.h").contains(&format!("#define STOPS_VERSION \"{version}\"\n")));
+    let changes = text("docs/CHANGELOG.md");
+    let newest = changes
+        .lines()
+        .find(|line| line.starts_with("## "))
+        .unwrap();
+    assert!(newest.starts_with(&format!("## {version}, ")), "{newest}");
+}
+
+#[test]
+fn any_other_argument_is_told_the_usage_and_no_end_mark() {
+    let long = "x".repeat(5_000);
+    for argument in [
+        "",
+        "-",
+        "--help",
+        "--versio",
+        "--versions",
+        "--Version",
+        &long,
+    ] {
+        let output = run_with(&[argument]);
+        let usage = "usage: stops < COMMANDS > RECORDS, or stops --version\n";
+        assert_eq!((said(&output), output.stdout.len()), (usage, 0));
+    }
+}
+
 // Streams that fail. A run that breaks off says why on standard error, once, and has no end mark.
 
 /// What a program does with this input, which it may leave unread.
