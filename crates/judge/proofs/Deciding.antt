@@ -31,6 +31,7 @@ use Rattle.standing.specs.declared.Standing.{Standing}
 use Rattle.standing.specs.Standing.{legIn, asOption}
 use Rattle.table.specs.Table.{bookOf, Sound}
 use Rattle.table.specs.Listing.{ListsTable}
+use Rattle.judge.specs.declared.Answer.{Answer}
 use Rattle.judge.specs.declared.Verdict.{Verdict}
 use Rattle.judge.specs.declared.change.Tested.{Tested}
 use Rattle.judge.specs.Verdict.{answerOf, Findings, IsOn, Decided, Settled, BadFor, TestedAs}
@@ -62,10 +63,10 @@ module _ (n : ℕ) (p : Position) (r : Tested) (h : TestedAs r n p) where
     good = subst (λ (y : Tested). TestedAs y n p) e h
 
     pub good-number : NumberOk s
-    good-number = good .1 .0
+    good-number = good .1
 
     pub good-grid : OnGrid (s .position)
-    good-grid = good .1 .1
+    good-grid = good .2
 
     pub good-add : (b : List ℕ) (v : Verdict) → Settled v (Add (s .number) (s .position)) b → Settled v (Add n p) b
     good-add b v x = subst (λ (y : Site). Settled v (Add (y .number) (y .position)) b) (good .0) x
@@ -210,3 +211,11 @@ module _ (b w : List ℕ) (v : Verdict) (c d : Command) (e : c ≡ d) where
 
   pub decided-same : Decided v d b w → Decided v c b w
   decided-same h = subst (λ (x : Command). Decided v x b w) (sym e) h
+
+-- ---- what a verdict is answered
+
+pub refuse-answer : (v : Verdict) (x : Cause) → v ≡ Verdict.Refuse x → Answer.Refused x ≡ answerOf v
+refuse-answer v x e = sym (ap answerOf e)
+
+pub show-answer : (v : Verdict) (l : Leg) (k : ℕ) → v ≡ Verdict.Show l k → Answer.Listed l k ≡ answerOf v
+show-answer v l k e = sym (ap answerOf e)

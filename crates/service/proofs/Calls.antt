@@ -64,14 +64,14 @@ module _ (t w w₁ : List ℕ) (a : Admission) (h : AdmittedAs a t w w₁) where
     taken = subst (λ (y : Admission). AdmittedAs y t w w₁) e h
 
     pub taken-sound : Sound t
-    taken-sound = taken .1 .0
+    taken-sound = taken .1
 
     pub taken-work : length w₁ ≡ workBytes
-    taken-work = taken .1 .1
+    taken-work = taken .2
 
     pub served-batch : (cs rep : List ℕ) (r : BatchResult) (t′ w′ rep′ : List ℕ) → Served (run cs (length rep) (bookOf t)) t rep (returnOf r) t′ w′ rep′
         → Batch t w cs rep (returnOf r) t′ w′ rep′
-    served-batch cs rep r t′ w′ rep′ v = served (taken .0) (taken .1 .0) v
+    served-batch cs rep r t′ w′ rep′ v = served (taken .0) (taken .1) v
 
   pub refused-batch : (cs rep : List ℕ) (r : BatchResult) (x : Reason) → a ≡ Admission.Refused x → returnOf r ≡ returns (reasonNumber x) 0 0
       → Batch t w cs rep (returnOf r) t w₁ rep
@@ -83,7 +83,7 @@ module _ (t w w₁ : List ℕ) (a : Admission) (h : AdmittedAs a t w w₁) where
       go : (y : Reason) → RefusedFor y t w w₁ → returnOf r ≡ returns (reasonNumber y) 0 0 → Batch t w cs rep (returnOf r) t w₁ rep
       go AllUsed f k = absurd f
       go WrongLength f k = wrong (f .0) (left 64 k) (f .1)
-      go Broken f k = broken (f .0) (f .1 .0) (left 65 k) (f .1 .1)
+      go Broken f k = broken (f .0) (f .1) (left 65 k) (f .2)
       go UnknownCommand f k = absurd f
       go CutShort f k = absurd f
       go NoRoom f k = absurd f

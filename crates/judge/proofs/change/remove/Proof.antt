@@ -9,11 +9,11 @@ returns c = search (needs, remove-zero)
 find-requires : tie.Need-find-requires
 find-requires c κs = search needs
 
+enum-known-found : tie.Need-enum-known-found
+enum-known-found c = search needs
+
 enum-told : tie.Need-enum-told
 enum-told c = search needs
-
-enum-told-2 : tie.Need-enum-told-2
-enum-told-2 c = search needs
 
 returns-2 : tie.Need-returns-2
 returns-2 c = search (needs, remove-done)
@@ -27,7 +27,7 @@ remove-spec =
     (tie.spec
     returns
     find-requires
+    enum-known-found
     enum-told
-    enum-told-2
     returns-2
     returns-3)
