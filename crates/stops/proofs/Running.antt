@@ -95,7 +95,7 @@ module _ (s₀ rep₀ t₀ t w s rep : List ℕ) (held turns : ℕ) (v : Running
             let f = subst (λ (x : Next). Follows (length s) (u .result .reason) (restOf (returnOf (u .result)) (take held s)) x s′) e g in
             record {
               calls = v .calls ++ (call ∷ []);
-              fed = more {held′ = take n s′} (v .fed) takes refl (u .moves) (rw (← v .input) (f .1));
+              fed = more {held′ = take n s′} (u .result .reason) (v .fed) takes refl (u .moves) (rw (← v .input) (f .1));
               made = calls-made;
               counted = omega (arith, v .counted, length-append (v .calls) (call ∷ []));
               sound = sound-after t w (take held s) rep (u .result) t′ w′ rep′ (v .sound) (v .work) (u .made);
@@ -110,8 +110,8 @@ module _ (s₀ rep₀ t₀ t w s rep : List ℕ) (held turns : ℕ) (v : Running
     last : (x : Next) → ((n : ℕ) → x ≡ More n → ⊥) → Follows (length s) (u .result .reason) (restOf (returnOf (u .result)) (take held s)) x s′
         → Calls (length s₀) (length rep₀) (v .calls ++ (call ∷ [])) x
     last (More n) h f = absurd (h n refl)
-    last (End x) h f = ended (v .fed) takes (ap reasonNumber (sym (f .0))) (rw (f .0) (f .1))
-    last Unread h f = unread (v .fed) takes refl f
+    last (End x) h f = ended {reason = x} (v .fed) takes (ap reasonNumber (sym (f .0))) (rw (f .0) (f .1))
+    last Unread h f = unread (u .result .reason) (v .fed) takes refl f
     last Untaken h f = absurd f
     last Spent h f = absurd f
 

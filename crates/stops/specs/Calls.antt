@@ -134,7 +134,7 @@ pub record Takes (room : ℕ) (held : List ℕ) (c : Call) : Type 0 where
 -- each call takes what the one before left and what was read behind that; so many bytes are held then
 pub data Fed (size room : ℕ) : List Call → List ℕ → Type 0 where
   start : Fed size room [] []
-  more : {cs : List Call} {held held′ : List ℕ} {c : Call} {reason : Reason} → Fed size room cs held → Takes room held c → c .result .reason ≡ reasonNumber reason
+  more : {cs : List Call} {held held′ : List ℕ} {c : Call} (reason : Reason) → Fed size room cs held → Takes room held c → c .result .reason ≡ reasonNumber reason
       → Moves (c .result) → Onward size reason (restOf (c .result) (c .commands)) held′ → Fed size room (cs ++ (c ∷ [])) held′
 
 -- how many turns the program has: 2^64 - 1, more than any run takes
@@ -147,7 +147,7 @@ mostCalls = 18446744073709551615
 pub data Calls (size room : ℕ) : List Call → Next → Type 0 where
   ended : {cs : List Call} {held : List ℕ} {c : Call} {reason : Reason} → Fed size room cs held → Takes room held c → c .result .reason ≡ reasonNumber reason → Final reason
       → Calls size room (cs ++ (c ∷ [])) (End reason)
-  unread : {cs : List Call} {held : List ℕ} {c : Call} {reason : Reason} → Fed size room cs held → Takes room held c → c .result .reason ≡ reasonNumber reason → Reads reason
+  unread : {cs : List Call} {held : List ℕ} {c : Call} (reason : Reason) → Fed size room cs held → Takes room held c → c .result .reason ≡ reasonNumber reason → Reads reason
       → Calls size room (cs ++ (c ∷ [])) Unread
   untaken : {cs : List Call} {held : List ℕ} {c : Call} → Fed size room cs held → Takes room held c → 0 < c .result .written
       → Calls size room (cs ++ (c ∷ [])) Untaken
