@@ -7,7 +7,7 @@ use mathlib.Core.List.{List, [], _∷_, List·Memᴰ, List·Memᴰ·head, List·
 use Prim.Native.Nat.{ℕ, _≤_}
 use native.Mathlib.Omega.{arith}
 use lib.ListN.{length, drop}
-use lib.Seq.{drop-append-seam}
+use lib.Seq.{take-append-seam, drop-append-seam}
 use borrow.Author.Tests.{eq-eqb, ne-eqb}
 use Rattle.limits.specs.Limits.{tableBytes}
 use Rattle.book.specs.declared.Reason.{Reason}
@@ -22,7 +22,7 @@ use Rattle.demands.specs.Batch.LaidOut.{wrong as not-laid, laid}
 use Rattle.demands.specs.Whole.{Call, MadeOn}
 use Rattle.demands.specs.Demands.{runOf, Kept, Demand1, Demand1Laid}
 use Rattle.demands.proofs.Reasons.{same-reason}
-use Rattle.demands.proofs.Chains.{chain-kept}
+use Rattle.demands.proofs.Chains.{chain-holds, chain-kept}
 use Rattle.demands.proofs.WholeRun.{is-wrong, is-broken, is-served}
 
 -- ---- numbers and reasons
@@ -60,7 +60,7 @@ four-six n (inr (inr (inr e))) = List·Memᴰ·tail (List·Memᴰ·tail (List·M
 
 -- ---- a call that takes commands
 
-module _ (t t′ : List ℕ) (c : Call) (v : Served (runOf t c) t (c .report) (c .result) t′ (c .workAfter) (c .reportAfter)) where
+module _ (t t′ : List ℕ) (c : Call) (s : Sound t) (v : Served (runOf t c) t (c .report) (c .result) t′ (c .workAfter) (c .reportAfter)) where
   reason-is : c .result .reason ≡ reasonNumber (runOf t c .reason)
   reason-is = ap (λ (r : Return). r .reason) (v .said)
 
@@ -93,6 +93,9 @@ module _ (t t′ : List ℕ) (c : Call) (v : Served (runOf t c) t (c .report) (c
         used-all = λ z. reason-is ∙ ap reasonNumber (all-run (c .commands) (length (c .report)) (bookOf t) (sym used-is ∙ z));
         within = (rw used-is (e .inside), rw written-is (e .fits));
         past = past-is;
+        counts = (used-is, written-is);
+        recorded = rw (written-is, v .report) (take-append-seam (records (runOf t c .turns)) _);
+        holds = rw (e .book) (chain-holds t s (runOf t c .turns) t′ (v .table));
         cleared = v .work;
         kept = λ n. chain-kept t (runOf t c .turns) t′ n (v .table);
       }
@@ -103,17 +106,17 @@ module _ (t : List ℕ) (c : Call) (t′ : List ℕ) where
   ends-in : MadeOn t c t′ → List·Memᴰ (c .result .reason) Six
   ends-in (wrong e h k) = List·Memᴰ·tail (List·Memᴰ·head (ap (λ (r : Return). r .reason) (h .said)))
   ends-in (broken e n h k) = List·Memᴰ·tail (List·Memᴰ·tail (List·Memᴰ·head (ap (λ (r : Return). r .reason) (h .said))))
-  ends-in (served e s v) = four-six (c .result .reason) (is-four t t′ c v)
+  ends-in (served e s v) = four-six (c .result .reason) (is-four t t′ c s v)
 
   only-wrong : MadeOn t c t′ → c .result .reason ≡ 64 → lengthsOk t (c .work) ≡ false
   only-wrong (wrong e h k) z = e
   only-wrong (broken e n h k) z = absurd (let x : 65 ≡ 64 = sym (ap (λ (r : Return). r .reason) (h .said)) ∙ z in omega arith)
-  only-wrong (served e s v) z = absurd (four-no64 (c .result .reason) (is-four t t′ c v) z)
+  only-wrong (served e s v) z = absurd (four-no64 (c .result .reason) (is-four t t′ c s v) z)
 
   only-broken : MadeOn t c t′ → c .result .reason ≡ 65 → (lengthsOk t (c .work) ≡ true) × (Sound t → ⊥)
   only-broken (wrong e h k) z = absurd (let x : 64 ≡ 65 = sym (ap (λ (r : Return). r .reason) (h .said)) ∙ z in omega arith)
   only-broken (broken e n h k) z = (e, n)
-  only-broken (served e s v) z = absurd (four-no65 (c .result .reason) (is-four t t′ c v) z)
+  only-broken (served e s v) z = absurd (four-no65 (c .result .reason) (is-four t t′ c s v) z)
 
   -- DEMAND 1
   pub demand1 : MadeOn t c t′ → Demand1 t c t′
@@ -124,7 +127,7 @@ module _ (t : List ℕ) (c : Call) (t′ : List ℕ) where
         only64 = only-wrong m;
         broken = is-broken t (c .work) (c .commands) (c .report) (c .result) t′ (c .workAfter) (c .reportAfter) m;
         only65 = only-broken m;
-        taken = λ e s. kept t t′ c (is-served t (c .work) (c .commands) (c .report) (c .result) t′ (c .workAfter) (c .reportAfter) m e s);
+        taken = λ e s. kept t t′ c s (is-served t (c .work) (c .commands) (c .report) (c .result) t′ (c .workAfter) (c .reportAfter) m e s);
       }
 
 -- ---- laying out

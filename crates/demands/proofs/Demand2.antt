@@ -1,6 +1,6 @@
 -- DEMAND 2, proved over the definition of the batch call's contract alone.
 -- Assumes nothing.
-use mathlib.Core.Path.{_≡_, sym, ap, _∙_, subst}
+use mathlib.Core.Path.{_≡_, refl, sym, ap, _∙_, subst}
 use mathlib.Core.Logic.{_≢_}
 use mathlib.Core.Option.{some}
 use mathlib.Core.List.{List, [], _∷_, _++_, append-assoc}
@@ -16,12 +16,12 @@ use Rattle.book.specs.declared.Command.the-variants.{List as ListOf, Print}
 use Rattle.book.specs.declared.Reason.the-variants.{AllUsed}
 use Rattle.book.specs.Book.{sitesOf}
 use Rattle.book.specs.Encode.{commandBytes}
-use Rattle.book.specs.Proper.{Proper}
+use Rattle.book.specs.Proper.{LegOk, Proper}
 use Rattle.book.specs.Reply.{Reply, listed, recordOf}
 use Rattle.book.specs.Answer.{answer}
 use Rattle.book.specs.Run.{Turn, Outcome, records, run, afterAll}
 use Rattle.book.proofs.Answers.{answer-print-done}
-use Rattle.book.proofs.Runs.{turnOf, records-append, records-one, call-right, run-ends, answered-at}
+use Rattle.book.proofs.Runs.{turnOf, records-append, records-one, call-right, run-ends, run-book, answered-at}
 use Rattle.book.proofs.ReadBack.{Encodable}
 use Rattle.book.proofs.Prefixes.{Grown, comes-to}
 use Rattle.book.proofs.Lists.{answer-list}
@@ -29,7 +29,8 @@ use Rattle.table.specs.Table.{bookOf}
 use Rattle.table.proofs.Books.{sound-proper}
 use Rattle.demands.specs.Step.{Chain}
 use Rattle.demands.specs.Whole.{Call, Said, said}
-use Rattle.demands.specs.Demands.{runOf, IsServed, ComesTo, Printed, Answers, ListedRight, Demand2}
+use Rattle.demands.specs.Demands.{runOf, IsServed, ComesTo, Printed, Answers, ListedRight, GivesList, Demand2}
+use Rattle.demands.proofs.Reasons.{same-reason}
 use Rattle.demands.proofs.Chains.{chain-holds, chain-front}
 use Rattle.demands.proofs.WholeRun.{served-call, one-call}
 use Rattle.demands.proofs.Legs.{held-some, list-encodable, list-answer, list-right}
@@ -76,25 +77,41 @@ module _ (t : List ℕ) (c : Call) (t′ : List ℕ) (v : IsServed t c t′) whe
 
   -- ---- a command that is answered by a list gets it
 
-  given : (k : Command) → Encodable k → (o : Outcome) → ComesTo t c k o → (es : List Entry) → answer (o .book) k ≡ listed es → Printed c (records (o .turns)) (recordBytes es)
-  given k ok o a es h =
-      let g : Grown (length (a .before) + length (commandBytes k)) (o .turns ++ (turnOf (o .book) k ∷ [])) (runOf t c) =
+  -- the turns of the bytes before, and that of the command, are the first of the call
+  grown : (k : Command) → Encodable k → (o : Outcome) (a : ComesTo t c k o)
+      → Grown (length (a .before) + length (commandBytes k)) (o .turns ++ (turnOf (o .book) k ∷ [])) (runOf t c)
+  grown k ok o a =
       subst (λ (s : List ℕ). Grown (length (a .before) + length (commandBytes k)) (o .turns ++ (turnOf (o .book) k ∷ [])) (run s (length (c .report)) (bookOf t))) (sym (a .commands))
       (subst (λ (p : Outcome). p .reason ≡ AllUsed → length (records (p .turns)) + length (recordOf (answer (p .book) k)) ≤ length (c .report)
       → Grown (length (a .before) + length (commandBytes k)) (p .turns ++ (turnOf (p .book) k ∷ [])) (run (a .before ++ (commandBytes k ++ a .behind)) (length (c .report)) (bookOf t)))
       (a .so-far)
       (comes-to (a .before) (a .behind) k ok (length (c .report)) (bookOf t))
-      (a .all)
+      (same-reason (o .reason) AllUsed (a .all))
       (a .room))
-      in
+
+  given : (k : Command) → Encodable k → (o : Outcome) → ComesTo t c k o → (es : List Entry) → answer (o .book) k ≡ listed es → Printed c (records (o .turns)) (recordBytes es)
+  given k ok o a es h =
+      let g = grown k ok o a in
       printed (o .turns) (turnOf (o .book) k) (g .rest) (g .turns ∙ append-assoc (o .turns) (turnOf (o .book) k ∷ []) (g .rest)) es h
 
+  -- the book that the bytes before leave keeps the rules
+  proper-before : (k : Command) → Encodable k → (o : Outcome) → ComesTo t c k o → Proper (o .book)
+  proper-before k ok o a =
+      let g = grown k ok o a in
+      let b : o .book ≡ afterAll (bookOf t) (o .turns) = subst (λ (p : Outcome). p .book ≡ afterAll (bookOf t) (p .turns)) (a .so-far) (run-book (a .before) (length (c .report)) (bookOf t)) in
+      rw b (proper-then (o .turns) (turnOf (o .book) k) (g .rest) (g .turns ∙ append-assoc (o .turns) (turnOf (o .book) k ∷ []) (g .rest)))
+
+  -- a leg on the grid whose list a command asks for
+  gives : (k : Command) → Encodable k → (l : Leg) (o : Outcome) → ComesTo t c k o → LegOnGrid l → answer (o .book) k ≡ listed (splitOf l (sitesOf (o .book))) → GivesList c l o
+  gives k ok l o a on h =
+      (list-right (o .book) (proper-before k ok o a) l on (splitOf l (sitesOf (o .book))) refl, given k ok o a (splitOf l (sitesOf (o .book))) h)
+
   -- DEMAND 2
-  pub demand2 : Demand2 t c t′
+  pub demand2 : Demand2 t c
   demand2 =
       record {
         right = right-is;
-        given = λ l o a on held. given (ListOf l) (list-encodable l on) o a (splitOf l (sitesOf (o .book))) (list-answer (o .book) l on held);
+        given = λ l o a on held. gives (ListOf l) (list-encodable l on) l o a on (list-answer (o .book) l on held);
         given-standing = λ l o a e held.
-            given Print tt o a (splitOf l (sitesOf (o .book))) (answer-print-done (o .book) l e (held-some (sitesOf (o .book)) held));
+            gives Print tt l o a (subst LegOk e (proper-before Print tt o a .legOk)) (answer-print-done (o .book) l e (held-some (sitesOf (o .book)) held));
       }

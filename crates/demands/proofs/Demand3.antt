@@ -17,6 +17,7 @@ use Rattle.grid.specs.Position.{OnGrid, LegOnGrid}
 use Rattle.grid.specs.Fraction.{IsFraction}
 use Rattle.split.specs.SplitList.{Entry, Numbered}
 use Rattle.split.specs.SplitOf.{splitOf}
+use Rattle.split.proofs.Dealing.{no-site}
 use Rattle.records.specs.ListRecord.{recordBytes}
 use Rattle.records.specs.Decode.{Listed, listedOf}
 use Rattle.book.specs.declared.Command.{Command}
@@ -109,8 +110,8 @@ module _ (b : Book) (t′ : List ℕ) (h : Holds t′ b) (ok : Proper b) where
       )
 
   siteless-is : (k : Leg) → b .leg ≡ some k → sitesOf b ≡ []
-      → (c : Call) (t″ : List ℕ) → Asks t′ print50 c t″ → 2 ≤ length (c .report) → Wrote c (0x21 ∷ 6 ∷ [])
-  siteless-is k e z c t″ a room = wrote-print (refused NoSite) (answer-print-empty b k e (ap length z)) c t″ a room
+      → (c : Call) (t″ : List ℕ) → Asks t′ print50 c t″ → 2 ≤ length (c .report) → Wrote c (0x21 ∷ 6 ∷ []) × (standingList b ≡ [])
+  siteless-is k e z c t″ a room = (wrote-print (refused NoSite) (answer-print-empty b k e (ap length z)) c t″ a room, (λ i. listOf (e i) (z i)) ∙ no-site k)
 
   unset-is : b .leg ≡ none → (c : Call) (t″ : List ℕ) → Asks t′ print50 c t″ → 2 ≤ length (c .report) → Wrote c (0x21 ∷ 7 ∷ [])
   unset-is e c t″ a room = wrote-print (refused NoLeg) (answer-print-legless b e) c t″ a room
@@ -209,7 +210,7 @@ fresh-is b t′ h ok fs u′ q f l on c d t″ u″ ac ad rc rd =
     ∙ sym wd
 
 -- THE THEOREM
-pub demand3 : (cs : List Call) (t′ : List ℕ) → Ran cs t′ → Demand3 cs (bookOfRun cs) t′
+pub demand3 : (cs : List Call) (t′ : List ℕ) → Ran cs t′ → Demand3 cs t′
 demand3 cs t′ r =
     let b = bookOfRun cs in
     let h = ran-holds cs t′ r in
@@ -217,7 +218,7 @@ demand3 cs t′ r =
     record {
       answers = ran-answers cs t′ r;
       never65 = never cs t′ r;
-      listed = listed-is b t′ h ok;
+      lists = listed-is b t′ h ok;
       right = λ l on. list-right b ok l on (splitOf l (sitesOf b)) refl;
       filled = λ fs u′ q f. filled-is b ok fs f;
       fresh = fresh-is b t′ h ok;

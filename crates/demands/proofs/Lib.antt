@@ -7,4 +7,5 @@ pub mod Printing
 pub mod Demand1
 pub mod Demand2
 pub mod Demand3
+pub mod Demands
 pub mod Starred

@@ -31,7 +31,7 @@ use Rattle.book.proofs.Answers.{answer-print-legless, answer-print-empty, answe
 use Rattle.table.proofs.Books.{sound-proper}
 use Rattle.demands.specs.Step.{Holds, keeps}
 use Rattle.demands.specs.Whole.{Said, Room}
-use Rattle.demands.specs.Demands.{Prints, listIn, orElse, numberFrom, numberAt}
+use Rattle.demands.specs.Demands.{Prints, listIn, whether, numberFrom, numberAt}
 use Rattle.demands.proofs.Legs.{list-right}
 use Rattle.demands.proofs.OneCommand.{wrote-one, kept-one, room-one}
 
@@ -68,7 +68,7 @@ print-keeps (listed es) = refl
 
 module _ (t : List ℕ) (b : Book) (h : Holds t b) (es : List Listed) (p : Prints t es) where
   roomy : Room (p .call) (recordOf (answer b Print))
-  roomy = room-one t b h Print tt (p .call) (p .left) (p .asks) (p .room)
+  roomy = room-one t b h Print tt (p .call) (p .left) (p .asks) (p .ended)
 
   -- WHAT THE 50 PRINTS is the standing list
   pub prints-list : es ≡ map listedOf (standingList b)
@@ -93,7 +93,7 @@ number-from t e [] = refl
 number-from t e (f ∷ fs) = go (decLe (f .start .num * t .den) (t .num * f .start .den)) (number-from t f fs)
   where
     go : (d : Dec (f .start .num * t .den ≤ t .num * f .start .den)) → numberFrom t (listedOf f) (map listedOf fs) ≡ nameFrom t f fs .number
-        → orElse d (numberFrom t (listedOf f) (map listedOf fs)) (e .site .number) ≡ split.orElse d (nameFrom t f fs) (e .site) .number
+        → whether d (numberFrom t (listedOf f) (map listedOf fs)) (e .site .number) ≡ split.orElse d (nameFrom t f fs) (e .site) .number
     go (yes h) ih = ih
     go (no h) ih = refl
 

@@ -16,12 +16,17 @@ use Rattle.book.specs.Answer.{answer}
 use Rattle.book.specs.Run.{records, turn, runFrom}
 use Rattle.records.specs.Decode.{read2, read4, readList, readRecord}
 use Rattle.demands.specs.Demands.{numberFrom}
-use Rattle.demands.specs.Starred.{starredLines, written, given, printedLines, namedLines, namesIn}
+use Rattle.demands.specs.Starred.{starredLines, standingLines, written, given, printedLines, namedLines, namesIn}
 
 -- THE STARRED LINES
 pub starred : given starredLines ≡ written starredLines
 unfolding records turn runFrom parseAt formOf wordAt fromWord toWord answer holds change writeLine strikeLine moveLine splitOf build insert push hides? under? step? decLe decLt distance squaredDifference rank lowest gcdOf gcdBy entryBytes listBytes recordBytes
 starred = refl
+
+-- THE STANDING LINES
+pub standing : given standingLines ≡ written standingLines
+unfolding records turn runFrom parseAt formOf wordAt fromWord toWord answer holds change writeLine strikeLine moveLine splitOf build insert push hides? under? step? decLe decLt distance squaredDifference rank lowest gcdOf gcdBy entryBytes listBytes recordBytes
+standing = refl
 
 -- WHAT A PRINTED LIST NAMES, at its starts and ends
 pub named : map namesIn printedLines ≡ namedLines

@@ -110,6 +110,7 @@ alike t u cs ds t′ u′ a =
     let x = all-calls t (bookOf t) (record { sound = a .sound .0; book = refl }) cs t′ (a .made .0) in
     let y = all-calls u (bookOf t) (record { sound = a .sound .1; book = sym (a .book) }) ds u′ (a .made .1) in
     record {
+      sound = (x .1 .sound, y .1 .sound);
       said-same = x .0 ∙ ap (replies (bookOf t)) (a .asked-same) ∙ sym (y .0);
       book = x .1 .book ∙ ap (bookAfter (bookOf t)) (a .asked-same) ∙ sym (y .1 .book);
     }

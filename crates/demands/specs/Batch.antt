@@ -55,7 +55,7 @@ pub record Served (o : Outcome) (t rep : List ℕ) (r : Return) (t′ w′ rep�
 pub data Batch (t w cs rep : List ℕ) (r : Return) (t′ w′ rep′ : List ℕ) : Type 0 where
   -- "table or work buffer of wrong length", 64: everything is left
   wrong : lengthsOk t w ≡ false → Refused 64 t rep r t′ rep′ → w′ ≡ w → Batch t w cs rep r t′ w′ rep′
-  -- "in the table .. a rule is broken", 65: table and report are left
+  -- "in the table a tree rule .. or the standing list's rule is broken", 65: table and report are left
   broken : lengthsOk t w ≡ true → (Sound t → ⊥) → Refused 65 t rep r t′ rep′ → w′ ≡ zeros workBytes → Batch t w cs rep r t′ w′ rep′
   -- commands are taken
   served : lengthsOk t w ≡ true → Sound t → Served (run cs (length rep) (bookOf t)) t rep r t′ w′ rep′ → Batch t w cs rep r t′ w′ rep′

@@ -1,4 +1,5 @@
--- THE DEMANDS, as document 01 has them, over the definitions of the calls (Batch.antt).
+-- THE DEMANDS over the definitions of the calls (Batch.antt): of one call, of one list, of a whole list of calls; last, each of them for every call or list of calls
+-- (`Demands`), which is what is proved.
 -- Assumes nothing.
 use mathlib.Core.Path.{_≡_}
 use mathlib.Core.Logic.{_≢_, _⊎_}
@@ -7,7 +8,7 @@ use mathlib.Core.Bool.{Bool, true, false}
 use mathlib.Core.List.{List, [], _∷_, _++_, map, List·Memᴰ}
 use Prim.Native.Nat.{ℕ, _+_, _*_, _≤_}
 use native.Mathlib.Decide.{decLe}
-use lib.ListN.{length, drop, getD}
+use lib.ListN.{length, drop}
 use lib.Dec.{eqb}
 use Rattle.limits.specs.Limits.{maxNumber, tableBytes, workBytes}
 use Rattle.grid.specs.declared.Site.{Site}
@@ -22,7 +23,6 @@ use Rattle.records.specs.Decode.{Listed, listedOf, readRecord}
 use Rattle.book.specs.declared.Command.{Command}
 use Rattle.book.specs.declared.Command.the-variants.{Add, Remove, List as ListOf, Print}
 use Rattle.book.specs.declared.Reason.{Reason}
-use Rattle.book.specs.declared.Reason.the-variants.{AllUsed}
 use Rattle.book.specs.Numbers.{reasonNumber}
 use Rattle.book.specs.Book.{Book, emptyBook, sitesOf, standingList}
 use Rattle.book.specs.Encode.{commandBytes}
@@ -33,7 +33,7 @@ use Rattle.book.specs.Answer.{answer, legAsked}
 use Rattle.book.specs.Run.{Turn, Outcome, records, run, afterAll, StopsFor}
 use Rattle.table.specs.Table.{Sound, bookOf}
 use Rattle.empty_table.specs.EmptyTable.{emptyTable}
-use Rattle.demands.specs.Step.{keeps}
+use Rattle.demands.specs.Step.{Holds, keeps}
 use Rattle.demands.specs.Batch.{lengthsOk, zeros, Refused, LaidOut}
 use Rattle.demands.specs.Whole.{Call, MadeOn, Made, Ran, said, asked, replies, bookOfRun, Filled, Asks, Room, Wrote}
 
@@ -54,7 +54,7 @@ pub record Stops (t : List ℕ) (c : Call) : Type 0 where
   pub number : c .result .reason ≡ reasonNumber reason
   pub for : StopsFor (c .commands) (length (c .report)) reason (c .result .used) (runOf t c .turns) (runOf t c .book)
 
--- what every call that takes commands leaves and returns
+-- what every call that takes commands returns, writes and leaves
 pub record Kept (t : List ℕ) (c : Call) (t′ : List ℕ) : Type 0 where
   pub stops : Stops t c
   -- reason 0 exactly when all command bytes are used
@@ -66,12 +66,17 @@ pub record Kept (t : List ℕ) (c : Call) (t′ : List ℕ) : Type 0 where
   pub past : drop (c .result .written) (c .reportAfter) ≡ drop (c .result .written) (c .report)
   -- "The work buffer is all zero afterwards"
   pub cleared : c .workAfter ≡ zeros workBytes
+  -- each command got the record of the book's answer, a refusal under its condition and no other, and the counts are those of these commands
+  pub counts : (c .result .used ≡ runOf t c .used) × (c .result .written ≡ length (records (runOf t c .turns)))
+  pub recorded : said c .bytes ≡ records (runOf t c .turns)
+  -- the table is a sound one of the book then
+  pub holds : Holds t′ (runOf t c .book)
   -- "Left as it was: table": a call without an accepted change leaves every byte of it
   pub kept : AllKeep (runOf t c .turns) → t′ ≡ t
 
 -- DEMAND 1 of a batch call on any bytes: t and t′ are the table before and after.
 pub record Demand1 (t : List ℕ) (c : Call) (t′ : List ℕ) : Type 0 where
-  -- "Every call ends with a defined result": one of these numbers
+  -- every call ends with a defined result: one of these numbers
   pub ends : List·Memᴰ (c .result .reason) (0 ∷ 64 ∷ 65 ∷ 66 ∷ 67 ∷ 68 ∷ [])
   -- 64 exactly for a table or work buffer of wrong length; "Left as it was: everything"
   pub wrong : lengthsOk t (c .work) ≡ false → Refused 64 t (c .report) (c .result) t′ (c .reportAfter) × (c .workAfter ≡ c .work)
@@ -119,7 +124,7 @@ pub record ComesTo (t : List ℕ) (c : Call) (k : Command) (o : Outcome) : Type 
   pub behind : List ℕ
   pub commands : c .commands ≡ before ++ (commandBytes k ++ behind)
   pub so-far : run before (length (c .report)) (bookOf t) ≡ o
-  pub all : o .reason ≡ AllUsed
+  pub all : reasonNumber (o .reason) ≡ 0
   pub room : length (records (o .turns)) + length (recordOf (answer (o .book) k)) ≤ length (c .report)
 
 -- what the call wrote: the bytes `past`, then this record, then anything
@@ -139,17 +144,20 @@ pub record ListedRight (c : Call) (b : Book) (past : List Turn) (k : Command) (e
   pub list : RightList leg (sitesOf b) es
   pub printed : Printed c (records past) (recordBytes es)
 
--- DEMAND 2 of a call that takes commands, on whatever sound table.
-pub record Demand2 (t : List ℕ) (c : Call) (t′ : List ℕ) : Type 0 where
+-- the list of the leg l over the sites of the book then is right, and was printed behind the records of o
+abbrev pub GivesList : Call → Leg → Outcome → Type 0
+GivesList c l o =
+    RightList l (sitesOf (o .book)) (splitOf l (sitesOf (o .book))) × Printed c (records (o .turns)) (recordBytes (splitOf l (sitesOf (o .book))))
+
+-- DEMAND 2 of a call that takes commands, on whatever sound table t.
+pub record Demand2 (t : List ℕ) (c : Call) : Type 0 where
   -- whatever is answered by a list, wherever in the batch: the list is right
   pub right : (past : List Turn) (u : Turn) → Answers t c past u → (es : List Entry) → u .reply ≡ listed es
       → ListedRight c (afterAll (bookOf t) past) past (u .command) es
-  -- "a leg on the grid gets its list whenever a site is held and the report has room"
-  pub given : (l : Leg) (o : Outcome) → ComesTo t c (ListOf l) o → LegOnGrid l → sitesOf (o .book) ≢ []
-      → Printed c (records (o .turns)) (recordBytes (splitOf l (sitesOf (o .book))))
+  -- a leg on the grid gets its list whenever a site is held and the report has room
+  pub given : (l : Leg) (o : Outcome) → ComesTo t c (ListOf l) o → LegOnGrid l → sitesOf (o .book) ≢ [] → GivesList c l o
   -- and so does the standing leg
-  pub given-standing : (l : Leg) (o : Outcome) → ComesTo t c Print o → o .book .leg ≡ some l → sitesOf (o .book) ≢ []
-      → Printed c (records (o .turns)) (recordBytes (splitOf l (sitesOf (o .book))))
+  pub given-standing : (l : Leg) (o : Outcome) → ComesTo t c Print o → o .book .leg ≡ some l → sitesOf (o .book) ≢ [] → GivesList c l o
 
 -- ---- demand 3: shape does not matter
 
@@ -186,7 +194,7 @@ pub record Prints (t : List ℕ) (es : List Listed) : Type 0 where
   pub call : Call
   pub left : List ℕ
   pub asks : Asks t print50 call left
-  pub room : call .result .reason ≡ 0
+  pub ended : call .result .reason ≡ 0
   pub list : es ≡ listIn (said call .bytes)
 
 -- "One addition or removal is one accepted 41 or 44 after such a list": the 50 printed `old` on the table t, then the command k was accepted, then the 50 printed `new`
@@ -199,28 +207,28 @@ pub record Changed (t : List ℕ) (k : Command) (old new : List Listed) : Type 0
   pub behind : Prints table new
 
 -- the first where the test holds, else the second
-abbrev pub orElse : {A : Type 0} → Dec A → ℕ → ℕ → ℕ
-orElse (yes h) m n = m
-orElse (no h) m n = n
+abbrev pub whether : {A : Type 0} → Dec A → ℕ → ℕ → ℕ
+whether (yes h) m n = m
+whether (no h) m n = n
 
 -- the number that a list names at t which begins with the entry e
 unfoldable pub numberFrom : Fraction → Listed → List Listed → ℕ
 numberFrom t e [] = e .number
-numberFrom t e (f ∷ fs) = orElse (decLe (f .start .num * t .den) (t .num * f .start .den)) (numberFrom t f fs) (e .number)
+numberFrom t e (f ∷ fs) = whether (decLe (f .start .num * t .den) (t .num * f .start .den)) (numberFrom t f fs) (e .number)
 
 -- "At t a list names the site of its last entry whose start is not above t": its number, none where the list has no entry
 abbrev pub numberAt : Fraction → List Listed → Option ℕ
 numberAt t [] = none
 numberAt t (e ∷ es) = some (numberFrom t e es)
 
--- DEMAND 3 of the calls cs, made on a table just laid out: b is the site book after the same calls, t′ the table then.
-pub record Demand3 (cs : List Call) (b : Book) (t′ : List ℕ) : Type 0 where
-  -- "each call returns and reports exactly what the site book gives"
+-- DEMAND 3 of the calls cs, where b is the site book after the same calls and t′ the table then (`Demand3`).
+pub record Demand3On (cs : List Call) (b : Book) (t′ : List ℕ) : Type 0 where
+  -- each call returns and reports exactly what the site book gives
   pub answers : map said cs ≡ replies emptyBook (map asked cs)
   -- "No table that came from laying out and batches is ever refused with 65."
   pub never65 : (c : Call) → List·Memᴰ c cs → c .result .reason ≢ 65
   -- the list of a leg on the grid is answered whenever a site is held and the report has room; the table's bytes are left
-  pub listed : (l : Leg) → LegOnGrid l → sitesOf b ≢ [] → (c : Call) (t″ : List ℕ) → Asks t′ (list4C l) c t″
+  pub lists : (l : Leg) → LegOnGrid l → sitesOf b ≢ [] → (c : Call) (t″ : List ℕ) → Asks t′ (list4C l) c t″
       → Room c (recordBytes (splitOf l (sitesOf b))) → Wrote c (recordBytes (splitOf l (sitesOf b))) × (t″ ≡ t′)
   -- and it is the split list of document 01 over the book's sites
   pub right : (l : Leg) → LegOnGrid l → RightList l (sitesOf b) (splitOf l (sitesOf b))
@@ -237,7 +245,7 @@ pub record Demand3 (cs : List Call) (b : Book) (t′ : List ℕ) : Type 0 where
       → Wrote c (recordBytes (standingList b)) × Wrote d (recordBytes (standingList b))
   -- "empty where that answers 21 06"
   pub siteless : (k : Leg) → b .leg ≡ some k → sitesOf b ≡ []
-      → (c : Call) (t″ : List ℕ) → Asks t′ print50 c t″ → 2 ≤ length (c .report) → Wrote c (0x21 ∷ 6 ∷ [])
+      → (c : Call) (t″ : List ℕ) → Asks t′ print50 c t″ → 2 ≤ length (c .report) → Wrote c (0x21 ∷ 6 ∷ []) × (standingList b ≡ [])
   -- without a standing leg the 50 is refused with 7
   pub unset : b .leg ≡ none → (c : Call) (t″ : List ℕ) → Asks t′ print50 c t″ → 2 ≤ length (c .report) → Wrote c (0x21 ∷ 7 ∷ [])
   -- one accepted 41: at every fraction the standing list names what it named before, or the new site
@@ -246,6 +254,10 @@ pub record Demand3 (cs : List Call) (b : Book) (t′ : List ℕ) : Type 0 where
   -- one accepted 44: at every fraction it names what it named before, or it named the site that is gone
   pub removed : (n : ℕ) → n ≤ maxNumber → (old new : List Listed) → Changed t′ (Remove n) old new
       → (t : Fraction) → IsFraction t → (numberAt t new ≡ numberAt t old) ⊎ (numberAt t old ≡ some n)
+
+-- DEMAND 3 of the calls cs, made on a table just laid out, which they leave as t′
+abbrev pub Demand3 : List Call → List ℕ → Type 0
+Demand3 cs t′ = Demand3On cs (bookOfRun cs) t′
 
 -- the same calls were asked of two sound tables of one book
 pub record AskedAlike (t u : List ℕ) (cs ds : List Call) (t′ u′ : List ℕ) : Type 0 where
@@ -258,4 +270,15 @@ pub record AskedAlike (t u : List ℕ) (cs ds : List Call) (t′ u′ : List ℕ
 -- effect on any answer.
 pub record Alike (cs ds : List Call) (t′ u′ : List ℕ) : Type 0 where
   pub said-same : map said cs ≡ map said ds
+  pub sound : Sound t′ × Sound u′
   pub book : bookOf t′ ≡ bookOf u′
+
+-- ---- all of them
+
+-- THE DEMANDS, of every call, every laying out, every call that takes commands, and every list of calls on a table just laid out
+pub record Demands : Type 0 where
+  pub one : (t : List ℕ) (c : Call) (t′ : List ℕ) → MadeOn t c t′ → Demand1 t c t′
+  pub laying-out : (t : List ℕ) (r : ℕ) (t′ : List ℕ) → LaidOut t r t′ → Demand1Laid t r t′
+  pub two : (t : List ℕ) (c : Call) (t′ : List ℕ) → IsServed t c t′ → Demand2 t c
+  pub three : (cs : List Call) (t′ : List ℕ) → Ran cs t′ → Demand3 cs t′
+  pub choices : (t u : List ℕ) (cs ds : List Call) (t′ u′ : List ℕ) → AskedAlike t u cs ds t′ u′ → Alike cs ds t′ u′

@@ -8,7 +8,7 @@ use Rattle.grid.specs.declared.Leg.{Leg}
 use Rattle.grid.specs.declared.Fraction.{Fraction}
 use Rattle.records.specs.Bytes.{bytes2, bytes4}
 use Rattle.book.specs.declared.Command.{Command}
-use Rattle.book.specs.declared.Command.the-variants.{Add, Remove, List as ListOf, Print}
+use Rattle.book.specs.declared.Command.the-variants.{Add, Remove, Move, List as ListOf, Stand, Print}
 use Rattle.book.specs.Book.{emptyBook}
 use Rattle.book.specs.Encode.{commandBytes}
 use Rattle.book.specs.Run.{records, run}
@@ -77,6 +77,17 @@ abbrev pub given : List Line → List (List ℕ)
 given [] = []
 given (x ∷ xs) = records (run (bytesOf (x .commands)) 1000 emptyBook .turns) ∷ given xs
 
+-- the standing leg: printed with sites 1 and 2, when 2 is removed, and when 1 is removed too; and with the two sites changed over by moves
+abbrev pub standingLines : List Line
+standingLines =
+    line
+    (Stand ten ∷ Add 1 (at 2 3) ∷ Add 2 (at 7 1) ∷ Print ∷ Remove 2 ∷ Print ∷ Remove 1 ∷ Print ∷ [])
+    (0x2B ∷ 0x2B ∷ 0x2B ∷ two (since 1 0 1) (since 2 37 100) ++ (0x2B ∷ one (since 1 0 1)) ++ (0x2B ∷ 0x21 ∷ 6 ∷ []))
+    ∷ line
+    (Stand ten ∷ Add 1 (at 2 3) ∷ Add 2 (at 7 1) ∷ Move 1 (at 7 1) ∷ Move 2 (at 2 3) ∷ Print ∷ [])
+    (0x2B ∷ 0x2B ∷ 0x2B ∷ 0x2B ∷ 0x2B ∷ two (since 2 0 1) (since 1 37 100))
+    ∷ []
+
 -- the fractions 0, 36/100, 37/100, 99/100 and 1
 abbrev pub fractions : List Fraction
 fractions =
@@ -86,7 +97,7 @@ fractions =
 abbrev pub namesIn : List ℕ → List (Option ℕ)
 namesIn bytes = map (λ (t : Fraction). numberAt t (listIn bytes)) fractions
 
--- the first starred leg as the standing leg: printed with sites 1 and 2, and when 2 is removed and when 1 is removed, too
+-- what the first of the standing lines prints
 abbrev pub printedLines : List (List ℕ)
 printedLines = two (since 1 0 1) (since 2 37 100) ∷ one (since 1 0 1) ∷ (0x21 ∷ 6 ∷ []) ∷ []
 

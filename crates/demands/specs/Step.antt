@@ -11,8 +11,8 @@ use Rattle.book.specs.Answer.{reads}
 use Rattle.book.specs.Run.{Turn}
 use Rattle.table.specs.Table.{Sound, bookOf}
 
--- t is a sound table of the book b. Which bytes it has is the program's choice: the shape of the tree, the bytes that docs/LAYOUT.md calls free, records
--- and words past a count, entries past a node's number of them, and free nodes. What all choices have in common: they answer alike (`Alike`).
+-- t is a sound table of the book b. Which bytes it has is the program's choice: the shape of the tree, its node ids and the order of entries and of free nodes, the bytes that
+-- docs/LAYOUT.md calls free, records and words past a count, entries past a node's number of them, and free nodes. What all choices have in common: they answer alike (`Alike`).
 pub record Holds (t : List ℕ) (b : Book) : Type 0 where
   pub sound : Sound t
   pub book : bookOf t ≡ b

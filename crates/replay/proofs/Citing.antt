@@ -6,7 +6,7 @@ use mathlib.Core.Bool.{true, _&&_}
 use mathlib.Core.List.{List, [], _∷_, _++_, map, append-nil}
 use Prim.Native.Nat.{ℕ}
 use native.Mathlib.Omega.{arith}
-use lib.ListN.{length, drop, take-append-drop}
+use lib.ListN.{length, take, drop, take-append-drop}
 use lib.Seq.{drop-length}
 use borrow.Author.Tests.{eq-eqb}
 use Rattle.limits.specs.Limits.{tableBytes, workBytes}
@@ -32,9 +32,10 @@ use Rattle.demands.proofs.WholeRun.{ran-holds}
 use Rattle.demands.proofs.Legs.{list-answer}
 use Rattle.demands.proofs.Demand1.{demand1, demand1-laid}
 use Rattle.demands.proofs.Demand3.{demand3}
+use Rattle.replay.specs.declared.Told.{Told}
 use Rattle.replay.specs.declared.Row.{Row}
-use Rattle.replay.specs.Replayed.{ask, Called, CallMade, addBoth, addUnknown, removeCut, listTen, addTwo, addOne, two, one, endAsks, endReturns, tenBytes, results, Opened, Closed, Refilled, AskedTen, Replayed}
-use Rattle.replay.proofs.Computed.{returned, end-replies, end-lines, ten-list, ten-on}
+use Rattle.replay.specs.Replayed.{ask, Called, addBoth, addUnknown, removeCut, listTen, addTwo, addOne, two, one, endAsks, endReplies, tenBytes, saidBy, ends, Opened, Closed, Refilled, AskedTen, Replayed}
+use Rattle.replay.proofs.Computed.{end-replies, end-lines, ten-list, ten-on}
 
 -- ---- one call
 
@@ -48,11 +49,17 @@ called n t w cs rep t′ w′ rep′ r e b =
       report = refl;
     }
 
-pub call-made : (n : ℕ) (cs rep : List ℕ) (r : BatchResult) (t t′ rep′ : List ℕ) → length rep ≡ 2 → Called (ask n cs (length rep)) r t t′ rep′ → CallMade (ask n cs 2) r t t′
-call-made n cs rep r t t′ rep′ e h = record { report = rep′; called = subst (λ (k : ℕ). Called (ask n cs k) r t t′ rep′) e h }
+-- with room for two bytes
+pub small-made : (n : ℕ) (cs rep : List ℕ) (r : BatchResult) (t t′ rep′ : List ℕ) → length rep ≡ 2 → Called (ask n cs (length rep)) r t t′ rep′ → Called (ask n cs 2) r t t′ rep′
+small-made n cs rep r t t′ rep′ e h = subst (λ (k : ℕ). Called (ask n cs k) r t t′ rep′) e h
 
-pub short-made : (t w cs rep t′ w′ rep′ : List ℕ) (r : BatchResult) → length w ≡ 1 → length rep ≡ 2 → Batch t w cs rep (returnOf r) t′ w′ rep′ → CallMade (ask 1 cs 2) r t t′
-short-made t w cs rep t′ w′ rep′ r e f b = call-made 1 cs rep r t t′ rep′ f (called 1 t w cs rep t′ w′ rep′ r e b)
+pub short-made : (t w cs rep t′ w′ rep′ : List ℕ) (r : BatchResult) → length w ≡ 1 → length rep ≡ 2 → Batch t w cs rep (returnOf r) t′ w′ rep′ → Called (ask 1 cs 2) r t t′ rep′
+short-made t w cs rep t′ w′ rep′ r e f b = small-made 1 cs rep r t t′ rep′ f (called 1 t w cs rep t′ w′ rep′ r e b)
+
+-- what it said
+called-said : (a : Ask) (r : Told) (t t′ : List ℕ) (h : Called a (r .result) t t′ (r .report)) → said (h .call) ≡ saidBy r
+called-said a r t t′ h = λ i.
+    record { reason = h .result i .reason; used = h .result i .used; written = h .result i .written; bytes = take (h .result i .written) (h .report i) }
 
 -- the leg
 pub asked-ten : (t rep t′ rep′ : List ℕ) (r : BatchResult) → length rep ≡ 23 → Called (ask workBytes listTen (length rep)) r t t′ rep′ → AskedTen t rep′ t′
@@ -71,24 +78,25 @@ module _ (t t₁ : List ℕ) (x : Reason) (l : LaidOut t (reasonNumber x) t₁) 
   laid : LaidOut t 0 t₁
   laid = subst (λ (n : ℕ). LaidOut t n t₁) (demand1-laid t (reasonNumber x) t₁ l .laid e .0) l
 
-  pub opened : (t₂ t₃ : List ℕ) (r₁ r₂ : BatchResult) → CallMade (ask 1 addBoth 2) r₁ t₁ t₂ → CallMade (ask workBytes addBoth 2) r₂ t₂ t₃
-      → Opened (record { short = r₁; used = r₂ }) t₃
-  opened t₂ t₃ r₁ r₂ a b = record { before = t; table = t₁; laid = laid; between = t₂; short = a; used = b }
+  pub opened : (t₂ t₃ : List ℕ) (a b : Told) → Called (ask 1 addBoth 2) (a .result) t₁ t₂ (a .report) → Called (ask workBytes addBoth 2) (b .result) t₂ t₃ (b .report)
+      → Opened (record { short = a; used = b }) t₃
+  opened t₂ t₃ a b x y = record { before = t; table = t₁; laid = laid; between = t₂; short = x; used = y }
 
-  pub refilled : (t₂ t₃ : List ℕ) (r₁ r₂ : BatchResult) → CallMade (ask workBytes addTwo 2) r₁ t₁ t₂ → CallMade (ask workBytes addOne 2) r₂ t₂ t₃ → Refilled t₃
+  pub refilled : (t₂ t₃ : List ℕ) (r₁ r₂ : Told) → Called (ask workBytes addTwo 2) (r₁ .result) t₁ t₂ (r₁ .report) → Called (ask workBytes addOne 2) (r₂ .result) t₂ t₃ (r₂ .report)
+      → Refilled t₃
   unfolding toWord
   refilled t₂ t₃ r₁ r₂ a b =
       record {
-        calls = a .called .call ∷ b .called .call ∷ [];
-        ran = record { before = t; laid-table = t₁; laid = laid; made = next (a .called .made) (next (b .called .made) no-call) };
+        calls = a .call ∷ b .call ∷ [];
+        ran = record { before = t; laid-table = t₁; laid = laid; made = next (a .made) (next (b .made) no-call) };
         filled =
-            rw (a .called .asked-so, b .called .asked-so)
+            rw (a .asked-so, b .asked-so)
             (more-asks {a = ask workBytes addTwo 2} (two ∷ []) refl refl (omega arith) (more-asks {a = ask workBytes addOne 2} (one ∷ []) refl refl (omega arith) no-ask));
       }
 
-pub closed : (t t₂ t₃ t′ : List ℕ) (r₁ r₂ r₃ : BatchResult) → CallMade (ask workBytes addUnknown 2) r₁ t t₂ → CallMade (ask workBytes removeCut 2) r₂ t₂ t₃
-    → CallMade (ask workBytes listTen 2) r₃ t₃ t′ → Closed (record { unknown = r₁; cut = r₂; full = r₃ }) t t′
-closed t t₂ t₃ t′ r₁ r₂ r₃ a b c = record { second = t₂; third = t₃; unknown = a; cut = b; full = c }
+pub closed : (t t₂ t₃ t′ : List ℕ) (a b c : Told) → Called (ask workBytes addUnknown 2) (a .result) t t₂ (a .report) → Called (ask workBytes removeCut 2) (b .result) t₂ t₃ (b .report)
+    → Called (ask workBytes listTen 2) (c .result) t₃ t′ (c .report) → Closed (record { unknown = a; cut = b; full = c }) t t′
+closed t t₂ t₃ t′ a b c x y z = record { second = t₂; third = t₃; unknown = x; cut = y; full = z }
 
 -- ---- the theorem
 
@@ -105,7 +113,7 @@ report-is t s x t′ bytes a e w =
 module _ (r : Row) (t₁ t₂ t₃ u₁ u₂ : List ℕ) (o : Opened (r .opening) t₁) (k : Closed (r .closing) t₁ t₂) (c : AskedTen t₂ (r .ours) t₃) (f : Refilled u₁)
     (d : AskedTen u₁ (r .theirs) u₂) where
   calls : List Call
-  calls = o .short .called .call ∷ o .used .called .call ∷ k .unknown .called .call ∷ k .cut .called .call ∷ k .full .called .call ∷ []
+  calls = o .short .call ∷ o .used .call ∷ k .unknown .call ∷ k .cut .call ∷ k .full .call ∷ []
 
   ran : Ran calls t₂
   unfolding calls
@@ -114,20 +122,25 @@ module _ (r : Row) (t₁ t₂ t₃ u₁ u₂ : List ℕ) (o : Opened (r .opening
         before = o .before;
         laid-table = o .table;
         laid = o .laid;
-        made = next (o .short .called .made) (next (o .used .called .made) (next (k .unknown .called .made) (next (k .cut .called .made) (next (k .full .called .made) no-call))));
+        made = next (o .short .made) (next (o .used .made) (next (k .unknown .made) (next (k .cut .made) (next (k .full .made) no-call))));
       }
 
   asks : map asked calls ≡ endAsks
   unfolding calls
-  asks = λ i. o .short .called .asked-so i ∷ o .used .called .asked-so i ∷ k .unknown .called .asked-so i ∷ k .cut .called .asked-so i ∷ k .full .called .asked-so i ∷ []
+  asks = λ i. o .short .asked-so i ∷ o .used .asked-so i ∷ k .unknown .asked-so i ∷ k .cut .asked-so i ∷ k .full .asked-so i ∷ []
 
-  told : map (λ (x : Call). returned (said x)) calls ≡ results (r .opening) (r .closing)
+  told : map said calls ≡ ends (r .opening) (r .closing)
   unfolding calls
-  told = λ i. o .short .called .result i ∷ o .used .called .result i ∷ k .unknown .called .result i ∷ k .cut .called .result i ∷ k .full .called .result i ∷ []
+  told = λ i.
+      called-said _ (r .opening .short) _ _ (o .short) i
+      ∷ called-said _ (r .opening .used) _ _ (o .used) i
+      ∷ called-said _ (r .closing .unknown) _ _ (k .unknown) i
+      ∷ called-said _ (r .closing .cut) _ _ (k .cut) i
+      ∷ called-said _ (r .closing .full) _ _ (k .full) i
+      ∷ []
 
-  ends : results (r .opening) (r .closing) ≡ endReturns
-  unfolding calls
-  ends = sym told ∙ ap (map returned) (demand3 calls t₂ ran .answers ∙ ap (replies emptyBook) asks) ∙ end-replies
+  replies-are : ends (r .opening) (r .closing) ≡ endReplies
+  replies-are = sym told ∙ demand3 calls t₂ ran .answers ∙ ap (replies emptyBook) asks ∙ end-replies
 
   two-lines : bookOfRun calls .lines ≡ one ∷ two ∷ []
   two-lines = ap (λ (a : List Ask). bookAfter emptyBook a .lines) asks ∙ end-lines
@@ -141,7 +154,7 @@ module _ (r : Row) (t₁ t₂ t₃ u₁ u₂ : List ℕ) (o : Opened (r .opening
   wrote-ours : Wrote (c .call) tenBytes
   wrote-ours =
       subst (λ (y : List ℕ). Wrote (c .call) y) ten-is
-      (demand3 calls t₂ ran .listed ten ten-on held (c .call) t₃ (c .asks) (omega (arith, ap length ten-is, c .room)) .0)
+      (demand3 calls t₂ ran .lists ten ten-on held (c .call) t₃ (c .asks) (omega (arith, ap length ten-is, c .room)) .0)
 
   fresh-of : FreshOf (bookOfRun calls) (f .calls)
   fresh-of = record { order = two ∷ one ∷ []; filled = f .filled; perm = rw two-lines swap }
@@ -162,4 +175,4 @@ module _ (r : Row) (t₁ t₂ t₃ u₁ u₂ : List ℕ) (o : Opened (r .opening
   replayed =
       let x : r .ours ≡ tenBytes = sym (c .report) ∙ report-is t₂ (ran-holds calls t₂ ran .sound) (c .call) t₃ tenBytes (c .asks) (c .room) wrote-ours in
       let y : r .theirs ≡ tenBytes = sym (d .report) ∙ report-is u₁ (ran-holds (f .calls) u₁ (f .ran) .sound) (d .call) u₂ tenBytes (d .asks) (d .room) wrote-theirs in
-      record { ends = ends; ours = x; theirs = y ∙ sym x }
+      record { replies = replies-are; ours = x; theirs = y ∙ sym x }

@@ -1,7 +1,7 @@
 -- What the book says to the calls, computed by the checker.
 -- Assumes nothing.
 use mathlib.Core.Path.{_≡_, refl}
-use mathlib.Core.List.{[], _∷_, map}
+use mathlib.Core.List.{[], _∷_}
 use native.Mathlib.Decide.{decLe, decLt}
 use native.Mathlib.Omega.{arith}
 use Rattle.words.specs.Words.{wordAt}
@@ -16,16 +16,11 @@ use Rattle.book.specs.Book.{emptyBook, writeLine, strikeLine, holds, change}
 use Rattle.book.specs.Command.{formOf, parseAt}
 use Rattle.book.specs.Answer.{answer}
 use Rattle.book.specs.Run.{records, turn, runFrom}
-use Rattle.demands.specs.Batch.{Return, returns}
-use Rattle.demands.specs.Whole.{Said, replies, bookAfter}
-use Rattle.replay.specs.Replayed.{one, two, endAsks, endReturns, tenBytes}
-
--- what a call said, without its bytes
-abbrev pub returned : Said → Return
-returned s = returns (s .reason) (s .used) (s .written)
+use Rattle.demands.specs.Whole.{replies, bookAfter}
+use Rattle.replay.specs.Replayed.{one, two, endAsks, endReplies, tenBytes}
 
 -- 64, 0, 66, 67 and 68
-pub end-replies : map returned (replies emptyBook endAsks) ≡ endReturns
+pub end-replies : replies emptyBook endAsks ≡ endReplies
 unfolding replies bookAfter records turn runFrom parseAt formOf wordAt fromWord toWord answer holds change writeLine strikeLine splitOf build insert push hides? under? step? decLe decLt distance squaredDifference rank lowest gcdOf gcdBy entryBytes listBytes recordBytes
 end-replies = refl
 

@@ -3,14 +3,16 @@
 use mathlib.Core.Path.{_≡_}
 use mathlib.Core.List.{List, [], _∷_, map}
 use Prim.Native.Nat.{ℕ}
-use lib.ListN.{length}
+use lib.ListN.{length, take}
 use Rattle.limits.specs.Limits.{workBytes}
 use Rattle.grid.specs.declared.Site.{Site}
 use Rattle.split.specs.Legs.{at, site, ten}
 use Rattle.book.specs.declared.BatchResult.{BatchResult}
-use Rattle.demands.specs.Batch.{Return, returns, returnOf, LaidOut}
-use Rattle.demands.specs.Whole.{Call, MadeOn, Ran, Ask, asked, Filled, Asks}
+use Rattle.book.specs.Numbers.{reasonNumber}
+use Rattle.demands.specs.Batch.{returnOf, LaidOut}
+use Rattle.demands.specs.Whole.{Call, MadeOn, Ran, Said, Ask, asked, Filled, Asks}
 use Rattle.demands.specs.Demands.{list4C}
+use Rattle.replay.specs.declared.Told.{Told}
 use Rattle.replay.specs.declared.Opening.{Opening}
 use Rattle.replay.specs.declared.Closing.{Closing}
 use Rattle.replay.specs.declared.Row.{Row}
@@ -26,11 +28,6 @@ pub record Called (a : Ask) (r : BatchResult) (t t′ rep′ : List ℕ) : Type 
   pub asked-so : asked call ≡ a
   pub result : call .result ≡ returnOf r
   pub report : call .reportAfter ≡ rep′
-
--- the same, whatever the report
-pub record CallMade (a : Ask) (r : BatchResult) (t t′ : List ℕ) : Type 0 where
-  pub report : List ℕ
-  pub called : Called a r t t′ report
 
 -- two additions: sites 1 (2,3) and 2 (7,1)
 abbrev pub addBoth : List ℕ
@@ -52,17 +49,31 @@ listTen = 0x4C ∷ 0 ∷ 0 ∷ 0 ∷ 0 ∷ 10 ∷ 0 ∷ 0 ∷ 0 ∷ []
 abbrev pub endAsks : List Ask
 endAsks = ask 1 addBoth 2 ∷ ask workBytes addBoth 2 ∷ ask workBytes addUnknown 2 ∷ ask workBytes removeCut 2 ∷ ask workBytes listTen 2 ∷ []
 
--- what they return, by the book: 64; 0 with both additions; 66 behind the addition; 67 behind the removal; 68, as the record has 23 bytes
-abbrev pub endReturns : List Return
-endReturns = returns 64 0 0 ∷ returns 0 14 2 ∷ returns 66 7 1 ∷ returns 67 3 1 ∷ returns 68 0 0 ∷ []
+-- a reply of the book
+abbrev pub reply : ℕ → ℕ → List ℕ → Said
+reply reason used bytes = record { reason = reason; used = used; written = length bytes; bytes = bytes }
+
+-- the book's replies: 64; 0 with both additions; 66 behind the addition; 67 behind the removal; 68, as the record has 23 bytes
+abbrev pub endReplies : List Said
+endReplies = reply 64 0 [] ∷ reply 0 14 (0x2B ∷ 0x2B ∷ []) ∷ reply 66 7 (0x2B ∷ []) ∷ reply 67 3 (0x2B ∷ []) ∷ reply 68 0 [] ∷ []
 
 -- "1 from 0/1, 2 from 37/100"
 abbrev pub tenBytes : List ℕ
 tenBytes = 0x3D ∷ 2 ∷ 0 ∷ 1 ∷ 0 ∷ 0 ∷ 0 ∷ 0 ∷ 0 ∷ 1 ∷ 0 ∷ 0 ∷ 0 ∷ 2 ∷ 0 ∷ 37 ∷ 0 ∷ 0 ∷ 0 ∷ 100 ∷ 0 ∷ 0 ∷ 0 ∷ []
 
--- the results of the five
-abbrev pub results : Opening → Closing → List Return
-results o c = returnOf (o .short) ∷ returnOf (o .used) ∷ returnOf (c .unknown) ∷ returnOf (c .cut) ∷ returnOf (c .full) ∷ []
+-- what a call said that returned and reported so
+abbrev pub saidBy : Told → Said
+saidBy r =
+    record {
+      reason = reasonNumber (r .result .reason);
+      used = r .result .used;
+      written = r .result .written;
+      bytes = take (r .result .written) (r .report);
+    }
+
+-- what the five said
+abbrev pub ends : Opening → Closing → List Said
+ends o c = saidBy (o .short) ∷ saidBy (o .used) ∷ saidBy (c .unknown) ∷ saidBy (c .cut) ∷ saidBy (c .full) ∷ []
 
 -- the first two were made on a table just laid out, and left t′
 pub record Opened (r : Opening) (t′ : List ℕ) : Type 0 where
@@ -70,16 +81,16 @@ pub record Opened (r : Opening) (t′ : List ℕ) : Type 0 where
   pub table : List ℕ
   pub laid : LaidOut before 0 table
   pub between : List ℕ
-  pub short : CallMade (ask 1 addBoth 2) (r .short) table between
-  pub used : CallMade (ask workBytes addBoth 2) (r .used) between t′
+  pub short : Called (ask 1 addBoth 2) (r .short .result) table between (r .short .report)
+  pub used : Called (ask workBytes addBoth 2) (r .used .result) between t′ (r .used .report)
 
 -- the three behind them were made on the table t, and left t′
 pub record Closed (r : Closing) (t t′ : List ℕ) : Type 0 where
   pub second : List ℕ
   pub third : List ℕ
-  pub unknown : CallMade (ask workBytes addUnknown 2) (r .unknown) t second
-  pub cut : CallMade (ask workBytes removeCut 2) (r .cut) second third
-  pub full : CallMade (ask workBytes listTen 2) (r .full) third t′
+  pub unknown : Called (ask workBytes addUnknown 2) (r .unknown .result) t second (r .unknown .report)
+  pub cut : Called (ask workBytes removeCut 2) (r .cut .result) second third (r .cut .report)
+  pub full : Called (ask workBytes listTen 2) (r .full .result) third t′ (r .full .report)
 
 -- "Site 1 (2,3), 2 (7,1)"
 abbrev pub one : Site
@@ -110,8 +121,8 @@ pub record AskedTen (t rep t′ : List ℕ) : Type 0 where
   pub room : length (call .report) ≡ 23
   pub report : call .reportAfter ≡ rep
 
--- THE CALLS, as the theorem says of them: the book's returns, and on both tables the list that document 01 gives
+-- THE CALLS, as the theorem says of them: the book's replies, and on both tables the list that document 01 gives
 pub record Replayed (r : Row) : Type 0 where
-  pub ends : results (r .opening) (r .closing) ≡ endReturns
+  pub replies : ends (r .opening) (r .closing) ≡ endReplies
   pub ours : r .ours ≡ tenBytes
   pub theirs : r .theirs ≡ r .ours

@@ -4,19 +4,25 @@ use book::BatchResult;
 ghost use mathlib.Core.Path.{_≡_};
 ghost use lib.ListN.{length};
 ghost use Rattle.limits.specs.Limits.{tableBytes, workBytes};
-ghost use Rattle.replay.specs.Replayed.{ask, Called, CallMade, Opened, Closed, Refilled, AskedTen, Replayed};
+ghost use Rattle.replay.specs.Replayed.{ask, Called, Opened, Closed, Refilled, AskedTen, Replayed};
 
-// How the first two calls ended: with too short a work buffer, and with all commands used.
-pub struct Opening {
-    short: BatchResult,
-    used: BatchResult,
+// What a call returned, and its report.
+pub struct Told {
+    result: BatchResult,
+    report: [u8; 2],
 }
 
-// How the three behind them ended: at an unknown command, at a cut one, and for want of room.
+// What the first two calls said: with too short a work buffer, and with all commands used.
+pub struct Opening {
+    short: Told,
+    used: Told,
+}
+
+// What the three behind them said: ended by an unknown command, by a cut one, and for want of room.
 pub struct Closing {
-    unknown: BatchResult,
-    cut: BatchResult,
-    full: BatchResult,
+    unknown: Told,
+    cut: Told,
+    full: Told,
 }
 
 // These, and the reports of the leg on both tables.
@@ -36,20 +42,28 @@ fn call(table: &mut [u8], commands: &[u8], report: &mut [u8]) -> BatchResult
 }
 
 // A call with buffers of its own, and room for two bytes.
-fn small_call(table: &mut [u8], commands: &[u8]) -> BatchResult
-    ensures { λ r. ⌜ CallMade (ask workBytes (now (commands .entry)) 2) r (now (table .entry)) (now (table .exit)) ⌝ }
+fn small_call(table: &mut [u8], commands: &[u8]) -> Told
+    ensures { λ r. ⌜ Called (ask workBytes (now (commands .entry)) 2) (r .result) (now (table .entry)) (now (table .exit)) (r .report) ⌝ }
 {
     let mut report = [0u8; 2];
-    call(table, commands, &mut report)
+    let result = call(table, commands, &mut report);
+    Told {
+        result: result,
+        report: report,
+    }
 }
 
 // The same with a work buffer of one byte.
-fn short_call(table: &mut [u8], commands: &[u8]) -> BatchResult
-    ensures { λ r. ⌜ CallMade (ask 1 (now (commands .entry)) 2) r (now (table .entry)) (now (table .exit)) ⌝ }
+fn short_call(table: &mut [u8], commands: &[u8]) -> Told
+    ensures { λ r. ⌜ Called (ask 1 (now (commands .entry)) 2) (r .result) (now (table .entry)) (now (table .exit)) (r .report) ⌝ }
 {
     let mut work = [0u8; 1];
     let mut report = [0u8; 2];
-    service::batch(table, &mut work, commands, &mut report)
+    let result = service::batch(table, &mut work, commands, &mut report);
+    Told {
+        result: result,
+        report: report,
+    }
 }
 
 // Lays out a table and adds sites 1 and 2, once with too short a work buffer.

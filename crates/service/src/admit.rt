@@ -8,7 +8,7 @@ pub enum Admission {
     Refused(Reason),
 }
 
-// Whether the table and the work buffer are taken. The work buffer is left, or all zero where the table is broken.
+// Whether the table and the work buffer are taken. The work buffer is left after 64 and all zero after 65; where the table is taken it holds what the test left.
 pub fn admit(table: &[u8], work: &mut [u8]) -> Admission
     ensures { λ r. ⌜ AdmittedAs r (now (table .entry)) (now (work .entry)) (now (work .exit)) ⌝ }
 {

@@ -44,7 +44,7 @@ fn carry_out(table: &mut [u8], work: &mut [u8], commands: &[u8], report: &mut [u
     r
 }
 
-// Carries out commands on a table, with a report for their records and a work buffer, which is left all zero.
+// Carries out commands on a table, with a report for their records and a work buffer, which is all zero afterwards, except after 64.
 pub fn batch(table: &mut [u8], work: &mut [u8], commands: &[u8], report: &mut [u8]) -> BatchResult
     ensures { λ r. ⌜ Batch (now (table .entry)) (now (work .entry)) (now (commands .entry)) (now (report .entry)) (returnOf r) (now (table .exit)) (now (work .exit)) (now (report .exit)) ⌝ }
 {

@@ -1,4 +1,4 @@
-use Rattle.replay.proofs.Citing.{call-made}
+use Rattle.replay.proofs.Citing.{small-made}
 use borrow.Author.Needs.{needs}
 use Rattle.replay.proofs.small_call.Statement.{statement}
 use Rattle.replay.proofs.small_call.Tie as tie
@@ -13,7 +13,7 @@ same-length : tie.Need-same-length
 same-length c = search needs
 
 returns : tie.Need-returns
-returns c = search (needs, call-made)
+returns c = search (needs, small-made)
 
 pub small-call-spec : {M : Type 1} → statement M
 small-call-spec = tie.close (tie.spec slice-aggregate-call call-requires same-length returns)
