@@ -123,9 +123,13 @@ module _ (t : List ℕ) (c : Call) (t′ : List ℕ) where
   demand1 m =
       record {
         ends = ends-in m;
-        wrong = is-wrong t (c .work) (c .commands) (c .report) (c .result) t′ (c .workAfter) (c .reportAfter) m;
+        wrong = λ e.
+            let w = is-wrong t (c .work) (c .commands) (c .report) (c .result) t′ (c .workAfter) (c .reportAfter) m e in
+            (w .0 .said, w .0 .table, w .1, w .0 .report);
         only64 = only-wrong m;
-        broken = is-broken t (c .work) (c .commands) (c .report) (c .result) t′ (c .workAfter) (c .reportAfter) m;
+        broken = λ e n.
+            let w = is-broken t (c .work) (c .commands) (c .report) (c .result) t′ (c .workAfter) (c .reportAfter) m e n in
+            (w .0 .said, w .0 .table, w .1, w .0 .report);
         only65 = only-broken m;
         taken = λ e s. kept t t′ c s (is-served t (c .work) (c .commands) (c .report) (c .result) t′ (c .workAfter) (c .reportAfter) m e s);
       }

@@ -34,7 +34,7 @@ use Rattle.book.specs.Run.{Turn, Outcome, records, run, afterAll, StopsFor}
 use Rattle.table.specs.Table.{Sound, bookOf}
 use Rattle.empty_table.specs.EmptyTable.{emptyTable}
 use Rattle.demands.specs.Step.{Holds, keeps}
-use Rattle.demands.specs.Batch.{lengthsOk, zeros, Refused, LaidOut}
+use Rattle.demands.specs.Batch.{returns, lengthsOk, zeros, LaidOut}
 use Rattle.demands.specs.Whole.{Call, MadeOn, Made, Ran, said, asked, replies, bookOfRun, Filled, Asks, Room, Wrote}
 
 -- ---- demand 1: no call brings it down
@@ -79,10 +79,12 @@ pub record Demand1 (t : List ℕ) (c : Call) (t′ : List ℕ) : Type 0 where
   -- every call ends with a defined result: one of these numbers
   pub ends : List·Memᴰ (c .result .reason) (0 ∷ 64 ∷ 65 ∷ 66 ∷ 67 ∷ 68 ∷ [])
   -- 64 exactly for a table or work buffer of wrong length; "Left as it was: everything"
-  pub wrong : lengthsOk t (c .work) ≡ false → Refused 64 t (c .report) (c .result) t′ (c .reportAfter) × (c .workAfter ≡ c .work)
+  pub wrong : lengthsOk t (c .work) ≡ false
+      → (c .result ≡ returns 64 0 0) × (t′ ≡ t) × (c .workAfter ≡ c .work) × (c .reportAfter ≡ c .report)
   pub only64 : c .result .reason ≡ 64 → lengthsOk t (c .work) ≡ false
   -- 65 exactly for a table that is not sound; "Left as it was: table, report", and the work buffer is all zero
-  pub broken : lengthsOk t (c .work) ≡ true → (Sound t → ⊥) → Refused 65 t (c .report) (c .result) t′ (c .reportAfter) × (c .workAfter ≡ zeros workBytes)
+  pub broken : lengthsOk t (c .work) ≡ true → (Sound t → ⊥)
+      → (c .result ≡ returns 65 0 0) × (t′ ≡ t) × (c .workAfter ≡ zeros workBytes) × (c .reportAfter ≡ c .report)
   pub only65 : c .result .reason ≡ 65 → (lengthsOk t (c .work) ≡ true) × (Sound t → ⊥)
   -- every other call takes commands
   pub taken : lengthsOk t (c .work) ≡ true → Sound t → Kept t c t′
