@@ -251,4 +251,6 @@ fn clean_removes_what_is_built_and_nothing_else() {
         .into_iter()
         .filter(|file| !built.contains(&file.as_str()));
     assert_eq!(files(&copy), left.collect::<Vec<_>>());
+    // A source file of no crate, left in the checkout, would fail the next run of the gate.
+    std::fs::remove_dir_all(&copy).unwrap();
 }
