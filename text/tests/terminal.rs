@@ -21,7 +21,7 @@ fn typed(options: &[&str], bytes: &[u8]) -> (i32, String) {
     (&screen).write_all(bytes).unwrap();
     let mut child = Command::new(PROGRAM)
         .args(options)
-        .current_dir(env!("CARGO_TARGET_TMPDIR"))
+        .current_dir(scratch("."))
         .stdin(line.try_clone().unwrap())
         .stdout(line.try_clone().unwrap())
         .stderr(line)

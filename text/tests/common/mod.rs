@@ -57,9 +57,13 @@ pub fn at_root(path: &str) -> PathBuf {
     Path::new(env!("CARGO_MANIFEST_DIR")).join("..").join(path)
 }
 
-/// A file of this name that no other test uses.
+/// A file of this name in a folder of the running test; tests of one file run side by side.
 pub fn scratch(name: &str) -> PathBuf {
-    Path::new(env!("CARGO_TARGET_TMPDIR")).join(name)
+    let thread = thread::current();
+    let test = thread.name().expect("a test's thread has its name");
+    let folder = Path::new(env!("CARGO_TARGET_TMPDIR")).join(test);
+    std::fs::create_dir_all(&folder).unwrap();
+    folder.join(name)
 }
 
 pub fn line(command: &[u8]) -> String {
