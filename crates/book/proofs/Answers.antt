@@ -1,27 +1,28 @@
 -- The book's answer, cause by cause: each command's tests as plain facts, both ways.
 -- Assumes nothing.
-use mathlib.Core.Path.{_≡_, refl, sym, _∙_}
+use mathlib.Core.Path.{_≡_, refl, sym, ap, _∙_}
 use mathlib.Core.Logic.{_≢_}
 use mathlib.Core.Bool.{Bool, true, false, cond, not, _&&_, true≢false}
-use mathlib.Core.List.{List}
+use mathlib.Core.List.{List, [], _∷_}
 use mathlib.Core.Option.{Option, none, some}
 use Prim.Native.Nat.{ℕ}
 use native.Mathlib.Omega.{arith}
 use lib.ListN.{length}
-use lib.Dec.{eqb, leb}
-use borrow.Author.Tests.{eq-eqb, ne-eqb, eqb-true, eqb-false, le-leb, leb-true, not-false}
+use lib.Dec.{leb}
+use borrow.Author.Tests.{eq-eqb, ne-eqb, eqb-false, le-leb, leb-true, not-false}
 use Rattle.limits.specs.Limits.{gridWidth, maxSites}
 use Rattle.grid.specs.declared.Position.{Position}
 use Rattle.grid.specs.declared.Leg.{Leg}
 use Rattle.grid.specs.Position.{OnGrid, LegOnGrid}
 use Rattle.split.specs.SplitList.{Entry}
 use Rattle.split.specs.SplitOf.{splitOf}
+use Rattle.book.specs.declared.Command.{Command}
 use Rattle.book.specs.declared.Command.the-variants.{Add, Remove, Move, List as ListOf, Stand, Print}
 use Rattle.book.specs.declared.Cause.{Cause}
 use Rattle.book.specs.declared.Cause.the-variants.{NumberZero, OffGrid, Held, NotHeld, Full, NoSite, NoLeg}
-use Rattle.book.specs.Book.{Book, holds}
+use Rattle.book.specs.Book.{Book, sitesOf, listOf, holds}
 use Rattle.book.specs.Reply.{Reply, done, refused, listed}
-use Rattle.book.specs.Answer.{answer, offGrid, legOffGrid, legless, siteless}
+use Rattle.book.specs.Answer.{Test, offGrid, legOffGrid, legless, tests, firstCause, accepted, answer}
 
 -- ---- the tests on positions, as facts
 
@@ -139,14 +140,14 @@ module _ (b : Book) (l : Leg) where
   answer-list-off g = rw (leg-off l g) refl
 
   -- cause 6: no site is held
-  pub answer-list-empty : LegOnGrid l → length (b .lines) ≡ 0 → answer b (ListOf l) ≡ refused NoSite
+  pub answer-list-empty : LegOnGrid l → length (sitesOf b) ≡ 0 → answer b (ListOf l) ≡ refused NoSite
   unfolding answer
-  answer-list-empty g h = rw (leg-on l g, eq-eqb (length (b .lines)) 0 h) refl
+  answer-list-empty g h = rw (leg-on l g, eq-eqb (length (sitesOf b)) 0 h) refl
 
   -- no cause: the list of the leg
-  pub answer-list-done : LegOnGrid l → length (b .lines) ≢ 0 → answer b (ListOf l) ≡ listed (splitOf l (b .lines))
+  pub answer-list-done : LegOnGrid l → length (sitesOf b) ≢ 0 → answer b (ListOf l) ≡ listed (splitOf l (sitesOf b))
   unfolding answer
-  answer-list-done g h = rw (leg-on l g, ne-eqb (length (b .lines)) 0 h) refl
+  answer-list-done g h = rw (leg-on l g, ne-eqb (length (sitesOf b)) 0 h) refl
 
   -- ---- 53: the standing leg is set
 
@@ -169,50 +170,53 @@ module _ (b : Book) where
   answer-print-legless h = rw h refl
 
   -- cause 6: no site is held
-  pub answer-print-empty : (l : Leg) → b .leg ≡ some l → length (b .lines) ≡ 0 → answer b Print ≡ refused NoSite
+  pub answer-print-empty : (l : Leg) → b .leg ≡ some l → length (sitesOf b) ≡ 0 → answer b Print ≡ refused NoSite
   unfolding answer
-  answer-print-empty l h e = rw (h, eq-eqb (length (b .lines)) 0 e) refl
+  answer-print-empty l h e = rw (h, eq-eqb (length (sitesOf b)) 0 e) refl
 
   -- no cause: the list of the standing leg
-  pub answer-print-done : (l : Leg) → b .leg ≡ some l → length (b .lines) ≢ 0 → answer b Print ≡ listed (splitOf l (b .lines))
+  pub answer-print-done : (l : Leg) → b .leg ≡ some l → length (sitesOf b) ≢ 0
+      → answer b Print ≡ listed (splitOf l (sitesOf b))
   unfolding answer
-  answer-print-done l h e = rw (h, ne-eqb (length (b .lines)) 0 e) refl
+  answer-print-done l h e = rw (h, ne-eqb (length (sitesOf b)) 0 e) refl
 
 -- ---- what an answer says
 
 done-not-refused : (x : Cause) → refused x ≢ done
 done-not-refused x e = let z : _≡_ {A = ℕ} 0 1 = cc in omega arith
 
-done-not-listed : (es : List Entry) → listed es ≢ done
+pub done-not-listed : (es : List Entry) → done ≢ listed es
 done-not-listed es e = let z : _≡_ {A = ℕ} 0 1 = cc in omega arith
 
-listed-not-refused : (x : Cause) (es : List Entry) → refused x ≢ listed es
-listed-not-refused x es e = let z : _≡_ {A = ℕ} 0 1 = cc in omega arith
+listed-not-refused : (es : List Entry) (x : Cause) → refused x ≢ listed es
+listed-not-refused es x e = let z : _≡_ {A = ℕ} 0 1 = cc in omega arith
 
 listed-one : (es fs : List Entry) → listed es ≡ listed fs → es ≡ fs
 listed-one es fs e = cc
 
--- a first test's cause is not the answer: the test is not met, and the answer is that of the others
-unmet : (t : Bool) (x : Cause) (y z : Reply) → refused x ≢ z → cond t (refused x) y ≡ z → (t ≡ false) × (y ≡ z)
-unmet true x y z h e = absurd (h e)
-unmet false x y z h e = (refl, e)
+-- no test's cause is met
+abbrev NoneMet : List Test → Type 0
+NoneMet [] = Unit {0}
+NoneMet (t ∷ ts) = (t .met ≡ false) × NoneMet ts
 
--- AN ADDITION THAT FITS
-pub record AddFits (b : Book) (n : ℕ) (p : Position) : Type 0 where
-  pub positive : n ≢ 0
-  pub onGrid : OnGrid p
-  pub new : holds n (b .lines) ≡ false
-  pub room : length (b .lines) ≢ maxSites
+-- NOT REFUSED: no cause is met, and the answer is that of an accepted command
+none-met : (ts : List Test) (y z : Reply) → ((x : Cause) → refused x ≢ z) → firstCause ts y ≡ z → NoneMet ts × (y ≡ z)
+none-met [] y z h e = (tt, e)
+none-met (t ∷ ts) y z h e = go (t .met) refl e (none-met ts y z h)
+  where
+    go : (c : Bool) → t .met ≡ c → cond c (refused (t .cause)) (firstCause ts y) ≡ z
+        → (firstCause ts y ≡ z → NoneMet ts × (y ≡ z)) → NoneMet (t ∷ ts) × (y ≡ z)
+    go true f k ih = absurd (h (t .cause) k)
+    go false f k ih = let (n, q) = ih k in ((f, n), q)
 
--- every accepted addition fits
-pub add-accepted : (b : Book) (n : ℕ) (p : Position) → answer b (Add n p) ≡ done → AddFits b n p
+-- a list answered: no cause is met, and the list is what an accepted command is answered
+none-listed : (b : Book) (c : Command) (es : List Entry) → answer b c ≡ listed es
+    → NoneMet (tests b c) × (accepted b c ≡ listed es)
 unfolding answer
-add-accepted b n p h =
-    let t₁ = unmet (eqb n 0) NumberZero _ done (done-not-refused NumberZero) h in
-    let t₂ = unmet (offGrid p) OffGrid _ done (done-not-refused OffGrid) (t₁ .1) in
-    let t₃ = unmet (holds n (b .lines)) Held _ done (done-not-refused Held) (t₂ .1) in
-    let t₄ = unmet (eqb (length (b .lines)) maxSites) Full _ done (done-not-refused Full) (t₃ .1) in
-    record { positive = eqb-false n 0 (t₁ .0); onGrid = grid-on p (t₂ .0); new = t₃ .0; room = eqb-false (length (b .lines)) maxSites (t₄ .0) }
+none-listed b c es h = none-met (tests b c) (accepted b c) (listed es) (listed-not-refused es) h
+
+pub accepted-listed : (b : Book) (c : Command) (es : List Entry) → answer b c ≡ listed es → accepted b c ≡ listed es
+accepted-listed b c es h = none-listed b c es h .1
 
 -- A REMOVAL THAT FITS
 pub record RemoveFits (b : Book) (n : ℕ) : Type 0 where
@@ -223,113 +227,41 @@ pub record RemoveFits (b : Book) (n : ℕ) : Type 0 where
 pub remove-accepted : (b : Book) (n : ℕ) → answer b (Remove n) ≡ done → RemoveFits b n
 unfolding answer
 remove-accepted b n h =
-    let t₁ = unmet (eqb n 0) NumberZero _ done (done-not-refused NumberZero) h in
-    let t₂ = unmet (not (holds n (b .lines))) NotHeld _ done (done-not-refused NotHeld) (t₁ .1) in
-    record { positive = eqb-false n 0 (t₁ .0); held = not-false _ (t₂ .0) }
-
--- A MOVE THAT FITS
-pub record MoveFits (b : Book) (n : ℕ) (p : Position) : Type 0 where
-  pub positive : n ≢ 0
-  pub onGrid : OnGrid p
-  pub held : holds n (b .lines) ≡ true
-
--- every accepted move fits
-pub move-accepted : (b : Book) (n : ℕ) (p : Position) → answer b (Move n p) ≡ done → MoveFits b n p
-unfolding answer
-move-accepted b n p h =
-    let t₁ = unmet (eqb n 0) NumberZero _ done (done-not-refused NumberZero) h in
-    let t₂ = unmet (offGrid p) OffGrid _ done (done-not-refused OffGrid) (t₁ .1) in
-    let t₃ = unmet (not (holds n (b .lines))) NotHeld _ done (done-not-refused NotHeld) (t₂ .1) in
-    record { positive = eqb-false n 0 (t₁ .0); onGrid = grid-on p (t₂ .0); held = not-false _ (t₃ .0) }
-
--- A STANDING LEG THAT IS SET is on the grid
-pub stand-accepted : (b : Book) (l : Leg) → answer b (Stand l) ≡ done → LegOnGrid l
-unfolding answer
-stand-accepted b l h = on-leg l (unmet (legOffGrid l) OffGrid done done (done-not-refused OffGrid) h .0)
-
--- an addition is not answered by a list
-pub add-not-listed : (b : Book) (n : ℕ) (p : Position) (es : List Entry) → answer b (Add n p) ≢ listed es
-unfolding answer
-add-not-listed b n p es h =
-    let t₁ = unmet (eqb n 0) NumberZero _ (listed es) (listed-not-refused NumberZero es) h in
-    let t₂ = unmet (offGrid p) OffGrid _ (listed es) (listed-not-refused OffGrid es) (t₁ .1) in
-    let t₃ = unmet (holds n (b .lines)) Held _ (listed es) (listed-not-refused Held es) (t₂ .1) in
-    let t₄ = unmet (eqb (length (b .lines)) maxSites) Full _ (listed es) (listed-not-refused Full es) (t₃ .1) in
-    done-not-listed es (sym (t₄ .1))
-
--- nor is a removal
-pub remove-not-listed : (b : Book) (n : ℕ) (es : List Entry) → answer b (Remove n) ≢ listed es
-unfolding answer
-remove-not-listed b n es h =
-    let t₁ = unmet (eqb n 0) NumberZero _ (listed es) (listed-not-refused NumberZero es) h in
-    let t₂ = unmet (not (holds n (b .lines))) NotHeld _ (listed es) (listed-not-refused NotHeld es) (t₁ .1) in
-    done-not-listed es (sym (t₂ .1))
-
--- nor is a move
-pub move-not-listed : (b : Book) (n : ℕ) (p : Position) (es : List Entry) → answer b (Move n p) ≢ listed es
-unfolding answer
-move-not-listed b n p es h =
-    let t₁ = unmet (eqb n 0) NumberZero _ (listed es) (listed-not-refused NumberZero es) h in
-    let t₂ = unmet (offGrid p) OffGrid _ (listed es) (listed-not-refused OffGrid es) (t₁ .1) in
-    let t₃ = unmet (not (holds n (b .lines))) NotHeld _ (listed es) (listed-not-refused NotHeld es) (t₂ .1) in
-    done-not-listed es (sym (t₃ .1))
-
--- nor is a standing leg
-pub stand-not-listed : (b : Book) (l : Leg) (es : List Entry) → answer b (Stand l) ≢ listed es
-unfolding answer
-stand-not-listed b l es h =
-    let t₁ = unmet (legOffGrid l) OffGrid _ (listed es) (listed-not-refused OffGrid es) h in
-    done-not-listed es (sym (t₁ .1))
-
--- 4C is never answered by a bare acceptance
-pub list-not-done : (b : Book) (l : Leg) → answer b (ListOf l) ≢ done
-unfolding answer
-list-not-done b l h =
-    let t₁ = unmet (legOffGrid l) OffGrid _ done (done-not-refused OffGrid) h in
-    let t₂ = unmet (siteless b) NoSite _ done (done-not-refused NoSite) (t₁ .1) in
-    done-not-listed _ (t₂ .1)
-
--- nor is 50
-pub print-not-done : (b : Book) → answer b Print ≢ done
-unfolding answer
-print-not-done b h =
-    let t₁ = unmet (legless (b .leg)) NoLeg _ done (done-not-refused NoLeg) h in
-    let t₂ = unmet (siteless b) NoSite _ done (done-not-refused NoSite) (t₁ .1) in
-    done-not-listed _ (t₂ .1)
+    let m = none-met (tests b (Remove n)) done done done-not-refused h .0 in
+    record { positive = eqb-false n 0 (m .0); held = not-false _ (m .1 .0) }
 
 -- A LIST OF A LEG THAT IS GIVEN
 pub record ListFits (b : Book) (l : Leg) (es : List Entry) : Type 0 where
   pub onGrid : LegOnGrid l
-  pub some-site : length (b .lines) ≢ 0
-  pub is : es ≡ splitOf l (b .lines)
+  pub some-site : length (sitesOf b) ≢ 0
+  pub is : es ≡ splitOf l (sitesOf b)
 
 -- every list that 4C is answered with is given so
 pub list-accepted : (b : Book) (l : Leg) (es : List Entry) → answer b (ListOf l) ≡ listed es → ListFits b l es
-unfolding answer
 list-accepted b l es h =
-    let t₁ = unmet (legOffGrid l) OffGrid _ (listed es) (listed-not-refused OffGrid es) h in
-    let t₂ = unmet (siteless b) NoSite _ (listed es) (listed-not-refused NoSite es) (t₁ .1) in
-    record { onGrid = on-leg l (t₁ .0); some-site = eqb-false (length (b .lines)) 0 (t₂ .0); is = sym (listed-one _ es (t₂ .1)) }
+    let (m, q) = none-listed b (ListOf l) es h in
+    record { onGrid = on-leg l (m .0); some-site = eqb-false _ 0 (m .1 .0); is = sym (listed-one _ es q) }
 
 -- A STANDING LIST THAT IS GIVEN
 pub record PrintFits (b : Book) (es : List Entry) : Type 0 where
   pub line : Leg
   pub stands : b .leg ≡ some line
-  pub some-site : length (b .lines) ≢ 0
-  pub is : es ≡ splitOf line (b .lines)
+  pub some-site : length (sitesOf b) ≢ 0
+  pub is : es ≡ splitOf line (sitesOf b)
+
+-- a leg stands
+leg-stands : (o : Option Leg) → legless o ≡ false → (l : Leg) × (o ≡ some l)
+leg-stands none h = absurd (true≢false h)
+leg-stands (some l) h = (l, refl)
 
 -- every list that 50 is answered with is given so
 pub print-accepted : (b : Book) (es : List Entry) → answer b Print ≡ listed es → PrintFits b es
-print-accepted b es h = go (b .leg) refl
-  where
-    empty : Bool
-    empty = eqb (length (b .lines)) 0
-
-    go : (o : Option Leg) → b .leg ≡ o → PrintFits b es
-    go none e = absurd (listed-not-refused NoLeg es (sym (answer-print-legless b e) ∙ h))
-    go (some l) e = cases empty refl
-      where
-        cases : (c : Bool) → empty ≡ c → PrintFits b es
-        cases true f = absurd (listed-not-refused NoSite es (sym (answer-print-empty b l e (eqb-true _ _ f)) ∙ h))
-        cases false f =
-            record { line = l; stands = e; some-site = eqb-false _ _ f; is = listed-one es _ (sym h ∙ answer-print-done b l e (eqb-false _ _ f)) }
+print-accepted b es h =
+    let (m, q) = none-listed b Print es h in
+    let (l, e) = leg-stands (b .leg) (m .0) in
+    record {
+      line = l;
+      stands = e;
+      some-site = eqb-false _ 0 (m .1 .0);
+      is = sym (listed-one _ es q) ∙ ap (λ (o : Option Leg). listOf o (sitesOf b)) e;
+    }

@@ -3,7 +3,7 @@
 use mathlib.Core.Path.{_≡_, refl, sym, ap, _∙_}
 use mathlib.Core.Logic.{_≢_, _⊎_, inl, inr}
 use mathlib.Core.Bool.{Bool, true, false, cond, _||_, true≢false}
-use mathlib.Core.List.{List, [], _∷_, _++_, List·Memᴰ, List·Memᴰ·head, List·Memᴰ·tail, List·Memᴰ·not-nil, List·Memᴰ·cases-cons, List·Memᴰ·append-cases, Memᴰ·append-right}
+use mathlib.Core.List.{List, [], _∷_, _++_, List·Memᴰ, List·Memᴰ·head, List·Memᴰ·tail, List·Memᴰ·not-nil, List·Memᴰ·cases-cons, Memᴰ·append-right}
 use Prim.Native.Nat.{ℕ, suc, _≤_, _<_}
 use native.Mathlib.Omega.{arith}
 use native.Mathlib.Decide.{ℕ-discrete, decLt}
@@ -126,11 +126,6 @@ rising-head p (q ∷ s) r x m = go (List·Memᴰ·cases-cons m) (rising-head q s
     go (inl e) ih = omega (arith, ap (λ (y : Site). y .number) e, r .0)
     go (inr k) ih = omega (arith, ih k, r .0)
 
--- a line before higher ones that rise
-pub rising-cons : (p : Site) (s : List Site) → AllAbove (p .number) s → Rising s → Rising (p ∷ s)
-rising-cons p [] h r = tt
-rising-cons p (q ∷ s) h r = (h q (List·Memᴰ·head refl), r)
-
 -- before a site of a rising list the numbers are lower
 pub rising-below : (a : List Site) (p : Site) (b : List Site) → Rising (a ++ (p ∷ b)) → AllBelow a (p .number)
 rising-below [] p b r q m = absurd (List·Memᴰ·not-nil m)
@@ -139,22 +134,6 @@ rising-below (x ∷ a) p b r q m = go (List·Memᴰ·cases-cons m) (rising-below
     go : (q ≡ x) ⊎ List·Memᴰ q a → (List·Memᴰ q a → q .number < p .number) → q .number < p .number
     go (inl e) ih = omega (arith, ap (λ (y : Site). y .number) e, rising-head x (a ++ (p ∷ b)) r p (Memᴰ·append-right a (List·Memᴰ·head refl)))
     go (inr k) ih = ih k
-
--- the end of a rising list rises
-pub rising-end : (a b : List Site) → Rising (a ++ b) → Rising b
-rising-end [] b r = r
-rising-end (x ∷ a) b r = rising-end a b (rising-tail x (a ++ b) r)
-
--- lines that rise, behind lower ones that rise
-pub rising-join : (a b : List Site) → Rising a → Rising b → ((p : Site) → List·Memᴰ p a → AllAbove (p .number) b) → Rising (a ++ b)
-rising-join [] b ra rb h = rb
-rising-join (x ∷ a) b ra rb h =
-    rising-cons x (a ++ b) (λ q m. go q (List·Memᴰ·append-cases a m))
-    (rising-join a b (rising-tail x a ra) rb (λ p m. h p (List·Memᴰ·tail m)))
-  where
-    go : (q : Site) → List·Memᴰ q a ⊎ List·Memᴰ q b → x .number < q .number
-    go q (inl m) = rising-head x a ra q m
-    go q (inr m) = h x (List·Memᴰ·head refl) q m
 
 -- NO NUMBER TWICE
 pub rising-one : (s : List Site) → Rising s → (p q : Site) → List·Memᴰ p s → List·Memᴰ q s → p .number ≡ q .number → p ≡ q
@@ -255,24 +234,6 @@ holds-write n p (q ∷ s) = go (ltb (p .number) (q .number)) (holds-write n p s)
     go true ih = refl
     go false ih = rw ih (swap (eqb (q .number) n) (eqb (p .number) n) (holds n s))
 
--- NUMBERS STILL RISE where a line is written under a number that is not held
-pub rising-write : (p : Site) (s : List Site) → holds (p .number) s ≡ false → Rising s → Rising (writeLine p s)
-unfolding writeLine
-rising-write p [] h r = tt
-rising-write p (q ∷ s) h r =
-    go (decLt (p .number) (q .number)) (rising-write p s (sym (holds-past (p .number) q s other) ∙ h) (rising-tail q s r))
-  where
-    other : q .number ≢ p .number
-    other = holds-absent (p .number) (q ∷ s) h q (List·Memᴰ·head refl)
-
-    go : Dec (p .number < q .number) → Rising (writeLine p s) → Rising (writeLine p (q ∷ s))
-    go (yes l) ih = rw (write-before p q s l) (l, r)
-    go (no l) ih = rw (write-past p q s (omega arith)) (rising-cons q (writeLine p s) (λ x m. high x (List·Memᴰ·cases-cons (write-back p s x m))) ih)
-      where
-        high : (x : Site) → (x ≡ p) ⊎ List·Memᴰ x s → q .number < x .number
-        high x (inl e) = omega (arith, other, ap (λ (y : Site). y .number) e)
-        high x (inr m) = rising-head q s r x m
-
 -- THE ORDER OF WRITING is nothing to the book
 pub write-comm : (p q : Site) (s : List Site) → p .number ≢ q .number → writeLine p (writeLine q s) ≡ writeLine q (writeLine p s)
 unfolding writeLine
@@ -359,16 +320,6 @@ strike-none n [] h = refl
 strike-none n (q ∷ s) h =
     let k : q .number ≢ n = holds-absent n (q ∷ s) h q (List·Memᴰ·head refl) in
     strike-past n q s k ∙ ap (λ (y : List Site). q ∷ y) (strike-none n s (sym (holds-past n q s k) ∙ h))
-
--- NUMBERS STILL RISE where a line is struck
-pub rising-strike : (n : ℕ) (s : List Site) → Rising s → Rising (strikeLine n s)
-unfolding strikeLine
-rising-strike n [] r = tt
-rising-strike n (q ∷ s) r = go (eqb (q .number) n) (rising-strike n s (rising-tail q s r))
-  where
-    go : (c : Bool) → Rising (strikeLine n s) → Rising (cond c (strikeLine n s) (q ∷ strikeLine n s))
-    go true ih = ih
-    go false ih = rising-cons q (strikeLine n s) (λ x m. rising-head q s r x (strike-from n s x m)) ih
 
 -- the struck number is held no more
 pub holds-strike : (n : ℕ) (s : List Site) → holds n (strikeLine n s) ≡ false

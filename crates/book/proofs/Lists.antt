@@ -1,6 +1,6 @@
 -- The lists that a book answers: document 01's split lists, short enough for any report record, and nothing of them is cut off.
 -- Assumes nothing.
-use mathlib.Core.Path.{_≡_, refl, sym, ap, _∙_, subst, subst⁻¹}
+use mathlib.Core.Path.{_≡_, refl, sym, subst, subst⁻¹}
 use mathlib.Core.Option.{Option, some}
 use mathlib.Core.List.{List, _∷_, map, List·Memᴰ, List·Memᴰ·head, List·Memᴰ·tail}
 use Prim.Native.Nat.{_≤_, _<_}
@@ -24,11 +24,11 @@ use Rattle.records.proofs.Length.{record-length}
 use Rattle.records.proofs.ReadBack.{EntrySmall, read-record}
 use Rattle.book.specs.declared.Command.{Command}
 use Rattle.book.specs.declared.Command.the-variants.{Add, Remove, Move, List as ListOf, Stand, Print}
-use Rattle.book.specs.Book.{Book}
+use Rattle.book.specs.Book.{Book, sitesOf}
 use Rattle.book.specs.Proper.{LegOk, Proper}
 use Rattle.book.specs.Reply.{Reply, done, refused, listed, recordOf, recordSize}
 use Rattle.book.specs.Answer.{answer, legAsked}
-use Rattle.book.proofs.Answers.{ListFits, list-accepted, PrintFits, print-accepted, add-not-listed, remove-not-listed, move-not-listed, stand-not-listed}
+use Rattle.book.proofs.Answers.{done-not-listed, accepted-listed, ListFits, list-accepted, PrintFits, print-accepted}
 use Rattle.book.proofs.ProperBooks.{proper-numbered}
 
 -- a listed site is held
@@ -54,42 +54,44 @@ record-size (listed es) = record-length es
 pub record BookList (b : Book) (c : Command) (es : List Entry) : Type 0 where
   pub leg : Leg
   pub asked : legAsked b c ≡ some leg
-  pub is : es ≡ splitOf leg (b .lines)
+  pub is : es ≡ splitOf leg (sitesOf b)
   pub onGrid : LegOnGrid leg
-  pub list : IsSplitList leg (b .lines) es
+  pub list : IsSplitList leg (sitesOf b) es
 
 module _ (b : Book) (ok : Proper b) where
   leg-ok : (l : Leg) → b .leg ≡ some l → LegOnGrid l
   leg-ok l e = subst (λ (o : Option Leg). LegOk o) e (ok .legOk)
 
-  split-list : (l : Leg) (es : List Entry) → es ≡ splitOf l (b .lines) → IsSplitList l (b .lines) es
-  split-list l es e = subst⁻¹ (λ (fs : List Entry). IsSplitList l (b .lines) fs) e (split-is l (b .lines) (proper-numbered b ok))
+  split-list : (l : Leg) (es : List Entry) → es ≡ splitOf l (sitesOf b) → IsSplitList l (sitesOf b) es
+  split-list l es e =
+      subst⁻¹ (λ (fs : List Entry). IsSplitList l (sitesOf b) fs) e (split-is l (sitesOf b) (proper-numbered b ok))
 
-  -- A LISTED ANSWER is document 01's split list of a leg over the book's lines
+  -- A LISTED ANSWER is document 01's split list of a leg over the book's sites
   pub answer-list : (c : Command) (es : List Entry) → answer b c ≡ listed es → BookList b c es
-  answer-list (Add n p) es h = absurd (add-not-listed b n p es h)
-  answer-list (Remove n) es h = absurd (remove-not-listed b n es h)
-  answer-list (Move n p) es h = absurd (move-not-listed b n p es h)
+  answer-list (Add n p) es h = absurd (done-not-listed es (accepted-listed b (Add n p) es h))
+  answer-list (Remove n) es h = absurd (done-not-listed es (accepted-listed b (Remove n) es h))
+  answer-list (Move n p) es h = absurd (done-not-listed es (accepted-listed b (Move n p) es h))
   answer-list (ListOf l) es h =
       let f : ListFits b l es = list-accepted b l es h in
       record { leg = l; asked = refl; is = f .is; onGrid = f .onGrid; list = split-list l es (f .is) }
-  answer-list (Stand l) es h = absurd (stand-not-listed b l es h)
+  answer-list (Stand l) es h = absurd (done-not-listed es (accepted-listed b (Stand l) es h))
   answer-list Print es h =
       let f : PrintFits b es = print-accepted b es h in
       record { leg = f .line; asked = f .stands; is = f .is; onGrid = leg-ok (f .line) (f .stands); list = split-list (f .line) es (f .is) }
 
-  module _ (l : Leg) (on : LegOnGrid l) (es : List Entry) (h : IsSplitList l (b .lines) es) where
+  module _ (l : Leg) (on : LegOnGrid l) (es : List Entry) (h : IsSplitList l (sitesOf b) es) where
     -- at most 512 entries
     pub list-few : length es ≤ maxSites
-    list-few = omega (arith, ok .few, few l (b .lines) (proper-numbered b ok) es h)
+    list-few = omega (arith, ok .few, few l (sitesOf b) (proper-numbered b ok) es h)
 
     -- the record's fields hold every entry
     list-small : (e : Entry) → List·Memᴰ e es → EntrySmall e
     list-small e m =
-        let d : e .start .den ≤ maxDenominator = bounded l (b .lines) (proper-numbered b ok) on (ok .onGrid) es h e m in
-        let n : e .start .num < e .start .den = start-below l (b .lines) es (h .rules) e m in
+        let d : e .start .den ≤ maxDenominator =
+        bounded l (sitesOf b) (proper-numbered b ok) on (ok .onGrid) es h e m in
+        let n : e .start .num < e .start .den = start-below l (sitesOf b) es (h .rules) e m in
         record {
-          number = omega (arith, ok .numbers (e .site) (listed-held l (b .lines) es (h .rules) e m) .most);
+          number = omega (arith, ok .numbers (e .site) (listed-held l (sitesOf b) es (h .rules) e m) .most);
           num = omega arith;
           den = omega arith;
         }

@@ -3,13 +3,12 @@
 use mathlib.Core.Path.{_≡_, refl, sym, ap, _∙_}
 use mathlib.Core.Logic.{_≢_, _⊎_, inl, inr}
 use mathlib.Core.List.{List, [], _∷_, _++_, append-assoc, append-nil, List·Memᴰ, List·Memᴰ·head, List·Memᴰ·tail, List·Memᴰ·not-nil, List·Memᴰ·cases-cons}
-use Prim.Native.Nat.{suc}
 use native.Mathlib.Omega.{arith}
-use lib.ListN.{length}
 use Rattle.grid.specs.declared.Site.{Site}
 use Rattle.book.specs.Book.{writeLine}
 use Rattle.book.specs.Proper.{Rising}
-use Rattle.book.specs.Perm.{Perm, same, next, swap, trans}
+use Rattle.permutation.specs.Perm.{Perm, same, next, swap, trans}
+use Rattle.permutation.proofs.Perms.{perm-member}
 use Rattle.book.proofs.Lines.{rising-tail, rising-head, rising-below, write-between, write-comm}
 
 -- the lines of `order` written one after the other, its first one first
@@ -32,37 +31,11 @@ pub rising-apart : (s : List Site) → Rising s → Apart s
 rising-apart [] r = tt
 rising-apart (p ∷ s) r = (λ q m e. omega (arith, e, rising-head p s r q m), rising-apart s (rising-tail p s r))
 
--- the same sites
-pub perm-member : {s t : List Site} → Perm s t → (x : Site) → List·Memᴰ x s → List·Memᴰ x t
-perm-member same x m = m
-perm-member (next {p = p} {s = s} {t = t} h) x m = go (List·Memᴰ·cases-cons m) (perm-member h x)
-  where
-    go : (x ≡ p) ⊎ List·Memᴰ x s → (List·Memᴰ x s → List·Memᴰ x t) → List·Memᴰ x (p ∷ t)
-    go (inl e) ih = List·Memᴰ·head e
-    go (inr k) ih = List·Memᴰ·tail (ih k)
-perm-member (swap {p = p} {q = q} {s = s}) x m = go (List·Memᴰ·cases-cons m)
-  where
-    tail : (x ≡ q) ⊎ List·Memᴰ x s → List·Memᴰ x (q ∷ p ∷ s)
-    tail (inl e) = List·Memᴰ·head e
-    tail (inr k) = List·Memᴰ·tail (List·Memᴰ·tail k)
-
-    go : (x ≡ p) ⊎ List·Memᴰ x (q ∷ s) → List·Memᴰ x (q ∷ p ∷ s)
-    go (inl e) = List·Memᴰ·tail (List·Memᴰ·head e)
-    go (inr k) = tail (List·Memᴰ·cases-cons k)
-perm-member (trans h k) x m = perm-member k x (perm-member h x m)
-
--- as many
-pub perm-length : {s t : List Site} → Perm s t → length s ≡ length t
-perm-length same = refl
-perm-length (next h) = ap suc (perm-length h)
-perm-length swap = refl
-perm-length (trans h k) = perm-length h ∙ perm-length k
-
 -- no number twice
 pub perm-apart : {s t : List Site} → Perm s t → Apart t → Apart s
 perm-apart same a = a
 perm-apart (next h) a = (λ q m. a .0 q (perm-member h q m), perm-apart h (a .1))
-perm-apart (swap {p = p} {q = q} {s = s}) a = (λ x m. go x (List·Memᴰ·cases-cons m), (λ x m. a .0 x (List·Memᴰ·tail m), a .1 .1))
+perm-apart (swap {x = p} {y = q} {l = s}) a = (λ x m. go x (List·Memᴰ·cases-cons m), (λ x m. a .0 x (List·Memᴰ·tail m), a .1 .1))
   where
     go : (x : Site) → (x ≡ q) ⊎ List·Memᴰ x s → p .number ≢ x .number
     go x (inl e) f = a .0 p (List·Memᴰ·head refl) (sym (f ∙ ap (λ (y : Site). y .number) e))
@@ -72,8 +45,8 @@ perm-apart (trans h k) a = perm-apart h (perm-apart k a)
 -- ANY ORDER makes the same lines
 pub perm-write : {s t : List Site} → Perm s t → Apart t → (a : List Site) → writeAll s a ≡ writeAll t a
 perm-write same h a = refl
-perm-write (next {p = p} k) h a = perm-write k (h .1) (writeLine p a)
-perm-write (swap {p = p} {q = q} {s = s}) h a = ap (writeAll s) (write-comm q p a (h .0 p (List·Memᴰ·head refl)))
+perm-write (next {x = p} k) h a = perm-write k (h .1) (writeLine p a)
+perm-write (swap {x = p} {y = q} {l = s}) h a = ap (writeAll s) (write-comm q p a (h .0 p (List·Memᴰ·head refl)))
 perm-write (trans k j) h a = perm-write k (perm-apart j h) a ∙ perm-write j h a
 
 -- rising lines, written behind lower ones

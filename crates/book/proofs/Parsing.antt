@@ -12,7 +12,7 @@ use borrow.Author.Tests.{ltb-true, ltb-false, leb-true, leb-false, le-ltb, lt-lt
 use Rattle.book.specs.declared.Command.{Command}
 use Rattle.book.specs.declared.Parsed.{Parsed}
 use Rattle.book.specs.declared.Parsed.the-variants.{End, Unknown, Cut, Whole}
-use Rattle.book.specs.Command.{madeAt, Form, commandTable, formBytes, formIn, formOf, longestIn, whole, commandAt, parseAt}
+use Rattle.book.specs.Command.{madeAt, Form, commandTable, formBytes, formIn, formOf, longestIn, commandAt, parseAt}
 
 module _ (s : List ℕ) (at : ℕ) where
   -- the end

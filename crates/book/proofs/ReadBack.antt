@@ -106,19 +106,21 @@ module _ (pre : List ℕ) (t : List ℕ) where
       ∙ (λ j. Whole ((made-behind (f .shape) (f .maker) pre s 1 ∙ h) j) (length pre + (1 + sym n j)))
 
   number-behind : (m : ℕ) (f : Maker Number) → formOf m ≡ some (form m Number f) → (n : ℕ) → n < 65536
-      → parseAt (pre ++ (m ∷ bytes2 n ++ t)) (length pre) ≡ Whole (f n) (length pre + 3)
+      → parseAt (pre ++ (m ∷ bytes2 n ++ t)) (length pre) ≡ Whole (f n) (length pre + formBytes (form m Number f))
   number-behind m f e n h = behind m (bytes2 n) (form m Number f) e refl (f n) (ap f (number-back m n t h))
 
   number-position-behind : (m : ℕ) (f : Maker NumberPosition) → formOf m ≡ some (form m NumberPosition f)
       → (n : ℕ) (p : Position) → (n < 65536) × PositionSmall p
-      → parseAt (pre ++ (m ∷ bytes2 n ++ positionBytes p ++ t)) (length pre) ≡ Whole (f n p) (length pre + 7)
+      → parseAt (pre ++ (m ∷ bytes2 n ++ positionBytes p ++ t)) (length pre)
+      ≡ Whole (f n p) (length pre + formBytes (form m NumberPosition f))
   number-position-behind m f e n p h =
       behind m (bytes2 n ++ positionBytes p) (form m NumberPosition f) e refl (f n p)
       (λ j. f (number-back m n (positionBytes p ++ t) (h .0) j) (position-back m (n % 256) (n / 256 % 256) p t (h .1) j))
 
   two-positions-behind : (m : ℕ) (f : Maker TwoPositions) → formOf m ≡ some (form m TwoPositions f)
       → (l : Leg) → PositionSmall (l .s) × PositionSmall (l .e)
-      → parseAt (pre ++ (m ∷ legBytes l ++ t)) (length pre) ≡ Whole (f l) (length pre + 9)
+      → parseAt (pre ++ (m ∷ legBytes l ++ t)) (length pre)
+      ≡ Whole (f l) (length pre + formBytes (form m TwoPositions f))
   two-positions-behind m f e l h = behind m (legBytes l) (form m TwoPositions f) e refl (f l) (ap f (leg-back m l t (h .0) (h .1)))
 
   -- A COMMAND IS READ BACK, with whatever bytes before it and behind it

@@ -17,14 +17,15 @@ use Rattle.book.specs.declared.Reason.the-variants.{AllUsed}
 use Rattle.book.specs.Encode.{commandBytes, additions}
 use Rattle.book.specs.Book.{Book, emptyBook, writeLine, holds, change}
 use Rattle.book.specs.Proper.{NumberOk, Proper}
-use Rattle.book.specs.Perm.{Perm}
+use Rattle.permutation.specs.Perm.{Perm}
 use Rattle.book.specs.Reply.{done}
 use Rattle.book.specs.Answer.{answer, after}
 use Rattle.book.specs.Run.{Turn, records, Outcome, ends, run, afterAll}
 use Rattle.book.proofs.Lines.{write-length, holds-write}
 use Rattle.book.proofs.Answers.{answer-add-done}
 use Rattle.book.proofs.ReadBack.{allBytes, AllEncodable, turnsOf, run-commands}
-use Rattle.book.proofs.Orders.{writeAll, write-all-append, Apart, rising-apart, perm-member, perm-length, perm-apart, write-order}
+use Rattle.permutation.proofs.Perms.{perm-member, perm-length}
+use Rattle.book.proofs.Orders.{writeAll, write-all-append, Apart, rising-apart, perm-apart, write-order}
 
 -- a call of additions: its sites, and the report room
 pub record Batch : Type 0 where

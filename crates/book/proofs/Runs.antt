@@ -120,14 +120,6 @@ module _ (cs : List ℕ) (room : ℕ) (b₀ : Book) where
   unfolding records
   run-ends = from (suc (length cs)) 0 [] b₀ (omega arith) (record { fits = omega arith; inside = omega arith; book = refl; answered = tt })
 
-  -- the records fit the room
-  pub run-fits : length (records (run cs room b₀ .turns)) ≤ room
-  run-fits = run-ends .fits
-
-  -- no more bytes are used than there are
-  pub run-inside : run cs room b₀ .used ≤ length cs
-  run-inside = run-ends .inside
-
   -- THE BOOK is the one before, changed by each turn
   pub run-book : run cs room b₀ .book ≡ afterAll b₀ (run cs room b₀ .turns)
   run-book = run-ends .book
@@ -164,40 +156,9 @@ module _ (cs : List ℕ) (room : ℕ) (b₀ : Book) where
       go CutShort h = inr (inr (inl refl))
       go NoRoom h = inr (inr (inr refl))
 
-  -- never 64
-  pub run-not-wrong-length : run cs room b₀ .reason ≢ WrongLength
-  run-not-wrong-length e = subst (λ (r : Reason). StopsFor cs room r (run cs room b₀ .used) (run cs room b₀ .turns) (run cs room b₀ .book)) e (run-ends .stops)
-
   -- never 65
   pub run-not-broken : run cs room b₀ .reason ≢ Broken
   run-not-broken e = subst (λ (r : Reason). StopsFor cs room r (run cs room b₀ .used) (run cs room b₀ .turns) (run cs room b₀ .book)) e (run-ends .stops)
-
--- ---- enough turns
-
--- ENOUGH TURNS ARE ENOUGH: from a byte on, any two numbers of turns past the bytes left give one outcome
-pub run-enough : (cs : List ℕ) (room k j at : ℕ) (past : List Turn) (b : Book) → at ≤ length cs → length cs < at + k → length cs < at + j
-    → runFrom k cs room at past b ≡ runFrom j cs room at past b
-unfolding runFrom turn
-run-enough cs room zero j at past b i l m = absurd (omega arith)
-run-enough cs room (suc k) zero at past b i l m = absurd (omega arith)
-run-enough cs room (suc k) (suc j) at past b i l m = go (parseAt cs at) refl (run-enough cs room k j)
-  where
-    go : (p : Parsed) → parseAt cs at ≡ p
-        → ((next : ℕ) (past′ : List Turn) (b′ : Book) → next ≤ length cs → length cs < next + k → length cs < next + j → runFrom k cs room next past′ b′ ≡ runFrom j cs room next past′ b′)
-        → turn (runFrom k cs room) p room at past b ≡ turn (runFrom j cs room) p room at past b
-    go End e ih = refl
-    go Unknown e ih = refl
-    go Cut e ih = refl
-    go (Whole c next) e ih = room? (leb (length (records past) + length (recordOf (answer b c))) room)
-      where
-        n : (at < next) × (next ≤ length cs)
-        n = parse-next cs at c next e
-
-        room? : (t : Bool)
-            → cond t (runFrom k cs room next (past ++ (turnOf b c ∷ [])) (after b c (answer b c))) (ends NoRoom at past b)
-            ≡ cond t (runFrom j cs room next (past ++ (turnOf b c ∷ [])) (after b c (answer b c))) (ends NoRoom at past b)
-        room? true = ih next _ _ (n .1) (omega (arith, n .0)) (omega (arith, n .0))
-        room? false = refl
 
 -- ---- the work buffer
 

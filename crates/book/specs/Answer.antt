@@ -57,7 +57,8 @@ abbrev pub firstCause : List Test → Reply → Reply
 firstCause [] y = y
 firstCause (t ∷ ts) y = cond (t .met) (refused (t .cause)) (firstCause ts y)
 
--- what an accepted command is answered: "2B each", "4C gives 3D with the split list of its leg over the lines, 50 with that of the standing leg"
+-- what an accepted command is answered: "2B each", "4C gives 3D with the split list of its leg over the lines, 50
+-- with that of the standing leg"
 abbrev pub accepted : Book → Command → Reply
 accepted b (Add n p) = done
 accepted b (Remove n) = done
@@ -85,7 +86,8 @@ after b c done = change c b
 after b c (refused x) = b
 after b c (listed es) = change c b
 
--- the leg whose list a command asks for: "4C gives 3D with the split list of its leg over the lines, 50 with that of the standing leg"
+-- the leg whose list a command asks for: "4C gives 3D with the split list of its leg over the lines, 50 with that of
+-- the standing leg"
 abbrev pub legAsked : Book → Command → Option Leg
 legAsked b (Add n p) = none
 legAsked b (Remove n) = none

@@ -1,5 +1,5 @@
--- The site book: "It has lines, each a site number and a position, and a standing leg or none." Document 01, "The site book".
--- Lines are kept in rising order of number, so that two books with the same lines are equal.
+-- The site book: "It has lines, each a site number and a position, and a standing leg or none." Document 01, "The
+-- site book". Lines are kept in rising order of number, so that two books with the same lines are equal.
 -- Assumes nothing.
 use mathlib.Core.List.{List, [], _∷_}
 use mathlib.Core.Option.{Option, none, some}

@@ -1,5 +1,5 @@
--- Command bytes. Document 01, "Buffers and batches": the table of commands, and "Multi-byte numbers stand lowest byte first;
--- positions are two signed 16-bit numbers, site numbers unsigned 16-bit".
+-- Command bytes. Document 01, "Buffers and batches": the table of commands, and "Multi-byte numbers stand lowest byte
+-- first; positions are two signed 16-bit numbers, site numbers unsigned 16-bit".
 -- Assumes nothing.
 use mathlib.Core.List.{List, [], _∷_}
 use mathlib.Core.Option.{Option, none, some}

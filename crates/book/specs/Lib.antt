@@ -3,7 +3,6 @@ pub mod Command
 pub mod Encode
 pub mod Book
 pub mod Proper
-pub mod Perm
 pub mod Reply
 pub mod Answer
 pub mod Run

@@ -27,7 +27,8 @@ abbrev pub LegOk : Option Leg → Type 0
 LegOk none = Unit {0}
 LegOk (some l) = LegOnGrid l
 
--- "A site has a number from 1 to 65,535 and a position. Two sites may share a position, never a number. A table holds 0 to 512 sites."
+-- "A site has a number from 1 to 65,535 and a position. Two sites may share a position, never a number. A table holds
+-- 0 to 512 sites."
 pub record Proper (b : Book) : Type 0 where
   pub rising : Rising (b .lines)
   pub numbers : (p : Site) → List·Memᴰ p (b .lines) → NumberOk p

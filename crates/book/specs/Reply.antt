@@ -1,5 +1,6 @@
--- What a command is answered, and the record: its bytes and their number. Document 01, "Buffers and batches": "Report records: 2B for an accepted change or 53;
--- 21 and the refusal number as a byte; 3D, a 16-bit count, then per entry ..".
+-- What a command is answered, and the record: its bytes and their number. Document 01, "Buffers and batches": "Report
+-- records: 2B for an accepted change or 53; 21 and the refusal number as a byte; 3D, a 16-bit count, then per entry
+-- ..".
 -- Assumes nothing.
 use mathlib.Core.List.{List, [], _∷_}
 use Prim.Native.Nat.{ℕ}

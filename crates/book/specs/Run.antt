@@ -38,8 +38,8 @@ pub record Outcome : Type 0 where
 abbrev pub ends : Reason → ℕ → List Turn → Book → Outcome
 ends reason used turns book = record { reason = reason; used = used; turns = turns; book = book }
 
--- one turn, by what stands at byte `at`: "66 and 67 end the call there"; "A record longer than the report room left is not written; 68 ends the call."
--- `past` are the turns before, and `on` goes on.
+-- one turn, by what stands at byte `at`: "66 and 67 end the call there"; "A record longer than the report room left
+-- is not written; 68 ends the call." `past` are the turns before, and `on` goes on.
 unfoldable pub turn : (ℕ → List Turn → Book → Outcome) → Parsed → ℕ → ℕ → List Turn → Book → Outcome
 turn on End room at past b = ends AllUsed at past b
 turn on Unknown room at past b = ends UnknownCommand at past b
@@ -74,7 +74,8 @@ pub record TooLong (cs : List ℕ) (room used : ℕ) (past : List Turn) (b : Boo
   pub stands : parseAt cs used ≡ Whole command next
   pub long : room < length (records past) + length (recordOf (answer b command))
 
--- what a reason says of the byte where a call ended, with the turns before it and the book then. Document 01, "Causes and numbers", 0 and 66 to 68.
+-- what a reason says of the byte where a call ended, with the turns before it and the book then. Document 01, "Causes
+-- and numbers", 0 and 66 to 68.
 abbrev pub StopsFor : List ℕ → ℕ → Reason → ℕ → List Turn → Book → Type 0
 StopsFor cs room AllUsed used past b = used ≡ length cs
 StopsFor cs room WrongLength used past b = ⊥

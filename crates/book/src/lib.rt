@@ -1,4 +1,5 @@
-// The site book of document 01: commands, causes and reasons as the code has them. What the book does with them stands in specs/.
+// The site book of document 01: commands, causes and reasons as the code has them. What the book does with them
+// stands in specs/.
 use grid::Leg;
 use grid::Position;
 
@@ -20,7 +21,8 @@ pub enum Shape {
     TwoPositions,
 }
 
-// What stands at a byte of the commands: their end, no command, a command that is cut short, or a whole one and where the next begins.
+// What stands at a byte of the commands: their end, no command, a command that is cut short, or a whole one and where
+// the next begins.
 pub enum Parsed {
     End,
     Unknown,

@@ -10,7 +10,7 @@ use Rattle.book.specs.Book.{Book, change}
 use Rattle.book.specs.Reply.{Reply, done, refused, listed}
 use Rattle.book.specs.Answer.{reads, after}
 use Rattle.book.specs.Run.{Turn, afterAll}
-use Rattle.table.specs.Table.{Sound, bookOf}
+use Rattle.table_rules.specs.Table.{Sound, bookOf}
 use Rattle.demands.specs.Step.{Holds, keeps, Left, Step, Chain}
 use Rattle.demands.specs.Step.Chain.{none, next}
 use Rattle.demands.specs.Demands.{AllKeep}

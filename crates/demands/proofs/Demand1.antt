@@ -1,10 +1,10 @@
 -- DEMAND 1, proved over the definitions of the calls' contracts alone.
 -- Assumes nothing.
-use mathlib.Core.Path.{_≡_, refl, sym, ap, _∙_, subst}
+use mathlib.Core.Path.{_≡_, sym, ap, _∙_, subst}
 use mathlib.Core.Logic.{_≢_, _⊎_, inl, inr}
 use mathlib.Core.Bool.{true, false, true≢false}
 use mathlib.Core.List.{List, [], _∷_, List·Memᴰ, List·Memᴰ·head, List·Memᴰ·tail}
-use Prim.Native.Nat.{ℕ, _≤_}
+use Prim.Native.Nat.{ℕ}
 use native.Mathlib.Omega.{arith}
 use lib.ListN.{length, drop}
 use lib.Seq.{take-append-seam, drop-append-seam}
@@ -13,9 +13,9 @@ use Rattle.limits.specs.Limits.{tableBytes}
 use Rattle.book.specs.declared.Reason.{Reason}
 use Rattle.book.specs.declared.Reason.the-variants.{AllUsed, UnknownCommand, CutShort, NoRoom}
 use Rattle.book.specs.Numbers.{reasonNumber}
-use Rattle.book.specs.Run.{Outcome, records, run, StopsFor}
+use Rattle.book.specs.Run.{records, StopsFor}
 use Rattle.book.proofs.Runs.{run-ends, run-all, all-run, run-reason}
-use Rattle.table.specs.Table.{Sound, bookOf}
+use Rattle.table_rules.specs.Table.{Sound, bookOf}
 use Rattle.demands.specs.Batch.{Return, lengthsOk, Served, LaidOut}
 use Rattle.demands.specs.Batch.Batch.{wrong, broken, served}
 use Rattle.demands.specs.Batch.LaidOut.{wrong as not-laid, laid}

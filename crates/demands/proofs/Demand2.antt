@@ -1,8 +1,6 @@
 -- DEMAND 2, proved over the definition of the batch call's contract alone.
 -- Assumes nothing.
 use mathlib.Core.Path.{_≡_, refl, sym, ap, _∙_, subst}
-use mathlib.Core.Logic.{_≢_}
-use mathlib.Core.Option.{some}
 use mathlib.Core.List.{List, [], _∷_, _++_, append-assoc}
 use Prim.Native.Nat.{ℕ, _+_, _≤_}
 use lib.ListN.{length}
@@ -21,12 +19,12 @@ use Rattle.book.specs.Reply.{Reply, listed, recordOf}
 use Rattle.book.specs.Answer.{answer}
 use Rattle.book.specs.Run.{Turn, Outcome, records, run, afterAll}
 use Rattle.book.proofs.Answers.{answer-print-done}
-use Rattle.book.proofs.Runs.{turnOf, records-append, records-one, call-right, run-ends, run-book, answered-at}
+use Rattle.book.proofs.Runs.{turnOf, records-append, call-right, run-ends, run-book, answered-at}
 use Rattle.book.proofs.ReadBack.{Encodable}
 use Rattle.book.proofs.Prefixes.{Grown, comes-to}
 use Rattle.book.proofs.Lists.{answer-list}
-use Rattle.table.specs.Table.{bookOf}
-use Rattle.table.proofs.Books.{sound-proper}
+use Rattle.table_rules.specs.Table.{bookOf}
+use Rattle.table_rules.proofs.Books.{sound-proper}
 use Rattle.demands.specs.Step.{Chain}
 use Rattle.demands.specs.Whole.{Call, Said, said}
 use Rattle.demands.specs.Demands.{runOf, IsServed, ComesTo, Printed, Answers, ListedRight, GivesList, Demand2}

@@ -27,7 +27,7 @@ use Rattle.book.specs.declared.Reason.the-variants.{WrongLength, Broken}
 use Rattle.book.specs.Numbers.{reasonNumber}
 use Rattle.book.specs.Book.{Book, emptyBook, sitesOf, change, writeLine, strikeLine, listOf, standingList}
 use Rattle.book.specs.Encode.{commandBytes, additions}
-use Rattle.book.specs.Perm.{Perm}
+use Rattle.permutation.specs.Perm.{Perm}
 use Rattle.book.specs.Proper.{Proper, NumberOk, LegOk}
 use Rattle.book.specs.Reply.{Reply, done, refused, listed, recordOf}
 use Rattle.book.specs.Answer.{answer, after}
@@ -39,11 +39,11 @@ use Rattle.book.proofs.Runs.{call-right, run-not-broken}
 use Rattle.book.proofs.ReadBack.{Encodable}
 use Rattle.book.proofs.Refill.{refill, allSites, Roomy, afterCalls}
 use Rattle.book.proofs.Refill as refills
-use Rattle.table.proofs.Books.{sound-proper}
+use Rattle.table_rules.proofs.Books.{sound-proper}
 use Rattle.demands.specs.Step.{Holds, keeps}
 use Rattle.demands.specs.Whole.Made.{none as no-call, next}
 use Rattle.demands.specs.Whole.Filled.{none as no-ask, next as more-asks}
-use Rattle.demands.specs.Whole.{Call, Made, Ran, Said, said, Ask, asked, taken, bookAfter, bookOfRun, Filled, Asks, Room, Wrote}
+use Rattle.demands.specs.Whole.{Call, Made, Ran, Said, said, Ask, asked, taken, bookAfter, bookOfRun, Filled, Asks, HasRoom, WroteReport}
 use Rattle.demands.specs.Demands.{list4C, print50, listRecord, FreshOf, Changed, numberAt, Demand3}
 use Rattle.demands.proofs.Reasons.{same-reason}
 use Rattle.demands.proofs.WholeRun.{Answered, one-on, ran-holds, ran-answers, laid-holds}
@@ -84,36 +84,36 @@ list-keeps l (listed es) = refl
 -- on a table of a book that keeps the rules
 module _ (b : Book) (t′ : List ℕ) (h : Holds t′ b) (ok : Proper b) where
   -- a 50 that is answered so writes that record
-  wrote-print : (y : Reply) → answer b Print ≡ y → (c : Call) (t″ : List ℕ) → Asks t′ print50 c t″ → Room c (recordOf y) → Wrote c (recordOf y)
+  wrote-print : (y : Reply) → answer b Print ≡ y → (c : Call) (t″ : List ℕ) → Asks t′ print50 c t″ → HasRoom c (recordOf y) → WroteReport c (recordOf y)
   wrote-print y p c t″ a room =
-      subst (λ (x : Reply). Wrote c (recordOf x)) p (wrote-one t′ b h Print tt c t″ a (subst (λ (x : Reply). Room c (recordOf x)) (sym p) room))
+      subst (λ (x : Reply). WroteReport c (recordOf x)) p (wrote-one t′ b h Print tt c t″ a (subst (λ (x : Reply). HasRoom c (recordOf x)) (sym p) room))
 
   listed-is : (l : Leg) → LegOnGrid l → sitesOf b ≢ [] → (c : Call) (t″ : List ℕ) → Asks t′ (list4C l) c t″
-      → Room c (recordBytes (splitOf l (sitesOf b))) → Wrote c (recordBytes (splitOf l (sitesOf b))) × (t″ ≡ t′)
+      → HasRoom c (recordBytes (splitOf l (sitesOf b))) → WroteReport c (recordBytes (splitOf l (sitesOf b))) × (t″ ≡ t′)
   listed-is l on held c t″ a room =
       let e = list-answer b l on held in
-      let fits : Room c (recordOf (answer b (ListOf l))) = subst (λ (y : Reply). Room c (recordOf y)) (sym e) room in (
-        subst (λ (y : Reply). Wrote c (recordOf y)) e (wrote-one t′ b h (ListOf l) (list-encodable l on) c t″ a fits),
+      let fits : HasRoom c (recordOf (answer b (ListOf l))) = subst (λ (y : Reply). HasRoom c (recordOf y)) (sym e) room in (
+        subst (λ (y : Reply). WroteReport c (recordOf y)) e (wrote-one t′ b h (ListOf l) (list-encodable l on) c t″ a fits),
         kept-one t′ b h (ListOf l) (list-encodable l on) c t″ a fits (list-keeps l (answer b (ListOf l))),
       )
 
   standing-is : (k : Leg) → b .leg ≡ some k → sitesOf b ≢ []
       → (c d : Call) (t″ u″ : List ℕ) → Asks t′ print50 c t″ → Asks t′ (list4C k) d u″
-      → Room c (recordBytes (standingList b)) → Room d (recordBytes (standingList b))
-      → Wrote c (recordBytes (standingList b)) × Wrote d (recordBytes (standingList b))
+      → HasRoom c (recordBytes (standingList b)) → HasRoom d (recordBytes (standingList b))
+      → WroteReport c (recordBytes (standingList b)) × WroteReport d (recordBytes (standingList b))
   standing-is k e held c d t″ u″ ac ad rc rd =
       let s : standingList b ≡ splitOf k (sitesOf b) = ap (λ (o : Option Leg). listOf o (sitesOf b)) e in
       let p : answer b Print ≡ listed (standingList b) = answer-print-done b k e (held-some (sitesOf b) held) ∙ ap listed (sym s) in (
         wrote-print (listed (standingList b)) p c t″ ac rc,
-        subst (λ (x : List Entry). Wrote d (recordBytes x)) (sym s)
-            (listed-is k (subst LegOk e (ok .legOk)) held d u″ ad (subst (λ (x : List Entry). Room d (recordBytes x)) s rd) .0),
+        subst (λ (x : List Entry). WroteReport d (recordBytes x)) (sym s)
+            (listed-is k (subst LegOk e (ok .legOk)) held d u″ ad (subst (λ (x : List Entry). HasRoom d (recordBytes x)) s rd) .0),
       )
 
   siteless-is : (k : Leg) → b .leg ≡ some k → sitesOf b ≡ []
-      → (c : Call) (t″ : List ℕ) → Asks t′ print50 c t″ → 2 ≤ length (c .report) → Wrote c (0x21 ∷ 6 ∷ []) × (standingList b ≡ [])
+      → (c : Call) (t″ : List ℕ) → Asks t′ print50 c t″ → 2 ≤ length (c .report) → WroteReport c (0x21 ∷ 6 ∷ []) × (standingList b ≡ [])
   siteless-is k e z c t″ a room = (wrote-print (refused NoSite) (answer-print-empty b k e (ap length z)) c t″ a room, (λ i. listOf (e i) (z i)) ∙ no-site k)
 
-  unset-is : b .leg ≡ none → (c : Call) (t″ : List ℕ) → Asks t′ print50 c t″ → 2 ≤ length (c .report) → Wrote c (0x21 ∷ 7 ∷ [])
+  unset-is : b .leg ≡ none → (c : Call) (t″ : List ℕ) → Asks t′ print50 c t″ → 2 ≤ length (c .report) → WroteReport c (0x21 ∷ 7 ∷ [])
   unset-is e c t″ a room = wrote-print (refused NoLeg) (answer-print-legless b e) c t″ a room
 
   -- ---- one addition, one removal
@@ -123,7 +123,7 @@ module _ (b : Book) (t′ : List ℕ) (h : Holds t′ b) (ok : Proper b) where
     asks-here : Asks t′ (commandBytes k) (g .call) (g .table)
     asks-here = subst (λ (x : List ℕ). Asks x (commandBytes k) (g .call) (g .table)) (prints-left t′ b h old (g .before)) (g .asks)
 
-    accepted : (answer b k ≡ done) × Room (g .call) (recordOf (answer b k))
+    accepted : (answer b k ≡ done) × HasRoom (g .call) (recordOf (answer b k))
     accepted = accepted-one t′ b h k enc (g .call) (g .table) asks-here (g .accepted)
 
     holds-then : Holds (g .table) (change k b)
@@ -194,12 +194,12 @@ by-lines l b d e = ap (λ (s : List Site). answer (record { lines = s; leg = non
 
 fresh-is : (b : Book) (t′ : List ℕ) → Holds t′ b → Proper b → (fs : List Call) (u′ : List ℕ) → Ran fs u′ → FreshOf b fs → (l : Leg) → LegOnGrid l
     → (c d : Call) (t″ u″ : List ℕ) → Asks t′ (list4C l) c t″ → Asks u′ (list4C l) d u″
-    → Room c (listRecord b l) → Room d (listRecord b l) → said c ≡ said d
+    → HasRoom c (listRecord b l) → HasRoom d (listRecord b l) → said c ≡ said d
 fresh-is b t′ h ok fs u′ q f l on c d t″ u″ ac ad rc rd =
     let e : answer (bookOfRun fs) (ListOf l) ≡ answer b (ListOf l) = by-lines l (bookOfRun fs) b (filled-is b ok fs f) in
-    let wc : Wrote c (listRecord b l) = wrote-one t′ b h (ListOf l) (list-encodable l on) c t″ ac rc in
-    let rd′ : Room d (listRecord (bookOfRun fs) l) = subst (λ (y : Reply). Room d (recordOf y)) (sym e) rd in
-    let wd : Wrote d (listRecord b l) = subst (λ (y : Reply). Wrote d (recordOf y)) e (wrote-one u′ (bookOfRun fs) (ran-holds fs u′ q) (ListOf l) (list-encodable l on) d u″ ad rd′) in
+    let wc : WroteReport c (listRecord b l) = wrote-one t′ b h (ListOf l) (list-encodable l on) c t″ ac rc in
+    let rd′ : HasRoom d (listRecord (bookOfRun fs) l) = subst (λ (y : Reply). HasRoom d (recordOf y)) (sym e) rd in
+    let wd : WroteReport d (listRecord b l) = subst (λ (y : Reply). WroteReport d (recordOf y)) e (wrote-one u′ (bookOfRun fs) (ran-holds fs u′ q) (ListOf l) (list-encodable l on) d u″ ad rd′) in
     wc
     ∙ (λ i. record {
       reason = 0;

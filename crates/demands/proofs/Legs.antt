@@ -14,7 +14,7 @@ use Rattle.split.specs.SplitOf.{splitOf}
 use Rattle.split.proofs.Closed.{closed}
 use Rattle.split.proofs.Exists.{split-is}
 use Rattle.book.specs.declared.Command.the-variants.{List as ListOf}
-use Rattle.book.specs.Book.{Book}
+use Rattle.book.specs.Book.{Book, sitesOf}
 use Rattle.book.specs.Proper.{Proper}
 use Rattle.book.specs.Reply.{listed}
 use Rattle.book.specs.Answer.{answer}
@@ -34,15 +34,18 @@ pub held-some : (s : List Site) → s ≢ [] → length s ≢ 0
 held-some [] h e = h refl
 held-some (p ∷ s) h e = omega arith
 
-pub list-answer : (b : Book) (l : Leg) → LegOnGrid l → b .lines ≢ [] → answer b (ListOf l) ≡ listed (splitOf l (b .lines))
-list-answer b l on h = answer-list-done b l on (held-some (b .lines) h)
+pub list-answer : (b : Book) (l : Leg) → LegOnGrid l → sitesOf b ≢ []
+    → answer b (ListOf l) ≡ listed (splitOf l (sitesOf b))
+list-answer b l on h = answer-list-done b l on (held-some (sitesOf b) h)
 
 all-nearest : (l : Leg) (s : List Site) (es : List Entry) → Stretches l s es → AllNearest l s es
 all-nearest l s [] h = tt
 all-nearest l s (e ∷ es) h = (closed l s e es h, all-nearest l s es (h .1))
 
 -- THE LIST IS RIGHT
-pub list-right : (b : Book) → Proper b → (l : Leg) → LegOnGrid l → (es : List Entry) → es ≡ splitOf l (b .lines) → RightList l (b .lines) es
+pub list-right : (b : Book) → Proper b → (l : Leg) → LegOnGrid l → (es : List Entry) → es ≡ splitOf l (sitesOf b)
+    → RightList l (sitesOf b) es
 list-right b ok l on es e =
-    let h : IsSplitList l (b .lines) es = subst⁻¹ (λ (x : List Entry). IsSplitList l (b .lines) x) e (split-is l (b .lines) (proper-numbered b ok)) in
-    record { is = e; rules = h; nearest = all-nearest l (b .lines) es (h .rules); read = list-read b ok l on es h }
+    let h : IsSplitList l (sitesOf b) es =
+    subst⁻¹ (λ (x : List Entry). IsSplitList l (sitesOf b) x) e (split-is l (sitesOf b) (proper-numbered b ok)) in
+    record { is = e; rules = h; nearest = all-nearest l (sitesOf b) es (h .rules); read = list-read b ok l on es h }

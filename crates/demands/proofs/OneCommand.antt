@@ -17,10 +17,10 @@ use Rattle.book.specs.Answer.{answer, after}
 use Rattle.book.specs.Run.{Turn, Outcome, ends, run}
 use Rattle.book.proofs.Runs.{turnOf, records-one, call-right}
 use Rattle.book.proofs.ReadBack.{Encodable, run-one, run-one-full}
-use Rattle.table.specs.Table.{bookOf}
+use Rattle.table_rules.specs.Table.{bookOf}
 use Rattle.demands.specs.Step.{Holds, keeps, Step, Chain}
 use Rattle.demands.specs.Step.Chain.{none, next}
-use Rattle.demands.specs.Whole.{Call, Said, said, asked, taken, saidBy, Asks, Room, Wrote}
+use Rattle.demands.specs.Whole.{Call, Said, said, asked, taken, saidBy, Asks, HasRoom, WroteReport}
 use Rattle.demands.proofs.Chains.{step-kept}
 use Rattle.demands.proofs.WholeRun.{Answered, one-on, served-call}
 
@@ -29,7 +29,7 @@ chain-one : {t t′ : List ℕ} {u : Turn} → Chain t (u ∷ []) t′ → Step 
 chain-one (next h none) = h
 
 module _ (t : List ℕ) (b : Book) (h : Holds t b) (c : Command) (ok : Encodable c) (k : Call) (t′ : List ℕ) (a : Asks t (commandBytes c) k t′)
-    (room : Room k (recordOf (answer b c))) where
+    (room : HasRoom k (recordOf (answer b c))) where
   once : Outcome
   once = ends AllUsed (length (commandBytes c)) (turnOf b c ∷ []) (after b c (answer b c))
 
@@ -44,7 +44,7 @@ module _ (t : List ℕ) (b : Book) (h : Holds t b) (c : Command) (ok : Encodable
   one = one-on t b h k t′ (a .made)
 
   -- THE RECORD
-  pub wrote-one : Wrote k (recordOf (answer b c))
+  pub wrote-one : WroteReport k (recordOf (answer b c))
   unfolding once
   wrote-one =
       one .said-is ∙ ap saidBy taken-once
@@ -87,10 +87,10 @@ module _ (t : List ℕ) (b : Book) (h : Holds t b) (c : Command) (ok : Encodable
       ∙ ap saidBy (call-right (length (k .work)) (k .commands) (length (k .report)) b (a .work) ∙ ap (λ (s : List ℕ). run s (length (k .report)) b) (a .commands))
 
   -- REASON 0: the record had room
-  pub room-one : k .result .reason ≡ 0 → Room k (recordOf (answer b c))
+  pub room-one : k .result .reason ≡ 0 → HasRoom k (recordOf (answer b c))
   room-one z = go (decLe (length (recordOf (answer b c))) (length (k .report)))
     where
-      go : Dec (length (recordOf (answer b c)) ≤ length (k .report)) → Room k (recordOf (answer b c))
+      go : Dec (length (recordOf (answer b c)) ≤ length (k .report)) → HasRoom k (recordOf (answer b c))
       go (yes fits) = fits
       go (no long) =
           absurd
@@ -98,7 +98,7 @@ module _ (t : List ℕ) (b : Book) (h : Holds t b) (c : Command) (ok : Encodable
           omega arith)
 
   -- THE COMMAND WAS ACCEPTED, and its record had room
-  pub accepted-one : Wrote k (0x2B ∷ []) → (answer b c ≡ done) × Room k (recordOf (answer b c))
+  pub accepted-one : WroteReport k (0x2B ∷ []) → (answer b c ≡ done) × HasRoom k (recordOf (answer b c))
   accepted-one w =
       let fits = room-one (ap (λ (x : Said). x .reason) w) in
       (done-mark (answer b c) (sym (ap (λ (x : Said). x .bytes) (wrote-one t b h c ok k t′ a fits)) ∙ ap (λ (x : Said). x .bytes) w), fits)

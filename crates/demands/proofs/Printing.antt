@@ -1,7 +1,7 @@
 -- What the 50 prints, read back: the standing list of the book, and which numbers it names.
 -- Assumes nothing.
 use mathlib.Core.Path.{_≡_, refl, sym, ap, _∙_, subst}
-use mathlib.Core.Logic.{_⊎_, inl, inr, ⊎-map}
+use mathlib.Core.Logic.{_⊎_, inl, ⊎-map}
 use mathlib.Core.Option.{Option, none, some}
 use mathlib.Core.Bool.{true}
 use mathlib.Core.List.{List, [], _∷_, map}
@@ -23,14 +23,14 @@ use Rattle.split.proofs.Names as names
 use Rattle.records.specs.ListRecord.{recordBytes}
 use Rattle.records.specs.Decode.{Listed, listedOf}
 use Rattle.book.specs.declared.Command.the-variants.{Print}
-use Rattle.book.specs.Book.{Book, listOf, standingList}
+use Rattle.book.specs.Book.{Book, sitesOf, listOf, standingList}
 use Rattle.book.specs.Proper.{Proper, LegOk}
 use Rattle.book.specs.Reply.{Reply, done, refused, listed, recordOf}
 use Rattle.book.specs.Answer.{answer}
 use Rattle.book.proofs.Answers.{answer-print-legless, answer-print-empty, answer-print-done}
-use Rattle.table.proofs.Books.{sound-proper}
+use Rattle.table_rules.proofs.Books.{sound-proper}
 use Rattle.demands.specs.Step.{Holds, keeps}
-use Rattle.demands.specs.Whole.{Said, Room}
+use Rattle.demands.specs.Whole.{Said, HasRoom}
 use Rattle.demands.specs.Demands.{Prints, listIn, whether, numberFrom, numberAt}
 use Rattle.demands.proofs.Legs.{list-right}
 use Rattle.demands.proofs.OneCommand.{wrote-one, kept-one, room-one}
@@ -38,27 +38,29 @@ use Rattle.demands.proofs.OneCommand.{wrote-one, kept-one, room-one}
 -- ---- the list printed
 
 -- a list's record tells that list
-listed-in : (b : Book) → Proper b → (l : Leg) → b .leg ≡ some l → listIn (recordBytes (splitOf l (b .lines))) ≡ map listedOf (splitOf l (b .lines))
+listed-in : (b : Book) → Proper b → (l : Leg) → b .leg ≡ some l
+    → listIn (recordBytes (splitOf l (sitesOf b))) ≡ map listedOf (splitOf l (sitesOf b))
 unfolding recordBytes
-listed-in b ok l e = list-right b ok l (subst LegOk e (ok .legOk)) (splitOf l (b .lines)) refl .read
+listed-in b ok l e = list-right b ok l (subst LegOk e (ok .legOk)) (splitOf l (sitesOf b)) refl .read
 
 -- the answer to a 50 tells the standing list
 print-list : (b : Book) → Proper b → listIn (recordOf (answer b Print)) ≡ map listedOf (standingList b)
 print-list b ok = by-leg (b .leg) refl
   where
-    by-lines : (l : Leg) → b .leg ≡ some l → (s : List Site) → b .lines ≡ s → listIn (recordOf (answer b Print)) ≡ map listedOf (standingList b)
-    by-lines l e [] z =
+    by-sites : (l : Leg) → b .leg ≡ some l → (s : List Site) → sitesOf b ≡ s
+        → listIn (recordOf (answer b Print)) ≡ map listedOf (standingList b)
+    by-sites l e [] z =
         ap (λ (y : Reply). listIn (recordOf y)) (answer-print-empty b l e (ap length z))
         ∙ ap (map listedOf) (sym ((λ i. listOf (e i) (z i)) ∙ no-site l))
-    by-lines l e (p ∷ s) z =
+    by-sites l e (p ∷ s) z =
         ap (λ (y : Reply). listIn (recordOf y)) (answer-print-done b l e (λ n. omega (arith, ap length z)))
-        ∙ listed-in b ok l e ∙ ap (λ (o : Option Leg). map listedOf (listOf o (b .lines))) (sym e)
+        ∙ listed-in b ok l e ∙ ap (λ (o : Option Leg). map listedOf (listOf o (sitesOf b))) (sym e)
 
     by-leg : (o : Option Leg) → b .leg ≡ o → listIn (recordOf (answer b Print)) ≡ map listedOf (standingList b)
     by-leg none e =
         ap (λ (y : Reply). listIn (recordOf y)) (answer-print-legless b e)
-        ∙ ap (λ (o : Option Leg). map listedOf (listOf o (b .lines))) (sym e)
-    by-leg (some l) e = by-lines l e (b .lines) refl
+        ∙ ap (λ (o : Option Leg). map listedOf (listOf o (sitesOf b))) (sym e)
+    by-leg (some l) e = by-sites l e (sitesOf b) refl
 
 -- a 50 keeps the table, whatever it is answered
 print-keeps : (y : Reply) → keeps Print y ≡ true
@@ -67,7 +69,7 @@ print-keeps (refused x) = refl
 print-keeps (listed es) = refl
 
 module _ (t : List ℕ) (b : Book) (h : Holds t b) (es : List Listed) (p : Prints t es) where
-  roomy : Room (p .call) (recordOf (answer b Print))
+  roomy : HasRoom (p .call) (recordOf (answer b Print))
   roomy = room-one t b h Print tt (p .call) (p .left) (p .asks) (p .ended)
 
   -- WHAT THE 50 PRINTS is the standing list

@@ -8,7 +8,7 @@ use Rattle.grid.specs.Position.{squaredDifference, distance}
 use Rattle.grid.specs.Coordinate.{fromWord, toWord}
 use Rattle.grid.specs.Fraction.{gcdBy, gcdOf, lowest}
 use Rattle.split.specs.SplitList.{rank}
-use Rattle.split.specs.SplitOf.{hides?, step?, under?, push, insert, build, splitOf}
+use Rattle.split.specs.SplitOf.{hides?, rightBelow?, under?, push, insert, build, splitOf}
 use Rattle.records.specs.ListRecord.{entryBytes, listBytes, recordBytes}
 use Rattle.book.specs.Book.{writeLine, strikeLine, moveLine, holds, change}
 use Rattle.book.specs.Command.{formOf, parseAt}
@@ -20,12 +20,12 @@ use Rattle.demands.specs.Starred.{starredLines, standingLines, written, 
 
 -- THE STARRED LINES
 pub starred : given starredLines ≡ written starredLines
-unfolding records turn runFrom parseAt formOf wordAt fromWord toWord answer holds change writeLine strikeLine moveLine splitOf build insert push hides? under? step? decLe decLt distance squaredDifference rank lowest gcdOf gcdBy entryBytes listBytes recordBytes
+unfolding records turn runFrom parseAt formOf wordAt fromWord toWord answer holds change writeLine strikeLine moveLine splitOf build insert push hides? under? rightBelow? decLe decLt distance squaredDifference rank lowest gcdOf gcdBy entryBytes listBytes recordBytes
 starred = refl
 
 -- THE STANDING LINES
 pub standing : given standingLines ≡ written standingLines
-unfolding records turn runFrom parseAt formOf wordAt fromWord toWord answer holds change writeLine strikeLine moveLine splitOf build insert push hides? under? step? decLe decLt distance squaredDifference rank lowest gcdOf gcdBy entryBytes listBytes recordBytes
+unfolding records turn runFrom parseAt formOf wordAt fromWord toWord answer holds change writeLine strikeLine moveLine splitOf build insert push hides? under? rightBelow? decLe decLt distance squaredDifference rank lowest gcdOf gcdBy entryBytes listBytes recordBytes
 standing = refl
 
 -- WHAT A PRINTED LIST NAMES, at its starts and ends

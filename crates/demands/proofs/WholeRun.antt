@@ -14,11 +14,12 @@ use Rattle.book.specs.declared.Reason.the-variants.{WrongLength}
 use Rattle.book.specs.Book.{Book, emptyBook}
 use Rattle.book.specs.Run.{Outcome, records, ends, run}
 use Rattle.book.proofs.Runs.{run-book}
-use Rattle.table.specs.Table.{Sound, bookOf}
-use Rattle.table.proofs.Books.{sound-len}
-use Rattle.table.proofs.Laid.{laid-sound, laid-book}
+use Rattle.table_empty.specs.EmptyTable.{zeros}
+use Rattle.table_rules.specs.Table.{Sound, bookOf}
+use Rattle.table_rules.proofs.Books.{sound-len}
+use Rattle.table_rules.proofs.Laid.{laid-sound, laid-book}
 use Rattle.demands.specs.Step.{Holds}
-use Rattle.demands.specs.Batch.{Return, lengthsOk, Refused, Served, Batch, LaidOut, zeros}
+use Rattle.demands.specs.Batch.{Return, lengthsOk, Refused, Served, Batch, LaidOut}
 use Rattle.demands.specs.Batch.Batch.{wrong, broken, served}
 use Rattle.demands.specs.Batch.LaidOut.{wrong as not-laid, laid}
 use Rattle.demands.specs.Whole.{Call, MadeOn, Made, Ran, said, asked, taken, saidBy, replies, bookAfter, bookOfRun}

@@ -1,18 +1,19 @@
--- What each public call says of its result and of every lent byte, for good and for refused input. Document 01, "Buffers and batches" and
--- "Causes and numbers". The contracts of the service's calls are these definitions. Reasons are document 01's numbers.
+-- What each public call says of its result and of every lent byte, for good and for refused input. Document 01,
+-- "Buffers and batches" and "Causes and numbers". The contracts of the service's calls are these definitions.
+-- Reasons are document 01's numbers.
 -- Assumes nothing.
 use mathlib.Core.Path.{_≡_}
 use mathlib.Core.List.{List, _++_}
 use mathlib.Core.Bool.{Bool, true, false, _&&_}
 use Prim.Native.Nat.{ℕ}
-use lib.ListN.{length, drop, replicate}
+use lib.ListN.{length, drop}
 use lib.Dec.{eqb}
 use Rattle.limits.specs.Limits.{tableBytes, workBytes}
 use Rattle.book.specs.declared.BatchResult.{BatchResult}
 use Rattle.book.specs.Numbers.{reasonNumber}
 use Rattle.book.specs.Run.{Outcome, records, run}
-use Rattle.table.specs.Table.{Sound, bookOf}
-use Rattle.empty_table.specs.EmptyTable.{emptyTable}
+use Rattle.table_rules.specs.Table.{Sound, bookOf}
+use Rattle.table_empty.specs.EmptyTable.{zeros, emptyTable}
 use Rattle.demands.specs.Step.{Chain}
 
 -- "It returns a reason, the command bytes used and the report bytes written."
@@ -33,34 +34,36 @@ returnOf r = returns (reasonNumber (r .reason)) (r .used) (r .written)
 abbrev pub lengthsOk : List ℕ → List ℕ → Bool
 lengthsOk t w = eqb (length t) tableBytes && eqb (length w) workBytes
 
--- "The work buffer is all zero afterwards"
-abbrev pub zeros : ℕ → List ℕ
-zeros n = replicate n 0
-
 -- the whole call is refused: its number, "used 0, written 0"; table and report are left
 pub record Refused (number : ℕ) (t rep : List ℕ) (r : Return) (t′ rep′ : List ℕ) : Type 0 where
   pub said : r ≡ returns number 0 0
   pub table : t′ ≡ t
   pub report : rep′ ≡ rep
 
--- the call did what the book does: result, report bytes ("Report bytes past the written ones are left"), table, work buffer
+-- the call did what the book does: result, report bytes ("Report bytes past the written ones are left"), table,
+-- work buffer
 pub record Served (o : Outcome) (t rep : List ℕ) (r : Return) (t′ w′ rep′ : List ℕ) : Type 0 where
   pub said : r ≡ returns (reasonNumber (o .reason)) (o .used) (length (records (o .turns)))
   pub report : rep′ ≡ records (o .turns) ++ drop (length (records (o .turns))) rep
   pub table : Chain t (o .turns) t′
+  -- "The work buffer is all zero afterwards"
   pub work : w′ ≡ zeros workBytes
 
--- ONE BATCH CALL: table, work buffer, commands and report before; the result; table, work buffer and report after. It is one of three:
--- "The table's length is tested first, then the work buffer's, then the table's contents, then commands in turn."
+-- ONE BATCH CALL: table, work buffer, commands and report before; the result; table, work buffer and report after.
+-- It is one of three: "The table's length is tested first, then the work buffer's, then the table's contents, then
+-- commands in turn."
 pub data Batch (t w cs rep : List ℕ) (r : Return) (t′ w′ rep′ : List ℕ) : Type 0 where
   -- "table or work buffer of wrong length", 64: everything is left
   wrong : lengthsOk t w ≡ false → Refused 64 t rep r t′ rep′ → w′ ≡ w → Batch t w cs rep r t′ w′ rep′
   -- "in the table a tree rule .. or the standing list's rule is broken", 65: table and report are left
-  broken : lengthsOk t w ≡ true → (Sound t → ⊥) → Refused 65 t rep r t′ rep′ → w′ ≡ zeros workBytes → Batch t w cs rep r t′ w′ rep′
+  broken : lengthsOk t w ≡ true → (Sound t → ⊥) → Refused 65 t rep r t′ rep′ → w′ ≡ zeros workBytes
+      → Batch t w cs rep r t′ w′ rep′
   -- commands are taken
-  served : lengthsOk t w ≡ true → Sound t → Served (run cs (length rep) (bookOf t)) t rep r t′ w′ rep′ → Batch t w cs rep r t′ w′ rep′
+  served : lengthsOk t w ≡ true → Sound t → Served (run cs (length rep) (bookOf t)) t rep r t′ w′ rep′
+      → Batch t w cs rep r t′ w′ rep′
 
--- ONE LAYING-OUT CALL: the table before, the reason's number, the table after. "The laying-out call returns 0, or 64 and leaves the bytes."
+-- ONE LAYING-OUT CALL: the table before, the reason's number, the table after. "The laying-out call returns 0, or
+-- 64 and leaves the bytes."
 pub data LaidOut (t : List ℕ) (r : ℕ) (t′ : List ℕ) : Type 0 where
   wrong : eqb (length t) tableBytes ≡ false → r ≡ 64 → t′ ≡ t → LaidOut t r t′
   laid : eqb (length t) tableBytes ≡ true → r ≡ 0 → t′ ≡ emptyTable → LaidOut t r t′

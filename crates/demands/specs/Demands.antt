@@ -1,5 +1,5 @@
--- THE DEMANDS over the definitions of the calls (Batch.antt): of one call, of one list, of a whole list of calls; last, each of them for every call or list of calls
--- (`Demands`), which is what is proved.
+-- THE DEMANDS over the definitions of the calls (Batch.antt): of one call, of one list, of a whole list of calls;
+-- last, each of them for every call or list of calls (`Demands`), which is what is proved.
 -- Assumes nothing.
 use mathlib.Core.Path.{_≡_}
 use mathlib.Core.Logic.{_≢_, _⊎_}
@@ -26,16 +26,17 @@ use Rattle.book.specs.declared.Reason.{Reason}
 use Rattle.book.specs.Numbers.{reasonNumber}
 use Rattle.book.specs.Book.{Book, emptyBook, sitesOf, standingList}
 use Rattle.book.specs.Encode.{commandBytes}
-use Rattle.book.specs.Perm.{Perm}
+use Rattle.permutation.specs.Perm.{Perm}
 use Rattle.book.specs.Proper.{NumberOk}
 use Rattle.book.specs.Reply.{listed, recordOf}
 use Rattle.book.specs.Answer.{answer, legAsked}
 use Rattle.book.specs.Run.{Turn, Outcome, records, run, afterAll, StopsFor}
-use Rattle.table.specs.Table.{Sound, bookOf}
-use Rattle.empty_table.specs.EmptyTable.{emptyTable}
+use Rattle.table_rules.specs.Table.{Sound, bookOf}
+use Rattle.table_empty.specs.EmptyTable.{zeros, emptyTable}
 use Rattle.demands.specs.Step.{Holds, keeps}
-use Rattle.demands.specs.Batch.{returns, lengthsOk, zeros, LaidOut}
-use Rattle.demands.specs.Whole.{Call, MadeOn, Made, Ran, said, asked, replies, bookOfRun, Filled, Asks, Room, Wrote}
+use Rattle.demands.specs.Batch.{returns, lengthsOk, LaidOut}
+use Rattle.demands.specs.Whole.{Call, MadeOn, Made, Ran, said, asked, replies, bookOfRun}
+use Rattle.demands.specs.Whole.{Filled, Asks, HasRoom, WroteReport}
 
 -- ---- demand 1: no call brings it down
 
@@ -48,7 +49,8 @@ abbrev pub AllKeep : List Turn → Type 0
 AllKeep [] = Unit {0}
 AllKeep (u ∷ us) = (keeps (u .command) (u .reply) ≡ true) × AllKeep us
 
--- a call that takes commands ends with 0, 66, 67 or 68: with the number of this reason, under that reason's condition and no other (StopsFor)
+-- a call that takes commands ends with 0, 66, 67 or 68: with the number of this reason, under that reason's
+-- condition and no other (StopsFor)
 pub record Stops (t : List ℕ) (c : Call) : Type 0 where
   pub reason : Reason
   pub number : c .result .reason ≡ reasonNumber reason
@@ -66,7 +68,8 @@ pub record Kept (t : List ℕ) (c : Call) (t′ : List ℕ) : Type 0 where
   pub past : drop (c .result .written) (c .reportAfter) ≡ drop (c .result .written) (c .report)
   -- "The work buffer is all zero afterwards"
   pub cleared : c .workAfter ≡ zeros workBytes
-  -- each command got the record of the book's answer, a refusal under its condition and no other, and the counts are those of these commands
+  -- each command got the record of the book's answer, a refusal under its condition and no other, and the counts
+  -- are those of these commands
   pub counts : (c .result .used ≡ runOf t c .used) × (c .result .written ≡ length (records (runOf t c .turns)))
   pub recorded : said c .bytes ≡ records (runOf t c .turns)
   -- the table is a sound one of the book then
@@ -102,7 +105,8 @@ pub record Demand1Laid (t : List ℕ) (r : ℕ) (t′ : List ℕ) : Type 0 where
 -- every entry, at every fraction that it covers, both ends included, is nearest among these sites
 abbrev pub AllNearest : Leg → List Site → List Entry → Type 0
 AllNearest l s [] = Unit {0}
-AllNearest l s (e ∷ es) = ((t : Fraction) → IsFraction t → CoversAt e es t → NearestAt l s t (e .site)) × AllNearest l s es
+AllNearest l s (e ∷ es) =
+    ((t : Fraction) → IsFraction t → CoversAt e es t → NearestAt l s t (e .site)) × AllNearest l s es
 
 -- the list of the leg l over the sites s is document 01's
 pub record RightList (l : Leg) (s : List Site) (es : List Entry) : Type 0 where
@@ -120,7 +124,8 @@ pub record IsServed (t : List ℕ) (c : Call) (t′ : List ℕ) : Type 0 where
   pub made : MadeOn t c t′
   pub work : length (c .work) ≡ workBytes
 
--- the call comes to the command k: the command bytes before it were all used, which gave o, and its record has room. What stands behind it is anything.
+-- the call comes to the command k: the command bytes before it were all used, which gave o, and its record has
+-- room. What stands behind it is anything.
 pub record ComesTo (t : List ℕ) (c : Call) (k : Command) (o : Outcome) : Type 0 where
   pub before : List ℕ
   pub behind : List ℕ
@@ -139,7 +144,8 @@ pub record Answers (t : List ℕ) (c : Call) (past : List Turn) (u : Turn) : Typ
   pub behind : List Turn
   pub turns : runOf t c .turns ≡ past ++ (u ∷ behind)
 
--- a turn that was answered by the list es, on the book b that the turns before it left: the leg that its command asks for, and that list is right and was printed
+-- a turn that was answered by the list es, on the book b that the turns before it left: the leg that its command
+-- asks for, and that list is right and was printed
 pub record ListedRight (c : Call) (b : Book) (past : List Turn) (k : Command) (es : List Entry) : Type 0 where
   pub leg : Leg
   pub asked : legAsked b k ≡ some leg
@@ -149,7 +155,8 @@ pub record ListedRight (c : Call) (b : Book) (past : List Turn) (k : Command) (e
 -- the list of the leg l over the sites of the book then is right, and was printed behind the records of o
 abbrev pub GivesList : Call → Leg → Outcome → Type 0
 GivesList c l o =
-    RightList l (sitesOf (o .book)) (splitOf l (sitesOf (o .book))) × Printed c (records (o .turns)) (recordBytes (splitOf l (sitesOf (o .book))))
+    RightList l (sitesOf (o .book)) (splitOf l (sitesOf (o .book)))
+    × Printed c (records (o .turns)) (recordBytes (splitOf l (sitesOf (o .book))))
 
 -- DEMAND 2 of a call that takes commands, on whatever sound table t.
 pub record Demand2 (t : List ℕ) (c : Call) : Type 0 where
@@ -157,9 +164,11 @@ pub record Demand2 (t : List ℕ) (c : Call) : Type 0 where
   pub right : (past : List Turn) (u : Turn) → Answers t c past u → (es : List Entry) → u .reply ≡ listed es
       → ListedRight c (afterAll (bookOf t) past) past (u .command) es
   -- a leg on the grid gets its list whenever a site is held and the report has room
-  pub given : (l : Leg) (o : Outcome) → ComesTo t c (ListOf l) o → LegOnGrid l → sitesOf (o .book) ≢ [] → GivesList c l o
+  pub given : (l : Leg) (o : Outcome) → ComesTo t c (ListOf l) o → LegOnGrid l → sitesOf (o .book) ≢ []
+      → GivesList c l o
   -- and so does the standing leg
-  pub given-standing : (l : Leg) (o : Outcome) → ComesTo t c Print o → o .book .leg ≡ some l → sitesOf (o .book) ≢ [] → GivesList c l o
+  pub given-standing : (l : Leg) (o : Outcome) → ComesTo t c Print o → o .book .leg ≡ some l
+      → sitesOf (o .book) ≢ [] → GivesList c l o
 
 -- ---- demand 3: shape does not matter
 
@@ -199,13 +208,14 @@ pub record Prints (t : List ℕ) (es : List Listed) : Type 0 where
   pub ended : call .result .reason ≡ 0
   pub list : es ≡ listIn (said call .bytes)
 
--- "One addition or removal is one accepted 41 or 44 after such a list": the 50 printed `old` on the table t, then the command k was accepted, then the 50 printed `new`
+-- "One addition or removal is one accepted 41 or 44 after such a list": the 50 printed `old` on the table t, then
+-- the command k was accepted, then the 50 printed `new`
 pub record Changed (t : List ℕ) (k : Command) (old new : List Listed) : Type 0 where
   pub before : Prints t old
   pub call : Call
   pub table : List ℕ
   pub asks : Asks (before .left) (commandBytes k) call table
-  pub accepted : Wrote call (0x2B ∷ [])
+  pub accepted : WroteReport call (0x2B ∷ [])
   pub behind : Prints table new
 
 -- the first where the test holds, else the second
@@ -216,9 +226,11 @@ whether (no h) m n = n
 -- the number that a list names at t which begins with the entry e
 unfoldable pub numberFrom : Fraction → Listed → List Listed → ℕ
 numberFrom t e [] = e .number
-numberFrom t e (f ∷ fs) = whether (decLe (f .start .num * t .den) (t .num * f .start .den)) (numberFrom t f fs) (e .number)
+numberFrom t e (f ∷ fs) =
+    whether (decLe (f .start .num * t .den) (t .num * f .start .den)) (numberFrom t f fs) (e .number)
 
--- "At t a list names the site of its last entry whose start is not above t": its number, none where the list has no entry
+-- "At t a list names the site of its last entry whose start is not above t": its number, none where the list has no
+-- entry
 abbrev pub numberAt : Fraction → List Listed → Option ℕ
 numberAt t [] = none
 numberAt t (e ∷ es) = some (numberFrom t e es)
@@ -229,9 +241,10 @@ pub record Demand3On (cs : List Call) (b : Book) (t′ : List ℕ) : Type 0 wher
   pub answers : map said cs ≡ replies emptyBook (map asked cs)
   -- "No table that came from laying out and batches is ever refused with 65."
   pub never65 : (c : Call) → List·Memᴰ c cs → c .result .reason ≢ 65
-  -- the list of a leg on the grid is answered whenever a site is held and the report has room; the table's bytes are left
+  -- the list of a leg on the grid is answered whenever a site is held and the report has room; the table's bytes
+  -- are left
   pub lists : (l : Leg) → LegOnGrid l → sitesOf b ≢ [] → (c : Call) (t″ : List ℕ) → Asks t′ (list4C l) c t″
-      → Room c (recordBytes (splitOf l (sitesOf b))) → Wrote c (recordBytes (splitOf l (sitesOf b))) × (t″ ≡ t′)
+      → HasRoom c (recordBytes (splitOf l (sitesOf b))) → WroteReport c (recordBytes (splitOf l (sitesOf b))) × (t″ ≡ t′)
   -- and it is the split list of document 01 over the book's sites
   pub right : (l : Leg) → LegOnGrid l → RightList l (sitesOf b) (splitOf l (sitesOf b))
   -- the fresh table's additions are all accepted: its book has the same lines
@@ -239,19 +252,23 @@ pub record Demand3On (cs : List Call) (b : Book) (t′ : List ℕ) : Type 0 wher
   -- "A 4C with the same leg and room enough then writes the same record on both."
   pub fresh : (fs : List Call) (u′ : List ℕ) → Ran fs u′ → FreshOf b fs → (l : Leg) → LegOnGrid l
       → (c d : Call) (t″ u″ : List ℕ) → Asks t′ (list4C l) c t″ → Asks u′ (list4C l) d u″
-      → Room c (listRecord b l) → Room d (listRecord b l) → said c ≡ said d
-  -- "The standing list is always the list of the standing leg": with a site held the 50 and the 4C of that leg write the same bytes
+      → HasRoom c (listRecord b l) → HasRoom d (listRecord b l) → said c ≡ said d
+  -- "The standing list is always the list of the standing leg": with a site held the 50 and the 4C of that leg
+  -- write the same bytes
   pub standing : (k : Leg) → b .leg ≡ some k → sitesOf b ≢ []
       → (c d : Call) (t″ u″ : List ℕ) → Asks t′ print50 c t″ → Asks t′ (list4C k) d u″
-      → Room c (recordBytes (standingList b)) → Room d (recordBytes (standingList b))
-      → Wrote c (recordBytes (standingList b)) × Wrote d (recordBytes (standingList b))
+      → HasRoom c (recordBytes (standingList b)) → HasRoom d (recordBytes (standingList b))
+      → WroteReport c (recordBytes (standingList b)) × WroteReport d (recordBytes (standingList b))
   -- "empty where that answers 21 06"
   pub siteless : (k : Leg) → b .leg ≡ some k → sitesOf b ≡ []
-      → (c : Call) (t″ : List ℕ) → Asks t′ print50 c t″ → 2 ≤ length (c .report) → Wrote c (0x21 ∷ 6 ∷ []) × (standingList b ≡ [])
+      → (c : Call) (t″ : List ℕ) → Asks t′ print50 c t″ → 2 ≤ length (c .report)
+      → WroteReport c (0x21 ∷ 6 ∷ []) × (standingList b ≡ [])
   -- without a standing leg the 50 is refused with 7
-  pub unset : b .leg ≡ none → (c : Call) (t″ : List ℕ) → Asks t′ print50 c t″ → 2 ≤ length (c .report) → Wrote c (0x21 ∷ 7 ∷ [])
+  pub unset : b .leg ≡ none
+      → (c : Call) (t″ : List ℕ) → Asks t′ print50 c t″ → 2 ≤ length (c .report) → WroteReport c (0x21 ∷ 7 ∷ [])
   -- one accepted 41: at every fraction the standing list names what it named before, or the new site
-  pub added : (p : Site) → NumberOk p → OnGrid (p .position) → (old new : List Listed) → Changed t′ (Add (p .number) (p .position)) old new
+  pub added : (p : Site) → NumberOk p → OnGrid (p .position)
+      → (old new : List Listed) → Changed t′ (Add (p .number) (p .position)) old new
       → (t : Fraction) → IsFraction t → (numberAt t new ≡ numberAt t old) ⊎ (numberAt t new ≡ some (p .number))
   -- one accepted 44: at every fraction it names what it named before, or it named the site that is gone
   pub removed : (n : ℕ) → n ≤ maxNumber → (old new : List Listed) → Changed t′ (Remove n) old new
@@ -268,8 +285,8 @@ pub record AskedAlike (t u : List ℕ) (cs ds : List Call) (t′ u′ : List ℕ
   pub made : Made t cs t′ × Made u ds u′
   pub asked-same : map asked cs ≡ map asked ds
 
--- WHAT EVERY CHOICE OF BYTES HAS IN COMMON: such calls are answered alike, and leave tables of one book again. So the bytes that are the program's choice have no
--- effect on any answer.
+-- WHAT EVERY CHOICE OF BYTES HAS IN COMMON: such calls are answered alike, and leave tables of one book again. So
+-- the bytes that are the program's choice have no effect on any answer.
 pub record Alike (cs ds : List Call) (t′ u′ : List ℕ) : Type 0 where
   pub said-same : map said cs ≡ map said ds
   pub sound : Sound t′ × Sound u′
@@ -277,7 +294,8 @@ pub record Alike (cs ds : List Call) (t′ u′ : List ℕ) : Type 0 where
 
 -- ---- all of them
 
--- THE DEMANDS, of every call, every laying out, every call that takes commands, and every list of calls on a table just laid out
+-- THE DEMANDS, of every call, every laying out, every call that takes commands, and every list of calls on a table
+-- just laid out
 pub record Demands : Type 0 where
   pub one : (t : List ℕ) (c : Call) (t′ : List ℕ) → MadeOn t c t′ → Demand1 t c t′
   pub laying-out : (t : List ℕ) (r : ℕ) (t′ : List ℕ) → LaidOut t r t′ → Demand1Laid t r t′

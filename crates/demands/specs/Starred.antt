@@ -1,4 +1,5 @@
--- The starred lines of document 01, "Legs to try": command bytes and record bytes, the refusals 6 and 7 and the removals included.
+-- The starred lines of document 01, "Legs to try": command bytes and record bytes, the refusals 6 and 7 and the
+-- removals included.
 -- Assumes nothing.
 use mathlib.Core.Option.{Option, none, some}
 use mathlib.Core.List.{List, [], _∷_, _++_, map}
@@ -30,16 +31,16 @@ bytesOf [] = []
 bytesOf (c ∷ cs) = commandBytes c ++ bytesOf cs
 
 -- an entry of a record: site k from n/d
-abbrev pub since : ℕ → ℕ → ℕ → List ℕ
-since k n d = bytes2 k ++ bytes4 n ++ bytes4 d
+abbrev pub sinceBytes : ℕ → ℕ → ℕ → List ℕ
+sinceBytes k n d = bytes2 k ++ bytes4 n ++ bytes4 d
 
 -- a list record of one entry
-abbrev pub one : List ℕ → List ℕ
-one e = 0x3D ∷ bytes2 1 ++ e
+abbrev pub oneEntry : List ℕ → List ℕ
+oneEntry e = 0x3D ∷ bytes2 1 ++ e
 
 -- and of two
-abbrev pub two : List ℕ → List ℕ → List ℕ
-two e f = 0x3D ∷ bytes2 2 ++ e ++ f
+abbrev pub twoEntries : List ℕ → List ℕ → List ℕ
+twoEntries e f = 0x3D ∷ bytes2 2 ++ e ++ f
 
 -- two additions and the list of a leg
 abbrev pub pair : ℕ → Position → ℕ → Position → Leg → List Command
@@ -57,13 +58,15 @@ abbrev pub starredLines : List Line
 starredLines =
     line
     (pair 1 (at 2 3) 2 (at 7 1) ten ++ (Add 3 (atSouth 9 4) ∷ ListOf ten ∷ Remove 2 ∷ Remove 3 ∷ ListOf ten ∷ []))
-    (0x2B ∷ 0x2B ∷ two (since 1 0 1) (since 2 37 100) ++ (0x2B ∷ two (since 1 0 1) (since 2 37 100)) ++ (0x2B ∷ 0x2B ∷ one (since 1 0 1)))
-    ∷ line (pair 2 (at 3 4) 5 (atSouth 3 4) ten) (0x2B ∷ 0x2B ∷ one (since 2 0 1))
-    ∷ line (Add 1 (at 0 0) ∷ pair 2 (at 10 0) 3 (at 5 5) ten) (0x2B ∷ 0x2B ∷ 0x2B ∷ two (since 1 0 1) (since 2 1 2))
-    ∷ line (pair 1 (atWest 2 0) 2 (at 2 0) ten) (0x2B ∷ 0x2B ∷ one (since 2 0 1))
-    ∷ line (pair 1 (at 8 0) 2 (at 12 0) ten) (0x2B ∷ 0x2B ∷ one (since 1 0 1))
-    ∷ line (pair 7 (at 4 5) 3 (at 5 4) (leg (at 4 4) (at 4 4))) (0x2B ∷ 0x2B ∷ one (since 3 0 1))
-    ∷ line (pair 1 southWest 2 northEast (leg southWest northEast)) (0x2B ∷ 0x2B ∷ two (since 1 0 1) (since 2 1 2))
+    (0x2B ∷ 0x2B ∷ twoEntries (sinceBytes 1 0 1) (sinceBytes 2 37 100)
+    ++ (0x2B ∷ twoEntries (sinceBytes 1 0 1) (sinceBytes 2 37 100))
+    ++ (0x2B ∷ 0x2B ∷ oneEntry (sinceBytes 1 0 1)))
+    ∷ line (pair 2 (at 3 4) 5 (atSouth 3 4) ten) (0x2B ∷ 0x2B ∷ oneEntry (sinceBytes 2 0 1))
+    ∷ line (Add 1 (at 0 0) ∷ pair 2 (at 10 0) 3 (at 5 5) ten) (0x2B ∷ 0x2B ∷ 0x2B ∷ twoEntries (sinceBytes 1 0 1) (sinceBytes 2 1 2))
+    ∷ line (pair 1 (atWest 2 0) 2 (at 2 0) ten) (0x2B ∷ 0x2B ∷ oneEntry (sinceBytes 2 0 1))
+    ∷ line (pair 1 (at 8 0) 2 (at 12 0) ten) (0x2B ∷ 0x2B ∷ oneEntry (sinceBytes 1 0 1))
+    ∷ line (pair 7 (at 4 5) 3 (at 5 4) (leg (at 4 4) (at 4 4))) (0x2B ∷ 0x2B ∷ oneEntry (sinceBytes 3 0 1))
+    ∷ line (pair 1 southWest 2 northEast (leg southWest northEast)) (0x2B ∷ 0x2B ∷ twoEntries (sinceBytes 1 0 1) (sinceBytes 2 1 2))
     ∷ line (ListOf ten ∷ Print ∷ []) (0x21 ∷ 6 ∷ 0x21 ∷ 7 ∷ [])
     ∷ []
 
@@ -77,31 +80,35 @@ abbrev pub given : List Line → List (List ℕ)
 given [] = []
 given (x ∷ xs) = records (run (bytesOf (x .commands)) 1000 emptyBook .turns) ∷ given xs
 
--- the standing leg: printed with sites 1 and 2, when 2 is removed, and when 1 is removed too; and with the two sites changed over by moves
+-- the standing leg: printed with sites 1 and 2, when 2 is removed, and when 1 is removed too; and with the two
+-- sites changed over by moves
 abbrev pub standingLines : List Line
 standingLines =
     line
     (Stand ten ∷ Add 1 (at 2 3) ∷ Add 2 (at 7 1) ∷ Print ∷ Remove 2 ∷ Print ∷ Remove 1 ∷ Print ∷ [])
-    (0x2B ∷ 0x2B ∷ 0x2B ∷ two (since 1 0 1) (since 2 37 100) ++ (0x2B ∷ one (since 1 0 1)) ++ (0x2B ∷ 0x21 ∷ 6 ∷ []))
+    (0x2B ∷ 0x2B ∷ 0x2B ∷ twoEntries (sinceBytes 1 0 1) (sinceBytes 2 37 100) ++ (0x2B ∷ oneEntry (sinceBytes 1 0 1)) ++ (0x2B ∷ 0x21 ∷ 6 ∷ []))
     ∷ line
     (Stand ten ∷ Add 1 (at 2 3) ∷ Add 2 (at 7 1) ∷ Move 1 (at 7 1) ∷ Move 2 (at 2 3) ∷ Print ∷ [])
-    (0x2B ∷ 0x2B ∷ 0x2B ∷ 0x2B ∷ 0x2B ∷ two (since 2 0 1) (since 1 37 100))
+    (0x2B ∷ 0x2B ∷ 0x2B ∷ 0x2B ∷ 0x2B ∷ twoEntries (sinceBytes 2 0 1) (sinceBytes 1 37 100))
     ∷ []
 
 -- the fractions 0, 36/100, 37/100, 99/100 and 1
 abbrev pub fractions : List Fraction
 fractions =
-    record { num = 0; den = 1 } ∷ record { num = 36; den = 100 } ∷ record { num = 37; den = 100 } ∷ record { num = 99; den = 100 } ∷ record { num = 1; den = 1 } ∷ []
+    record { num = 0; den = 1 } ∷ record { num = 36; den = 100 } ∷ record { num = 37; den = 100 }
+    ∷ record { num = 99; den = 100 } ∷ record { num = 1; den = 1 } ∷ []
 
--- the numbers that a printed record names there: "At t a list names the site of its last entry whose start is not above t"
+-- the numbers that a printed record names there: "At t a list names the site of its last entry whose start is not
+-- above t"
 abbrev pub namesIn : List ℕ → List (Option ℕ)
 namesIn bytes = map (λ (t : Fraction). numberAt t (listIn bytes)) fractions
 
 -- what the first of the standing lines prints
 abbrev pub printedLines : List (List ℕ)
-printedLines = two (since 1 0 1) (since 2 37 100) ∷ one (since 1 0 1) ∷ (0x21 ∷ 6 ∷ []) ∷ []
+printedLines = twoEntries (sinceBytes 1 0 1) (sinceBytes 2 37 100) ∷ oneEntry (sinceBytes 1 0 1) ∷ (0x21 ∷ 6 ∷ []) ∷ []
 
--- what is named then: at a start the site that begins there; where 2 stood, its start included, 1 stands when 2 is gone; and none is named by a refusal
+-- what is named then: at a start the site that begins there; where 2 stood, its start included, 1 stands when 2 is
+-- gone; and none is named by a refusal
 abbrev pub namedLines : List (List (Option ℕ))
 namedLines =
     (some 1 ∷ some 1 ∷ some 2 ∷ some 2 ∷ some 2 ∷ [])

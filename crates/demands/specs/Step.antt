@@ -9,10 +9,12 @@ use Rattle.book.specs.Book.{Book, change}
 use Rattle.book.specs.Reply.{Reply, done, refused, listed}
 use Rattle.book.specs.Answer.{reads}
 use Rattle.book.specs.Run.{Turn}
-use Rattle.table.specs.Table.{Sound, bookOf}
+use Rattle.table_rules.specs.Table.{Sound, bookOf}
 
--- t is a sound table of the book b. Which bytes it has is the program's choice: the shape of the tree, its node ids and the order of entries and of free nodes, the bytes that
--- docs/LAYOUT.md calls free, records and words past a count, entries past a node's number of them, and free nodes. What all choices have in common: they answer alike (`Alike`).
+-- t is a sound table of the book b. Which bytes it has is the program's choice: the shape of the tree, its node ids
+-- and the order of entries and of free nodes, the bytes that docs/LAYOUT.md calls free, records and words past a
+-- count, entries past a node's number of them, and free nodes. What all choices have in common: they answer alike
+-- (`Alike`).
 pub record Holds (t : List ℕ) (b : Book) : Type 0 where
   pub sound : Sound t
   pub book : bookOf t ≡ b
@@ -35,4 +37,5 @@ Step t c y t′ = Left (keeps c y) t (change c (bookOf t)) t′
 -- "table as the commands before it left it": the commands that got a record, one after the other
 pub data Chain : List ℕ → List Turn → List ℕ → Type 0 where
   none : {t : List ℕ} → Chain t [] t
-  next : {t t₁ t′ : List ℕ} {u : Turn} {us : List Turn} → Step t (u .command) (u .reply) t₁ → Chain t₁ us t′ → Chain t (u ∷ us) t′
+  next : {t t₁ t′ : List ℕ} {u : Turn} {us : List Turn} → Step t (u .command) (u .reply) t₁ → Chain t₁ us t′
+      → Chain t (u ∷ us) t′

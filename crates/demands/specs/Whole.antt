@@ -46,9 +46,16 @@ pub record Said : Type 0 where
 
 -- what a call said
 abbrev pub said : Call → Said
-said c = record { reason = c .result .reason; used = c .result .used; written = c .result .written; bytes = take (c .result .written) (c .reportAfter) }
+said c =
+    record {
+      reason = c .result .reason;
+      used = c .result .used;
+      written = c .result .written;
+      bytes = take (c .result .written) (c .reportAfter);
+    }
 
--- "It is fed each batch call's command bytes and the lengths of its work and report buffers, and nothing that the service answers or keeps."
+-- "It is fed each batch call's command bytes and the lengths of its work and report buffers, and nothing that the
+-- service answers or keeps."
 pub record Ask : Type 0 where
   pub work : ℕ
   pub commands : List ℕ
@@ -64,7 +71,13 @@ taken a b = call (a .work) (a .commands) (a .room) b
 
 -- what the book says
 abbrev pub saidBy : Outcome → Said
-saidBy o = record { reason = reasonNumber (o .reason); used = o .used; written = length (records (o .turns)); bytes = records (o .turns) }
+saidBy o =
+    record {
+      reason = reasonNumber (o .reason);
+      used = o .used;
+      written = length (records (o .turns));
+      bytes = records (o .turns);
+    }
 
 -- what the book says to a list of calls
 unfoldable pub replies : Book → List Ask → List Said
@@ -84,7 +97,8 @@ bookOfRun cs = bookAfter emptyBook (map asked cs)
 -- the asks are additions of these sites and nothing else, with a work buffer of the right length
 pub data Filled : List Ask → List Site → Type 0 where
   none : Filled [] []
-  next : {a : Ask} {asks : List Ask} {more : List Site} (s : List Site) → a .work ≡ workBytes → a .commands ≡ additions s → length s ≤ a .room
+  next : {a : Ask} {asks : List Ask} {more : List Site} (s : List Site)
+      → a .work ≡ workBytes → a .commands ≡ additions s → length s ≤ a .room
       → Filled asks more → Filled (a ∷ asks) (s ++ more)
 
 -- the call on the table t is just these command bytes, with a work buffer of the right length, and leaves t′
@@ -94,9 +108,9 @@ pub record Asks (t bytes : List ℕ) (c : Call) (t′ : List ℕ) : Type 0 where
   pub work : length (c .work) ≡ workBytes
 
 -- "with room enough": the record fits
-abbrev pub Room : Call → List ℕ → Type 0
-Room c bytes = length bytes ≤ length (c .report)
+abbrev pub HasRoom : Call → List ℕ → Type 0
+HasRoom c bytes = length bytes ≤ length (c .report)
 
 -- the call used all its commands, with reason 0, and wrote just this record
-abbrev pub Wrote : Call → List ℕ → Type 0
-Wrote c bytes = said c ≡ record { reason = 0; used = length (c .commands); written = length bytes; bytes = bytes }
+abbrev pub WroteReport : Call → List ℕ → Type 0
+WroteReport c bytes = said c ≡ record { reason = 0; used = length (c .commands); written = length bytes; bytes = bytes }

@@ -3,7 +3,8 @@
 use Prim.Native.Nat.{ℕ, _+_, _-_, _%_}
 use Rattle.limits.specs.Limits.{halfWidth}
 
--- the number that a signed 16-bit word stands for, counted from the grid's south-west corner: on the grid it is at most gridWidth
+-- the number that a signed 16-bit word stands for, counted from the grid's south-west corner: on the grid it is at
+-- most gridWidth
 unfoldable pub fromWord : ℕ → ℕ
 fromWord w = (w + halfWidth) % 65536
 

@@ -1,4 +1,5 @@
--- A step of Euclid's rule as the code takes it, to the nearest multiple. Document 01 asks for starts "without common factor" and leaves the way open.
+-- A step of Euclid's rule as the code takes it, to the nearest multiple. Document 01 asks for starts "without common
+-- factor" and leaves the way open.
 -- Assumes nothing.
 use mathlib.Core.Path.{_≡_}
 use mathlib.Core.Logic.{_⊎_}

@@ -1,5 +1,6 @@
--- Fractions. Document 01, "The split list": "Fraction t, from 0 to 1, is any n/d of whole numbers with d at least 1 and n from 0 to d";
--- "A start is a numerator and a denominator without common factor". `Fraction` is the code's own struct (src/lib.rt).
+-- Fractions. Document 01, "The split list": "Fraction t, from 0 to 1, is any n/d of whole numbers with d at least 1
+-- and n from 0 to d"; "A start is a numerator and a denominator without common factor". `Fraction` is the code's own
+-- struct (src/lib.rt).
 -- Assumes nothing.
 use mathlib.Core.Path.{_≡_}
 use Prim.Native.Nat.{ℕ, zero, suc, _*_, _/_, _%_, _≤_, _<_}

@@ -1,6 +1,6 @@
--- Positions, sites and legs; squared distance. Document 01, "Grid and sites".
--- A coordinate is counted in steps from the grid's south-west corner, so that all numbers are natural; differences stay what they were.
--- `Position`, `Site` and `Leg` are the code's own structs (src/lib.rt).
+-- Positions, sites and legs; squared distance. Document 01, "Grid and sites". A coordinate is counted in steps from
+-- the grid's south-west corner, so that all numbers are natural; differences stay what they were. `Position`, `Site`
+-- and `Leg` are the code's own structs (src/lib.rt).
 -- Assumes nothing.
 use Prim.Native.Nat.{ℕ, _+_, _*_, _-_, _≤_}
 use Rattle.limits.specs.Limits.{gridWidth}

@@ -1,8 +1,8 @@
-// Coordinates of commands, which are signed 16-bit numbers, and back.
+// Coordinates of commands, which are signed 16-bit numbers, and the test of what is on the grid.
 use crate::Leg;
 use crate::Position;
 ghost use mathlib.Core.Path.{_≡_};
-ghost use Rattle.grid.specs.Coordinate.{fromWord, toWord};
+ghost use Rattle.grid.specs.Coordinate.{fromWord};
 ghost use Rattle.grid.specs.Position.{OnGrid, LegOnGrid};
 ghost use Rattle.grid.specs.Says.{Says};
 
@@ -11,14 +11,6 @@ pub fn from_word(w: u16) -> u16
     ensures { λ r. ⌜ r ≡ fromWord w ⌝ }
 {
     let sum = w as u32 + limits::HALF_WIDTH as u32;
-    (sum % 65536) as u16
-}
-
-// The word that stands for a coordinate.
-pub fn to_word(x: u16) -> u16
-    ensures { λ r. ⌜ r ≡ toWord x ⌝ }
-{
-    let sum = x as u32 + (65536 - limits::HALF_WIDTH as u32);
     (sum % 65536) as u16
 }
 

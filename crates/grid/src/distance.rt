@@ -7,7 +7,8 @@ ghost use Rattle.limits.specs.Limits.{gridWidth, maxSquare, maxDistance};
 ghost use Rattle.grid.specs.Position.{OnGrid, squaredDifference, distance};
 ghost use Rattle.grid.specs.Area.{AreaOnGrid, outside, areaDistance};
 
-// How far x lies beyond y: 0 where it does not. One subtraction and no branch in machine code: which case it is cannot be foreseen.
+// How far x lies beyond y: 0 where it does not. One subtraction and no branch in machine code: which case it is
+// cannot be foreseen.
 fn beyond(x: u16, y: u16) -> u64
     ensures { λ r. ⌜ r ≡ x - y ⌝ }
 {
@@ -17,7 +18,8 @@ fn beyond(x: u16, y: u16) -> u64
     (x - y) as u64
 }
 
-// How far apart x and y are: a choice of two differences, no branch in machine code. Where positions are read from memory this is quicker than two `beyond`.
+// How far apart x and y are: a choice of two differences, no branch in machine code. Where positions are read from
+// memory this is quicker than two `beyond`.
 fn apart(x: u16, y: u16) -> u64
     ensures { λ r. ⌜ r ≡ (x - y) + (y - x) ⌝ }
 {

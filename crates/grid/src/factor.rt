@@ -15,7 +15,8 @@ fn nearest_rest(x: u64, y: u64) -> u64
     if rest <= missing { rest } else { missing }
 }
 
-// The greatest common factor, by Euclid's rule with the nearest multiple: that takes a third fewer divisions than the multiple below.
+// The greatest common factor, by Euclid's rule with the nearest multiple: that takes a third fewer divisions than the
+// multiple below.
 pub fn gcd(a: u64, b: u64) -> u64
     ensures { λ r. ⌜ r ≡ gcdOf a b ⌝ }
 {
@@ -85,7 +86,8 @@ fn step(p: Pair) -> Pair
     }
 }
 
-// The greatest common factors of two pairs. A division waits for the one before it: those of the other pair fill the wait.
+// The greatest common factors of two pairs. A division waits for the one before it: those of the other pair fill the
+// wait.
 fn gcd_two(a: Pair, b: Pair) -> Pair
     requires { ⌜ a .y + b .y < 2 ^ 64 ⌝ }
     ensures { λ r. ⌜ (r .x ≡ gcdOf (a .x) (a .y)) × (r .y ≡ gcdOf (b .x) (b .y)) ⌝ }

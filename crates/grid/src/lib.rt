@@ -29,6 +29,12 @@ pub struct Area {
     pub north: u16,
 }
 
+// Squared distances from S and from E: those of a site, or the least ones of what lies in a box.
+pub struct Corner {
+    pub a: u32,
+    pub c: u32,
+}
+
 pub struct Fraction {
     pub num: u64,
     pub den: u64,

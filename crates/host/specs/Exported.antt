@@ -1,4 +1,5 @@
--- The exported calls say what the proved calls say: document 01's numbers are what they return. Document 01, "Causes and numbers".
+-- The exported calls say what the proved calls say: document 01's numbers are what they return. Document 01,
+-- "Causes and numbers".
 -- Assumes nothing.
 use mathlib.Core.List.{List}
 use Prim.Native.Nat.{ℕ}

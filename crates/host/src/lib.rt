@@ -1,5 +1,5 @@
-// The two calls as the depot server's host program links them (include/stops.h). Document 01: "The batch call is also exported to the host
-// program of the depot server".
+// The two calls as the depot server's host program links them (include/stops.h). Document 01: "The batch call is
+// also exported to the host program of the depot server".
 ghost use Rattle.demands.specs.Batch.{LaidOut};
 ghost use Rattle.host.specs.Exported.{ExportedBatch};
 
@@ -22,7 +22,10 @@ pub extern "C" fn stops_batch(
     used: &mut usize,
     written: &mut usize,
 ) -> u32
-    ensures { λ r. ⌜ ExportedBatch (now (table .entry)) (now (work .entry)) (now (commands .entry)) (now (report .entry)) r (now (used .exit)) (now (written .exit)) (now (table .exit)) (now (work .exit)) (now (report .exit)) ⌝ }
+    ensures { λ r. ⌜ ExportedBatch
+        (now (table .entry)) (now (work .entry)) (now (commands .entry)) (now (report .entry))
+        r (now (used .exit)) (now (written .exit))
+        (now (table .exit)) (now (work .exit)) (now (report .exit)) ⌝ }
 {
     let r = service::batch(table, work, commands, report);
     let reason = r.reason;

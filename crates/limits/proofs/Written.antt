@@ -1,10 +1,7 @@
 -- The derived limits, as document 01 writes them.
 -- Assumes nothing.
 use mathlib.Core.Path.{_≡_, refl}
-use Rattle.limits.specs.Limits.{gridWidth, maxDistance, maxDenominator}
-
-pub grid-width : gridWidth ≡ 16000
-grid-width = refl
+use Rattle.limits.specs.Limits.{maxDistance, maxDenominator}
 
 pub distance-most : maxDistance ≡ 512000000
 distance-most = refl

@@ -1,4 +1,5 @@
--- The numbers that document 01 fixes, and the layout's own number. Each stands here for the definitions and in src/ for the code, and nowhere else.
+-- The numbers that document 01 fixes, and how many nodes the pool has. Each stands here for the definitions and in
+-- src/ for the code, and nowhere else.
 -- Assumes nothing.
 use Prim.Native.Nat.{ℕ, _*_}
 
@@ -53,11 +54,3 @@ tableBytes = 32768
 -- "The work buffer is exactly 8,192 lent bytes"
 abbrev pub workBytes : ℕ
 workBytes = 8192
-
--- where the number of the table's layout stands (docs/LAYOUT.md)
-abbrev pub layoutStart : ℕ
-layoutStart = 14
-
--- the number of this layout: "its layout is the team's and stands in docs/"
-abbrev pub layoutNumber : ℕ
-layoutNumber = 1

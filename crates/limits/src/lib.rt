@@ -1,5 +1,5 @@
-// The numbers that document 01 fixes, and the layout's own number, as the code uses them. specs/Limits.antt has the same
-// for the definitions.
+// The numbers that document 01 fixes, and how many nodes the pool has, as the code uses them. specs/Limits.antt has the
+// same for the definitions.
 
 // The largest coordinate on either side of the grid's middle, in steps of 100 m.
 pub const HALF_WIDTH: u16 = 8000;
@@ -22,8 +22,3 @@ pub const MAX_NODES: usize = 264;
 pub const TABLE_BYTES: usize = 32768;
 
 pub const WORK_BYTES: usize = 8192;
-
-// Where the number of the table's layout stands, and what it is: docs/LAYOUT.md says when it goes up.
-pub const LAYOUT_START: usize = 14;
-
-pub const LAYOUT_NUMBER: u16 = 1;

@@ -1,3 +1,4 @@
+pub mod Building
 pub mod Order
 pub mod Testing
 pub mod Writing

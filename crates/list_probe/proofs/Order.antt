@@ -7,11 +7,11 @@ use native.Mathlib.Omega.{arith}
 use Rattle.grid.specs.declared.Site.{Site}
 use Rattle.grid.specs.declared.Leg.{Leg}
 use Rattle.split.specs.SplitList.{Numbered, SitesOnGrid}
-use Rattle.build_list.specs.SiteArray.{sitesFrom, HasSites}
-use Rattle.list_probe.specs.Probing.{Next, Orderly, Ready}
+use Rattle.list_probe.specs.SiteArray.{sitesFrom, HasSites}
+use Rattle.list_probe.specs.Probing.{NextSite, Orderly, Buildable}
 
 -- each one is such a site
-each : (m : ℕ) (s : List Site) → Orderly m s → (p : Site) → List·Memᴰ p s → Next m p
+each : (m : ℕ) (s : List Site) → Orderly m s → (p : Site) → List·Memᴰ p s → NextSite m p
 each m (q ∷ s) h p (List·Memᴰ·head e) = rw e (h .0)
 each m (q ∷ s) h p (List·Memᴰ·tail i) =
     let n = each (q .number) s (h .1) p i in
@@ -33,7 +33,7 @@ orderly-on-grid : (s : List Site) → Orderly 0 s → SitesOnGrid s
 orderly-on-grid s h p m = each 0 s h p m .on-grid
 
 -- What `build` asks.
-pub ready-sites : {t : List ℕ} {n : ℕ} {l : Leg} {room : ℕ} → Ready t n l room → HasSites t 0 n
+pub ready-sites : {t : List ℕ} {n : ℕ} {l : Leg} {room : ℕ} → Buildable t n l room → HasSites t 0 n
 ready-sites {t} {n} h =
     record {
       few = h .few;

@@ -11,10 +11,10 @@ use Rattle.grid.specs.declared.Site.{Site}
 use Rattle.grid.specs.declared.Leg.{Leg}
 use Rattle.grid.specs.Position.{OnGrid}
 use Rattle.grid.specs.Says.{Says}
-use Rattle.row.specs.Places.{siteAt}
-use Rattle.row.specs.Vertices.{rowBytes}
-use Rattle.build_list.specs.SiteArray.{sitesFrom}
-use Rattle.list_probe.specs.Probing.{Next, Orderly, Ready}
+use Rattle.list_row.specs.Places.{siteAt}
+use Rattle.list_row.specs.Vertices.{rowBytes}
+use Rattle.list_probe.specs.SiteArray.{sitesFrom}
+use Rattle.list_probe.specs.Probing.{NextSite, Orderly, Buildable}
 
 -- the n records are in order exactly if those from i on are, above the last number
 pub record Tested (t : List ℕ) (n last i : ℕ) : Type 0 where
@@ -37,8 +37,8 @@ split-off t n i h =
     rw (e, f, g)
 
 module _ {t : List ℕ} {n last i : ℕ} (d : Tested t n last i) (h : i < n) {p : Site} (is : p ≡ siteAt t (4 * i)) where
-  next : Orderly 0 (sitesFrom t 0 n) → Next last p
-  next o = subst (λ (q : Site). Next last q) (sym is) ((rw (split-off t n i h) at (d .back o)) .0)
+  next : Orderly 0 (sitesFrom t 0 n) → NextSite last p
+  next o = subst (λ (q : Site). NextSite last q) (sym is) ((rw (split-off t n i h) at (d .back o)) .0)
 
   pub not-rising : p .number ≤ last → ¬ Orderly 0 (sitesFrom t 0 n)
   not-rising g o = omega (arith, next o .above)
@@ -50,7 +50,7 @@ module _ {t : List ℕ} {n last i : ℕ} (d : Tested t n last i) (h : i < n) {p 
   tested-one g small b e og =
       record {
         upto = omega arith;
-        to = λ o. d .to (rw (split-off t n i h) (subst (λ (q : Site). Next last q) is (record { above = g; small = omega arith; on-grid = rw e at og }), same o));
+        to = λ o. d .to (rw (split-off t n i h) (subst (λ (q : Site). NextSite last q) is (record { above = g; small = omega arith; on-grid = rw e at og }), same o));
         back = λ o. back ((rw (split-off t n i h) at (d .back o)) .1);
       }
     where
@@ -66,14 +66,14 @@ tested-all {t} {n} {last} {i} d h = let e : n - i ≡ 0 = omega arith in d .to (
 
 -- The returns of `ready`.
 module _ (t : List ℕ) (n : ℕ) (l : Leg) (room : ℕ) (a : Bool) where
-  pub not-ready-s : Says a (OnGrid (l .s)) → a ≡ false → ¬ Ready t n l room
+  pub not-ready-s : Says a (OnGrid (l .s)) → a ≡ false → ¬ Buildable t n l room
   not-ready-s ha e h = (rw e at ha) (h .leg .s)
 
-  pub not-ready-e : Says a (OnGrid (l .e)) → a ≡ false → ¬ Ready t n l room
+  pub not-ready-e : Says a (OnGrid (l .e)) → a ≡ false → ¬ Buildable t n l room
   not-ready-e ha e h = (rw e at ha) (h .leg .e)
 
-  pub ready-is : Says a (OnGrid (l .s)) → a ≡ true → (b : Bool) → Says b (OnGrid (l .e)) → b ≡ true → n ≤ maxSites → 8 * n ≤ length t → 2 * rowBytes ≤ room
-      → (f : Bool) → Says f (Orderly 0 (sitesFrom t 0 n)) → Says f (Ready t n l room)
+  pub ready-is : Says a (OnGrid (l .s)) → a ≡ true → (b : Bool) → Says b (OnGrid (l .e)) → b ≡ true → n ≤ maxSites → 8 * n ≤ length t → rowBytes ≤ room
+      → (f : Bool) → Says f (Orderly 0 (sitesFrom t 0 n)) → Says f (Buildable t n l room)
   ready-is ha ea b hb eb few inside work true o =
       record { few = few; inside = inside; work = work; leg = record { s = rw ea at ha; e = rw eb at hb }; sites = o }
   ready-is ha ea b hb eb few inside work false o = λ h. o (h .sites)

@@ -9,17 +9,17 @@ use lib.ListN.{length}
 use Rattle.grid.specs.declared.Leg.{Leg}
 use Rattle.grid.specs.Says.{Says}
 use Rattle.split.specs.SplitList.{Entry}
-use Rattle.row.specs.Vertices.{entriesIn}
+use Rattle.list_row.specs.Vertices.{entriesIn}
 use Rattle.records.specs.Bytes.{write}
 use Rattle.records.specs.ListRecord.{recordBytes, listSize}
 use Rattle.records.proofs.Length.{record-length}
-use Rattle.record3d.specs.RowEntries.{entriesFrom}
-use Rattle.record3d.proofs.Entries.{entries-length}
-use Rattle.build_list.specs.SiteArray.{Built}
-use Rattle.list_probe.specs.Probing.{Ready, answer, Written, Probed}
+use Rattle.list_row.specs.Entries.{entriesFrom}
+use Rattle.list_row.proofs.Entries.{entries-length}
+use Rattle.list_probe.specs.SiteArray.{Built}
+use Rattle.list_probe.specs.Probing.{Buildable, probeRecord, Written, Probed}
 
 module _ {t : List ℕ} {n : ℕ} {l : Leg} {w w′ : List ℕ} {k : ℕ} (h : Built l t 0 n w w′ k) where
-  size : length (answer t n l) ≡ listSize k
+  size : length (probeRecord t n l) ≡ listSize k
   size =
       ap (λ (es : List Entry). length (recordBytes es)) (sym (h .is)) ∙ record-length (entriesIn l t w′ k)
       ∙ ap listSize (entries-length l t w′ k)
@@ -38,8 +38,8 @@ module _ {t : List ℕ} {n : ℕ} {l : Leg} {w w′ : List ℕ} {k : ℕ} (h : B
       }
 
 -- The returns of `probe_list`.
-module _ (t : List ℕ) (n : ℕ) (l : Leg) (w : List ℕ) (f : Bool) (s : Says f (Ready t n l (length w))) where
-  pub ready-true : f ≡ true → Ready t n l (length w)
+module _ (t : List ℕ) (n : ℕ) (l : Leg) (w : List ℕ) (f : Bool) (s : Says f (Buildable t n l (length w))) where
+  pub ready-true : f ≡ true → Buildable t n l (length w)
   ready-true e = rw e at s
 
   pub probed-good : f ≡ true → {w′ b b′ : List ℕ} {r : ℕ} → Written t n l w w′ b b′ r → Probed t n l w w′ b b′ r

@@ -1,1 +1,2 @@
+pub mod SiteArray
 pub mod Probing

@@ -5,6 +5,7 @@ use Prim.Native.Nat.{ℕ, zero, suc, _+_, _*_}
 use lib.ListN.{getD, drop}
 use Rattle.grid.specs.declared.Fraction.{Fraction}
 use Rattle.split.specs.SplitList.{Entry}
+use Rattle.records.specs.ListRecord.{headSize, entrySize}
 
 -- an entry as the record has it: a site's number and a start
 pub record Listed : Type 0 where
@@ -30,8 +31,8 @@ readEntry s = record { number = read2 s 0; start = record { num = read4 s 2; den
 -- k entries behind each other
 unfoldable pub readList : ℕ → List ℕ → List Listed
 readList zero s = []
-readList (suc k) s = readEntry s ∷ readList k (drop 10 s)
+readList (suc k) s = readEntry s ∷ readList k (drop entrySize s)
 
 -- the record: "3D, a 16-bit count, then per entry .."
 unfoldable pub readRecord : List ℕ → List Listed
-readRecord s = readList (read2 s 1) (drop 3 s)
+readRecord s = readList (read2 s 1) (drop headSize s)

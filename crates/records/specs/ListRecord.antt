@@ -1,4 +1,5 @@
--- Record 3D: "3D, a 16-bit count, then per entry the site, numerator and denominator (32 bits each)". Document 01, "Buffers and batches".
+-- Record 3D: "3D, a 16-bit count, then per entry the site, numerator and denominator (32 bits each)". Document 01,
+-- "Buffers and batches".
 -- Assumes nothing.
 use mathlib.Core.List.{List, [], _∷_, _++_}
 use Prim.Native.Nat.{ℕ, _+_, _*_}
@@ -19,6 +20,14 @@ listBytes (e ∷ es) = entryBytes e ++ listBytes es
 unfoldable pub recordBytes : List Entry → List ℕ
 recordBytes es = 0x3D ∷ bytes2 (length es) ++ listBytes es
 
--- the bytes of a record of k entries: mark and count, and for each entry 2 + 4 + 4
+-- the bytes of mark and count
+abbrev pub headSize : ℕ
+headSize = 3
+
+-- the bytes of an entry: 2 + 4 + 4
+abbrev pub entrySize : ℕ
+entrySize = 10
+
+-- the bytes of a record of k entries
 abbrev pub listSize : ℕ → ℕ
-listSize k = 3 + 10 * k
+listSize k = headSize + entrySize * k

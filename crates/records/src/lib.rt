@@ -1,1 +1,1 @@
-// The bytes of report records: definitions alone, in specs/, and their laws, in proofs/.
+// The bytes of record 3D and what a reader makes of them: definitions alone, in specs/, and their laws, in proofs/.

@@ -18,13 +18,13 @@ use Rattle.records.specs.ListRecord.{recordBytes}
 use Rattle.book.specs.declared.Reason.{Reason}
 use Rattle.book.specs.declared.BatchResult.{BatchResult}
 use Rattle.book.specs.Numbers.{reasonNumber}
-use Rattle.book.specs.Book.{emptyBook}
-use Rattle.book.specs.Perm.Perm.{swap}
+use Rattle.book.specs.Book.{emptyBook, sitesOf}
+use Rattle.permutation.specs.Perm.Perm.{swap}
 use Rattle.book.specs.Reply.{recordOf}
-use Rattle.table.specs.Table.{Sound}
-use Rattle.table.proofs.Books.{sound-len}
+use Rattle.table_rules.specs.Table.{Sound}
+use Rattle.table_rules.proofs.Books.{sound-len}
 use Rattle.demands.specs.Batch.{returnOf, lengthsOk, Batch, LaidOut}
-use Rattle.demands.specs.Whole.{Call, Said, said, Ask, asked, Ran, replies, bookAfter, bookOfRun, Asks, Wrote}
+use Rattle.demands.specs.Whole.{Call, Said, said, Ask, asked, Ran, replies, bookAfter, bookOfRun, Asks, WroteReport}
 use Rattle.demands.specs.Whole.Made.{none as no-call, next}
 use Rattle.demands.specs.Whole.Filled.{none as no-ask, next as more-asks}
 use Rattle.demands.specs.Demands.{list4C, listRecord, FreshOf}
@@ -32,9 +32,9 @@ use Rattle.demands.proofs.WholeRun.{ran-holds}
 use Rattle.demands.proofs.Legs.{list-answer}
 use Rattle.demands.proofs.Demand1.{demand1, demand1-laid}
 use Rattle.demands.proofs.Demand3.{demand3}
-use Rattle.replay.specs.declared.Told.{Told}
+use Rattle.replay.specs.declared.Heard.{Heard}
 use Rattle.replay.specs.declared.Row.{Row}
-use Rattle.replay.specs.Replayed.{ask, Called, addBoth, addUnknown, removeCut, listTen, addTwo, addOne, two, one, endAsks, endReplies, tenBytes, saidBy, ends, Opened, Closed, Refilled, AskedTen, Replayed}
+use Rattle.replay.specs.Replayed.{ask, Called, addBoth, addUnknown, removeCut, listTen, addTwo, addOne, siteTwo, siteOne, endAsks, endReplies, tenBytes, saidIn, saidOf, Opened, Closed, Refilled, AskedTen, Replayed}
 use Rattle.replay.proofs.Computed.{end-replies, end-lines, ten-list, ten-on}
 
 -- ---- one call
@@ -57,7 +57,7 @@ pub short-made : (t w cs rep t′ w′ rep′ : List ℕ) (r : BatchResult) → 
 short-made t w cs rep t′ w′ rep′ r e f b = small-made 1 cs rep r t t′ rep′ f (called 1 t w cs rep t′ w′ rep′ r e b)
 
 -- what it said
-called-said : (a : Ask) (r : Told) (t t′ : List ℕ) (h : Called a (r .result) t t′ (r .report)) → said (h .call) ≡ saidBy r
+called-said : (a : Ask) (r : Heard) (t t′ : List ℕ) (h : Called a (r .result) t t′ (r .report)) → said (h .call) ≡ saidIn r
 called-said a r t t′ h = λ i.
     record { reason = h .result i .reason; used = h .result i .used; written = h .result i .written; bytes = take (h .result i .written) (h .report i) }
 
@@ -78,11 +78,11 @@ module _ (t t₁ : List ℕ) (x : Reason) (l : LaidOut t (reasonNumber x) t₁) 
   laid : LaidOut t 0 t₁
   laid = subst (λ (n : ℕ). LaidOut t n t₁) (demand1-laid t (reasonNumber x) t₁ l .laid e .0) l
 
-  pub opened : (t₂ t₃ : List ℕ) (a b : Told) → Called (ask 1 addBoth 2) (a .result) t₁ t₂ (a .report) → Called (ask workBytes addBoth 2) (b .result) t₂ t₃ (b .report)
+  pub opened : (t₂ t₃ : List ℕ) (a b : Heard) → Called (ask 1 addBoth 2) (a .result) t₁ t₂ (a .report) → Called (ask workBytes addBoth 2) (b .result) t₂ t₃ (b .report)
       → Opened (record { short = a; used = b }) t₃
   opened t₂ t₃ a b x y = record { before = t; table = t₁; laid = laid; between = t₂; short = x; used = y }
 
-  pub refilled : (t₂ t₃ : List ℕ) (r₁ r₂ : Told) → Called (ask workBytes addTwo 2) (r₁ .result) t₁ t₂ (r₁ .report) → Called (ask workBytes addOne 2) (r₂ .result) t₂ t₃ (r₂ .report)
+  pub refilled : (t₂ t₃ : List ℕ) (r₁ r₂ : Heard) → Called (ask workBytes addTwo 2) (r₁ .result) t₁ t₂ (r₁ .report) → Called (ask workBytes addOne 2) (r₂ .result) t₂ t₃ (r₂ .report)
       → Refilled t₃
   unfolding toWord
   refilled t₂ t₃ r₁ r₂ a b =
@@ -91,17 +91,17 @@ module _ (t t₁ : List ℕ) (x : Reason) (l : LaidOut t (reasonNumber x) t₁) 
         ran = record { before = t; laid-table = t₁; laid = laid; made = next (a .made) (next (b .made) no-call) };
         filled =
             rw (a .asked-so, b .asked-so)
-            (more-asks {a = ask workBytes addTwo 2} (two ∷ []) refl refl (omega arith) (more-asks {a = ask workBytes addOne 2} (one ∷ []) refl refl (omega arith) no-ask));
+            (more-asks {a = ask workBytes addTwo 2} (siteTwo ∷ []) refl refl (omega arith) (more-asks {a = ask workBytes addOne 2} (siteOne ∷ []) refl refl (omega arith) no-ask));
       }
 
-pub closed : (t t₂ t₃ t′ : List ℕ) (a b c : Told) → Called (ask workBytes addUnknown 2) (a .result) t t₂ (a .report) → Called (ask workBytes removeCut 2) (b .result) t₂ t₃ (b .report)
+pub closed : (t t₂ t₃ t′ : List ℕ) (a b c : Heard) → Called (ask workBytes addUnknown 2) (a .result) t t₂ (a .report) → Called (ask workBytes removeCut 2) (b .result) t₂ t₃ (b .report)
     → Called (ask workBytes listTen 2) (c .result) t₃ t′ (c .report) → Closed (record { unknown = a; cut = b; full = c }) t t′
 closed t t₂ t₃ t′ a b c x y z = record { second = t₂; third = t₃; unknown = x; cut = y; full = z }
 
 -- ---- the theorem
 
 -- a report of just the length of the record is the record
-report-is : (t : List ℕ) → Sound t → (x : Call) (t′ bytes : List ℕ) → Asks t (list4C ten) x t′ → length (x .report) ≡ length bytes → Wrote x bytes → x .reportAfter ≡ bytes
+report-is : (t : List ℕ) → Sound t → (x : Call) (t′ bytes : List ℕ) → Asks t (list4C ten) x t′ → length (x .report) ≡ length bytes → WroteReport x bytes → x .reportAfter ≡ bytes
 report-is t s x t′ bytes a e w =
     let ok : lengthsOk t (x .work) ≡ true = λ i. eq-eqb (length t) tableBytes (sound-len t s) i && eq-eqb (length (x .work)) workBytes (a .work) i in
     let k = demand1 t x t′ (a .made) .taken ok s in
@@ -129,7 +129,7 @@ module _ (r : Row) (t₁ t₂ t₃ u₁ u₂ : List ℕ) (o : Opened (r .opening
   unfolding calls
   asks = λ i. o .short .asked-so i ∷ o .used .asked-so i ∷ k .unknown .asked-so i ∷ k .cut .asked-so i ∷ k .full .asked-so i ∷ []
 
-  told : map said calls ≡ ends (r .opening) (r .closing)
+  told : map said calls ≡ saidOf (r .opening) (r .closing)
   unfolding calls
   told = λ i.
       called-said _ (r .opening .short) _ _ (o .short) i
@@ -139,25 +139,25 @@ module _ (r : Row) (t₁ t₂ t₃ u₁ u₂ : List ℕ) (o : Opened (r .opening
       ∷ called-said _ (r .closing .full) _ _ (k .full) i
       ∷ []
 
-  replies-are : ends (r .opening) (r .closing) ≡ endReplies
+  replies-are : saidOf (r .opening) (r .closing) ≡ endReplies
   replies-are = sym told ∙ demand3 calls t₂ ran .answers ∙ ap (replies emptyBook) asks ∙ end-replies
 
-  two-lines : bookOfRun calls .lines ≡ one ∷ two ∷ []
+  two-lines : bookOfRun calls .lines ≡ siteOne ∷ siteTwo ∷ []
   two-lines = ap (λ (a : List Ask). bookAfter emptyBook a .lines) asks ∙ end-lines
 
-  ten-is : recordBytes (splitOf ten (bookOfRun calls .lines)) ≡ tenBytes
+  ten-is : recordBytes (splitOf ten (sitesOf (bookOfRun calls))) ≡ tenBytes
   ten-is = ap (λ (s : List Site). recordBytes (splitOf ten s)) two-lines ∙ ten-list
 
-  held : bookOfRun calls .lines ≢ []
+  held : sitesOf (bookOfRun calls) ≢ []
   held e = let z : _≡_ {A = ℕ} 2 0 = ap length (sym two-lines ∙ e) in omega arith
 
-  wrote-ours : Wrote (c .call) tenBytes
+  wrote-ours : WroteReport (c .call) tenBytes
   wrote-ours =
-      subst (λ (y : List ℕ). Wrote (c .call) y) ten-is
+      subst (λ (y : List ℕ). WroteReport (c .call) y) ten-is
       (demand3 calls t₂ ran .lists ten ten-on held (c .call) t₃ (c .asks) (omega (arith, ap length ten-is, c .room)) .0)
 
   fresh-of : FreshOf (bookOfRun calls) (f .calls)
-  fresh-of = record { order = two ∷ one ∷ []; filled = f .filled; perm = rw two-lines swap }
+  fresh-of = record { order = siteTwo ∷ siteOne ∷ []; filled = f .filled; perm = rw two-lines swap }
 
   same : said (c .call) ≡ said (d .call)
   same =
@@ -165,7 +165,7 @@ module _ (r : Row) (t₁ t₂ t₃ u₁ u₂ : List ℕ) (o : Opened (r .opening
       demand3 calls t₂ ran .fresh (f .calls) u₁ (f .ran) fresh-of ten ten-on (c .call) (d .call) t₃ u₂ (c .asks) (d .asks)
       (omega (arith, ap length e, c .room)) (omega (arith, ap length e, d .room))
 
-  wrote-theirs : Wrote (d .call) tenBytes
+  wrote-theirs : WroteReport (d .call) tenBytes
   wrote-theirs =
       sym same ∙ wrote-ours
       ∙ (λ i. record { reason = 0; used = length ((c .asks .commands ∙ sym (d .asks .commands)) i); written = length tenBytes; bytes = tenBytes })

@@ -10,28 +10,28 @@ use Rattle.grid.specs.Coordinate.{fromWord, toWord}
 use Rattle.grid.specs.Fraction.{gcdBy, gcdOf, lowest}
 use Rattle.split.specs.Legs.{ten}
 use Rattle.split.specs.SplitList.{rank}
-use Rattle.split.specs.SplitOf.{hides?, step?, under?, push, insert, build, splitOf}
+use Rattle.split.specs.SplitOf.{hides?, rightBelow?, under?, push, insert, build, splitOf}
 use Rattle.records.specs.ListRecord.{entryBytes, listBytes, recordBytes}
 use Rattle.book.specs.Book.{emptyBook, writeLine, strikeLine, holds, change}
 use Rattle.book.specs.Command.{formOf, parseAt}
 use Rattle.book.specs.Answer.{answer}
 use Rattle.book.specs.Run.{records, turn, runFrom}
 use Rattle.demands.specs.Whole.{replies, bookAfter}
-use Rattle.replay.specs.Replayed.{one, two, endAsks, endReplies, tenBytes}
+use Rattle.replay.specs.Replayed.{siteOne, siteTwo, endAsks, endReplies, tenBytes}
 
 -- 64, 0, 66, 67 and 68
 pub end-replies : replies emptyBook endAsks ≡ endReplies
-unfolding replies bookAfter records turn runFrom parseAt formOf wordAt fromWord toWord answer holds change writeLine strikeLine splitOf build insert push hides? under? step? decLe decLt distance squaredDifference rank lowest gcdOf gcdBy entryBytes listBytes recordBytes
+unfolding replies bookAfter records turn runFrom parseAt formOf wordAt fromWord toWord answer holds change writeLine strikeLine splitOf build insert push hides? under? rightBelow? decLe decLt distance squaredDifference rank lowest gcdOf gcdBy entryBytes listBytes recordBytes
 end-replies = refl
 
 -- site 3 has come and gone
-pub end-lines : bookAfter emptyBook endAsks .lines ≡ one ∷ two ∷ []
-unfolding replies bookAfter records turn runFrom parseAt formOf wordAt fromWord toWord answer holds change writeLine strikeLine splitOf build insert push hides? under? step? decLe decLt distance squaredDifference rank lowest gcdOf gcdBy entryBytes listBytes recordBytes
+pub end-lines : bookAfter emptyBook endAsks .lines ≡ siteOne ∷ siteTwo ∷ []
+unfolding replies bookAfter records turn runFrom parseAt formOf wordAt fromWord toWord answer holds change writeLine strikeLine splitOf build insert push hides? under? rightBelow? decLe decLt distance squaredDifference rank lowest gcdOf gcdBy entryBytes listBytes recordBytes
 end-lines = refl
 
 -- "1 from 0/1, 2 from 37/100"
-pub ten-list : recordBytes (splitOf ten (one ∷ two ∷ [])) ≡ tenBytes
-unfolding splitOf build insert push hides? under? step? decLe decLt distance squaredDifference rank lowest gcdOf gcdBy entryBytes listBytes recordBytes
+pub ten-list : recordBytes (splitOf ten (siteOne ∷ siteTwo ∷ [])) ≡ tenBytes
+unfolding splitOf build insert push hides? under? rightBelow? decLe decLt distance squaredDifference rank lowest gcdOf gcdBy entryBytes listBytes recordBytes
 ten-list = refl
 
 pub ten-on : LegOnGrid ten

@@ -1,4 +1,5 @@
--- A row of real calls beside the site book, and one leg asked of two tables. Document 01, "The site book" and "Legs to try".
+-- A row of real calls beside the site book, and one leg asked of two tables. Document 01, "The site book" and "Legs
+-- to try".
 -- Assumes nothing.
 use mathlib.Core.Path.{_≡_}
 use mathlib.Core.List.{List, [], _∷_, map}
@@ -12,7 +13,7 @@ use Rattle.book.specs.Numbers.{reasonNumber}
 use Rattle.demands.specs.Batch.{returnOf, LaidOut}
 use Rattle.demands.specs.Whole.{Call, MadeOn, Ran, Said, Ask, asked, Filled, Asks}
 use Rattle.demands.specs.Demands.{list4C}
-use Rattle.replay.specs.declared.Told.{Told}
+use Rattle.replay.specs.declared.Heard.{Heard}
 use Rattle.replay.specs.declared.Opening.{Opening}
 use Rattle.replay.specs.declared.Closing.{Closing}
 use Rattle.replay.specs.declared.Row.{Row}
@@ -47,23 +48,28 @@ listTen = 0x4C ∷ 0 ∷ 0 ∷ 0 ∷ 0 ∷ 10 ∷ 0 ∷ 0 ∷ 0 ∷ []
 
 -- the five calls
 abbrev pub endAsks : List Ask
-endAsks = ask 1 addBoth 2 ∷ ask workBytes addBoth 2 ∷ ask workBytes addUnknown 2 ∷ ask workBytes removeCut 2 ∷ ask workBytes listTen 2 ∷ []
+endAsks =
+    ask 1 addBoth 2 ∷ ask workBytes addBoth 2 ∷ ask workBytes addUnknown 2 ∷ ask workBytes removeCut 2
+    ∷ ask workBytes listTen 2 ∷ []
 
 -- a reply of the book
 abbrev pub reply : ℕ → ℕ → List ℕ → Said
 reply reason used bytes = record { reason = reason; used = used; written = length bytes; bytes = bytes }
 
--- the book's replies: 64; 0 with both additions; 66 behind the addition; 67 behind the removal; 68, as the record has 23 bytes
+-- the book's replies: 64; 0 with both additions; 66 behind the addition; 67 behind the removal; 68, as the record
+-- has 23 bytes
 abbrev pub endReplies : List Said
-endReplies = reply 64 0 [] ∷ reply 0 14 (0x2B ∷ 0x2B ∷ []) ∷ reply 66 7 (0x2B ∷ []) ∷ reply 67 3 (0x2B ∷ []) ∷ reply 68 0 [] ∷ []
+endReplies =
+    reply 64 0 [] ∷ reply 0 14 (0x2B ∷ 0x2B ∷ []) ∷ reply 66 7 (0x2B ∷ []) ∷ reply 67 3 (0x2B ∷ [])
+    ∷ reply 68 0 [] ∷ []
 
 -- "1 from 0/1, 2 from 37/100"
 abbrev pub tenBytes : List ℕ
 tenBytes = 0x3D ∷ 2 ∷ 0 ∷ 1 ∷ 0 ∷ 0 ∷ 0 ∷ 0 ∷ 0 ∷ 1 ∷ 0 ∷ 0 ∷ 0 ∷ 2 ∷ 0 ∷ 37 ∷ 0 ∷ 0 ∷ 0 ∷ 100 ∷ 0 ∷ 0 ∷ 0 ∷ []
 
 -- what a call said that returned and reported so
-abbrev pub saidBy : Told → Said
-saidBy r =
+abbrev pub saidIn : Heard → Said
+saidIn r =
     record {
       reason = reasonNumber (r .result .reason);
       used = r .result .used;
@@ -72,8 +78,8 @@ saidBy r =
     }
 
 -- what the five said
-abbrev pub ends : Opening → Closing → List Said
-ends o c = saidBy (o .short) ∷ saidBy (o .used) ∷ saidBy (c .unknown) ∷ saidBy (c .cut) ∷ saidBy (c .full) ∷ []
+abbrev pub saidOf : Opening → Closing → List Said
+saidOf o c = saidIn (o .short) ∷ saidIn (o .used) ∷ saidIn (c .unknown) ∷ saidIn (c .cut) ∷ saidIn (c .full) ∷ []
 
 -- the first two were made on a table just laid out, and left t′
 pub record Opened (r : Opening) (t′ : List ℕ) : Type 0 where
@@ -93,12 +99,12 @@ pub record Closed (r : Closing) (t t′ : List ℕ) : Type 0 where
   pub full : Called (ask workBytes listTen 2) (r .full .result) third t′ (r .full .report)
 
 -- "Site 1 (2,3), 2 (7,1)"
-abbrev pub one : Site
-one = site 1 (at 2 3)
+abbrev pub siteOne : Site
+siteOne = site 1 (at 2 3)
 
 -- and the other
-abbrev pub two : Site
-two = site 2 (at 7 1)
+abbrev pub siteTwo : Site
+siteTwo = site 2 (at 7 1)
 
 -- the addition of each alone
 abbrev pub addOne : List ℕ
@@ -112,7 +118,7 @@ addTwo = 0x41 ∷ 2 ∷ 0 ∷ 7 ∷ 0 ∷ 1 ∷ 0 ∷ []
 pub record Refilled (t′ : List ℕ) : Type 0 where
   pub calls : List Call
   pub ran : Ran calls t′
-  pub filled : Filled (map asked calls) (two ∷ one ∷ [])
+  pub filled : Filled (map asked calls) (siteTwo ∷ siteOne ∷ [])
 
 -- the leg was asked of the table t, with just the room for that record, and this is the report
 pub record AskedTen (t rep t′ : List ℕ) : Type 0 where
@@ -123,6 +129,6 @@ pub record AskedTen (t rep t′ : List ℕ) : Type 0 where
 
 -- THE CALLS, as the theorem says of them: the book's replies, and on both tables the list that document 01 gives
 pub record Replayed (r : Row) : Type 0 where
-  pub replies : ends (r .opening) (r .closing) ≡ endReplies
+  pub replies : saidOf (r .opening) (r .closing) ≡ endReplies
   pub ours : r .ours ≡ tenBytes
   pub theirs : r .theirs ≡ r .ours

@@ -1,5 +1,6 @@
-// Real calls, and the theorem over whole lists of calls cited for them: whoever makes calls of the service may cite it so. Calls that end with 64, 0, 66, 67
-// and 68, each with buffers of its own, and then one leg asked of this table and of a fresh one with the same sites.
+// Real calls, and the theorem over whole lists of calls cited for them: whoever makes calls of the service may cite
+// it so. Calls that end with 64, 0, 66, 67 and 68, each with buffers of its own, and then one leg asked of this
+// table and of a fresh one with the same sites.
 use book::BatchResult;
 ghost use mathlib.Core.Path.{_≡_};
 ghost use lib.ListN.{length};
@@ -7,22 +8,22 @@ ghost use Rattle.limits.specs.Limits.{tableBytes, workBytes};
 ghost use Rattle.replay.specs.Replayed.{ask, Called, Opened, Closed, Refilled, AskedTen, Replayed};
 
 // What a call returned, and its report.
-pub struct Told {
+pub struct Heard {
     result: BatchResult,
     report: [u8; 2],
 }
 
 // What the first two calls said: with too short a work buffer, and with all commands used.
 pub struct Opening {
-    short: Told,
-    used: Told,
+    short: Heard,
+    used: Heard,
 }
 
 // What the three behind them said: ended by an unknown command, by a cut one, and for want of room.
 pub struct Closing {
-    unknown: Told,
-    cut: Told,
-    full: Told,
+    unknown: Heard,
+    cut: Heard,
+    full: Heard,
 }
 
 // These, and the reports of the leg on both tables.
@@ -35,32 +36,35 @@ pub struct Row {
 
 // A call with a work buffer of its own.
 fn call(table: &mut [u8], commands: &[u8], report: &mut [u8]) -> BatchResult
-    ensures { λ r. ⌜ Called (ask workBytes (now (commands .entry)) (length (now (report .entry)))) r (now (table .entry)) (now (table .exit)) (now (report .exit)) ⌝ }
+    ensures { λ r. ⌜ Called (ask workBytes (now (commands .entry)) (length (now (report .entry))))
+        r (now (table .entry)) (now (table .exit)) (now (report .exit)) ⌝ }
 {
     let mut work = [0u8; limits::WORK_BYTES];
     service::batch(table, &mut work, commands, report)
 }
 
 // A call with buffers of its own, and room for two bytes.
-fn small_call(table: &mut [u8], commands: &[u8]) -> Told
-    ensures { λ r. ⌜ Called (ask workBytes (now (commands .entry)) 2) (r .result) (now (table .entry)) (now (table .exit)) (r .report) ⌝ }
+fn small_call(table: &mut [u8], commands: &[u8]) -> Heard
+    ensures { λ r. ⌜ Called (ask workBytes (now (commands .entry)) 2)
+        (r .result) (now (table .entry)) (now (table .exit)) (r .report) ⌝ }
 {
     let mut report = [0u8; 2];
     let result = call(table, commands, &mut report);
-    Told {
+    Heard {
         result: result,
         report: report,
     }
 }
 
 // The same with a work buffer of one byte.
-fn short_call(table: &mut [u8], commands: &[u8]) -> Told
-    ensures { λ r. ⌜ Called (ask 1 (now (commands .entry)) 2) (r .result) (now (table .entry)) (now (table .exit)) (r .report) ⌝ }
+fn short_call(table: &mut [u8], commands: &[u8]) -> Heard
+    ensures { λ r. ⌜ Called (ask 1 (now (commands .entry)) 2)
+        (r .result) (now (table .entry)) (now (table .exit)) (r .report) ⌝ }
 {
     let mut work = [0u8; 1];
     let mut report = [0u8; 2];
     let result = service::batch(table, &mut work, commands, &mut report);
-    Told {
+    Heard {
         result: result,
         report: report,
     }
@@ -81,7 +85,8 @@ fn begin(table: &mut [u8]) -> Opening
     }
 }
 
-// Adds site 3, with an unknown command behind it; removes it, with a cut command behind that; asks for a leg without room.
+// Adds site 3, with an unknown command behind it; removes it, with a cut command behind that; asks for a leg
+// without room.
 fn go_on(table: &mut [u8]) -> Closing
     ensures { λ r. ⌜ Closed r (now (table .entry)) (now (table .exit)) ⌝ }
 {

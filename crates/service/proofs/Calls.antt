@@ -16,12 +16,12 @@ use Rattle.book.specs.declared.Reason.the-variants.{AllUsed, WrongLength, Broke
 use Rattle.book.specs.declared.BatchResult.{BatchResult}
 use Rattle.book.specs.Numbers.{reasonNumber}
 use Rattle.book.specs.Run.{run}
-use Rattle.empty_table.specs.EmptyTable.{emptyTable}
-use Rattle.table.specs.Table.{bookOf, Sound}
-use Rattle.demands.specs.Batch.{returns, returnOf, lengthsOk, zeros, Refused, Served, Batch, LaidOut}
+use Rattle.table_empty.specs.EmptyTable.{zeros, emptyTable}
+use Rattle.table_rules.specs.Table.{bookOf, Sound}
+use Rattle.demands.specs.Batch.{returns, returnOf, lengthsOk, Refused, Served, Batch, LaidOut}
 use Rattle.demands.specs.Batch.Batch.{wrong, broken, served}
 use Rattle.demands.specs.Batch.LaidOut.{wrong as not-laid, laid}
-use Rattle.serve.specs.Serving.{Answered}
+use Rattle.call_serve.specs.Serving.{Answered}
 use Rattle.service.specs.declared.admit.Admission.{Admission}
 use Rattle.service.specs.Admitted.{RefusedFor, AdmittedAs}
 

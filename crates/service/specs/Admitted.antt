@@ -8,11 +8,13 @@ use lib.ListN.{length}
 use Rattle.limits.specs.Limits.{workBytes}
 use Rattle.book.specs.declared.Reason.{Reason}
 use Rattle.book.specs.declared.Reason.the-variants.{AllUsed, WrongLength, Broken, UnknownCommand, CutShort, NoRoom}
-use Rattle.table.specs.Table.{Sound}
-use Rattle.demands.specs.Batch.{lengthsOk, zeros}
+use Rattle.table_empty.specs.EmptyTable.{zeros}
+use Rattle.table_rules.specs.Table.{Sound}
+use Rattle.demands.specs.Batch.{lengthsOk}
 use Rattle.service.specs.declared.admit.Admission.{Admission}
 
--- "table or work buffer of wrong length" leaves the work buffer; a broken rule in the table leaves it all zero; no other reason refuses a table
+-- "table or work buffer of wrong length" leaves the work buffer; a broken rule in the table leaves it all zero; no
+-- other reason refuses a table
 abbrev pub RefusedFor : Reason → List ℕ → List ℕ → List ℕ → Type 0
 RefusedFor AllUsed t w w′ = ⊥
 RefusedFor WrongLength t w w′ = (lengthsOk t w ≡ false) × (w′ ≡ w)

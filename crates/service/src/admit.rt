@@ -1,4 +1,5 @@
-// The one door for a lent table: lengths, then contents. Document 01, "The table's length is tested first, then the work buffer's, then the table's contents".
+// The one door for a lent table: lengths, then contents. Document 01, "The table's length is tested first, then the
+// work buffer's, then the table's contents".
 use book::Reason;
 ghost use Rattle.service.specs.Admitted.{AdmittedAs};
 
@@ -8,7 +9,8 @@ pub enum Admission {
     Refused(Reason),
 }
 
-// Whether the table and the work buffer are taken. The work buffer is left after 64 and all zero after 65; where the table is taken it holds what the test left.
+// Whether the table and the work buffer are taken. The work buffer is left after 64 and all zero after 65; where
+// the table is taken it holds what the test left.
 pub fn admit(table: &[u8], work: &mut [u8]) -> Admission
     ensures { λ r. ⌜ AdmittedAs r (now (table .entry)) (now (work .entry)) (now (work .exit)) ⌝ }
 {
@@ -21,6 +23,6 @@ pub fn admit(table: &[u8], work: &mut [u8]) -> Admission
     if table_check::check(table, work) {
         return Admission::Taken;
     }
-    empty_table::clear(work);
+    table_empty::clear(work);
     Admission::Refused(Reason::Broken)
 }

@@ -10,7 +10,7 @@ ghost use lib.ListN.{length};
 ghost use Rattle.limits.specs.Limits.{workBytes};
 ghost use Rattle.book.specs.Numbers.{reasonNumber};
 ghost use Rattle.book.specs.Run.{run};
-ghost use Rattle.table.specs.Table.{bookOf, Sound};
+ghost use Rattle.table_rules.specs.Table.{bookOf, Sound};
 
 // Lays out an empty table.
 pub fn lay_out(table: &mut [u8]) -> Reason
@@ -19,7 +19,7 @@ pub fn lay_out(table: &mut [u8]) -> Reason
     if table.len() != limits::TABLE_BYTES {
         return Reason::WrongLength;
     }
-    empty_table::lay(table);
+    table_empty::lay(table);
     Reason::AllUsed
 }
 
@@ -37,16 +37,21 @@ fn refused(reason: Reason) -> BatchResult
 // Carries out commands on a sound table, and clears the work buffer.
 fn carry_out(table: &mut [u8], work: &mut [u8], commands: &[u8], report: &mut [u8]) -> BatchResult
     requires { ⌜ Sound (now table) × (length (now work) ≡ workBytes) ⌝ }
-    ensures { λ r. ⌜ Served (run (now (commands .entry)) (length (now (report .entry))) (bookOf (now (table .entry)))) (now (table .entry)) (now (report .entry)) (returnOf r) (now (table .exit)) (now (work .exit)) (now (report .exit)) ⌝ }
+    ensures { λ r. ⌜ Served
+        (run (now (commands .entry)) (length (now (report .entry))) (bookOf (now (table .entry))))
+        (now (table .entry)) (now (report .entry))
+        (returnOf r) (now (table .exit)) (now (work .exit)) (now (report .exit)) ⌝ }
 {
-    let r = serve::serve(table, work, commands, report);
-    empty_table::clear(work);
+    let r = call_serve::serve(table, work, commands, report);
+    table_empty::clear(work);
     r
 }
 
-// Carries out commands on a table, with a report for their records and a work buffer, which is all zero afterwards, except after 64.
+// Carries out commands on a table, with a report for their records and a work buffer, which is all zero afterwards,
+// except after 64.
 pub fn batch(table: &mut [u8], work: &mut [u8], commands: &[u8], report: &mut [u8]) -> BatchResult
-    ensures { λ r. ⌜ Batch (now (table .entry)) (now (work .entry)) (now (commands .entry)) (now (report .entry)) (returnOf r) (now (table .exit)) (now (work .exit)) (now (report .exit)) ⌝ }
+    ensures { λ r. ⌜ Batch (now (table .entry)) (now (work .entry)) (now (commands .entry)) (now (report .entry))
+        (returnOf r) (now (table .exit)) (now (work .exit)) (now (report .exit)) ⌝ }
 {
     let admission = admit::admit(table, work);
     match admission {

@@ -12,9 +12,9 @@ use Rattle.grid.specs.declared.Site.{Site}
 use Rattle.grid.specs.Fraction.{IsFraction, Below, Reduced, IsLowest, zeroFraction}
 use Rattle.grid.proofs.LowestTerms.{lowest-is}
 use Rattle.grid.proofs.Factors.{factor-one}
-use Rattle.split.specs.Hull.{Point, pointOf, points, weigh, weighAt, rise, fall, Step, In, Covers, Convex, IsHull}
+use Rattle.split.specs.Hull.{Point, pointOf, points, weigh, weighAt, rise, fall, RightBelow, In, Covers, Convex, IsHull}
 use Rattle.split.specs.SplitList.{rank, Leads, Entry, endOf, Changes, Stretch, Stretches, IsSplitList, Numbered, SameSites}
-use Rattle.split.specs.SplitOf.{build, changeover, after, entries, onto, entriesOf, splitOf}
+use Rattle.split.specs.SplitOf.{build, changeover, entriesAfter, entriesAlong, onto, entriesOf, splitOf}
 use Rattle.split.proofs.Best.{Precedes, Best, convex-prefix, onto-keeps, Past, Short, stretch-best}
 use Rattle.split.proofs.HullLaws.{under-step}
 use Rattle.split.proofs.Insertion.{build-hull}
@@ -67,10 +67,10 @@ abbrev fallTo : Point → List Point → ℕ
 fallTo v [] = 0
 fallTo v (w ∷ r) = fall v w
 
-changeover-is : (u v : Point) → Step u v → IsLowest (rise u v) (rise u v + fall u v) (changeover u v)
+changeover-is : (u v : Point) → RightBelow u v → IsLowest (rise u v) (rise u v + fall u v) (changeover u v)
 changeover-is u v s = lowest-is (rise u v) (rise u v + fall u v) (omega (arith, s .right))
 
-cross-stands : (u v : Point) → Step u v → Stands (changeover u v) (rise u v) (fall u v)
+cross-stands : (u v : Point) → RightBelow u v → Stands (changeover u v) (rise u v) (fall u v)
 cross-stands u v s =
     let r = changeover-is u v s in
     record { by = r .by; positive = r .positive; num-is = r .num-is; den-is = r .den-is }
@@ -79,7 +79,7 @@ start-stands : (v : Point) (l : List Point) → Convex (v ∷ l) → Stands (sta
 start-stands v [] h = record { by = 1; positive = omega arith; num-is = omega arith; den-is = omega arith }
 start-stands v (u ∷ l) h = cross-stands u v (under-step l (h .0))
 
-end-stands : (r : List Point) (v : Point) (l : List Point) → Convex (onto r (v ∷ l)) → Stands (endOf (after v r)) (riseTo v r) (fallTo v r)
+end-stands : (r : List Point) (v : Point) (l : List Point) → Convex (onto r (v ∷ l)) → Stands (endOf (entriesAfter v r)) (riseTo v r) (fallTo v r)
 end-stands [] v l h = record { by = 1; positive = omega arith; num-is = omega arith; den-is = omega arith }
 end-stands (w ∷ r) v l h = cross-stands v w (under-step l (convex-prefix r (w ∷ v ∷ l) h .0))
 
@@ -147,7 +147,7 @@ module _ (l : Leg) (s : List Site) (numbered : Numbered s) where
       let (n, ev) = of-points l s v j in
       eu ∙ ap (pointOf l) (numbered .one (u .site) (v .site) m n e) ∙ sym ev
 
-  changes : (r : List Point) (v : Point) (k : List Point) (st : Fraction) → IsHull (points l s) (onto r (v ∷ k)) → Changes (record { site = v .site; start = st }) (after v r)
+  changes : (r : List Point) (v : Point) (k : List Point) (st : Fraction) → IsHull (points l s) (onto r (v ∷ k)) → Changes (record { site = v .site; start = st }) (entriesAfter v r)
   changes [] v k st h = tt
   changes (w ∷ r) v k st h = λ e.
       let iw = h .sub w (onto-keeps r (w ∷ v ∷ k) w (List·Memᴰ·head refl)) in
@@ -156,7 +156,7 @@ module _ (l : Leg) (s : List Site) (numbered : Numbered s) where
       omega (arith, g .right, ap (λ (x : Point). x .a) (one-point v w iv iw e))
 
   stretch : (r : List Point) (v : Point) (k : List Point) → IsHull (points l s) (onto r (v ∷ k))
-      → Stretch l s (record { site = v .site; start = startOf v k }) (after v r)
+      → Stretch l s (record { site = v .site; start = startOf v k }) (entriesAfter v r)
   stretch r v k h =
       record {
         below1 = lt-of-mul-lt-mul-left (a .by) (omega (arith, a .num-is, a .den-is, start-falls v k cv));
@@ -172,7 +172,7 @@ module _ (l : Leg) (s : List Site) (numbered : Numbered s) where
       a : Stands (startOf v k) (riseOn v k) (fallOn v k)
       a = start-stands v k cv
 
-      b : Stands (endOf (after v r)) (riseTo v r) (fallTo v r)
+      b : Stands (endOf (entriesAfter v r)) (riseTo v r) (fallTo v r)
       b = end-stands r v k (h .convex)
 
       led : (t : Fraction) → IsFraction t → riseOn v k * (t .den - t .num) < t .num * fallOn v k → t .num * fallTo v r < riseTo v r * (t .den - t .num)
@@ -185,7 +185,7 @@ module _ (l : Leg) (s : List Site) (numbered : Numbered s) where
           r v k h (short (t .den - t .num) (t .num) v r q) (past (t .den - t .num) (t .num) v k p))
 
   stretches : (r : List Point) (v : Point) (k : List Point) → IsHull (points l s) (onto r (v ∷ k))
-      → Stretches l s (record { site = v .site; start = startOf v k } ∷ after v r)
+      → Stretches l s (record { site = v .site; start = startOf v k } ∷ entriesAfter v r)
   stretches [] v k h = (stretch [] v k h, tt)
   stretches (w ∷ r) v k h = (stretch (w ∷ r) v k h, stretches r w (v ∷ k) h)
 
@@ -193,7 +193,7 @@ module _ (l : Leg) (s : List Site) (numbered : Numbered s) where
   none [] c = refl
   none (p ∷ s′) c = absurd (List·Memᴰ·not-nil (c 1 1 (omega arith) (omega arith) (pointOf l p) (List·Memᴰ·head refl) .1))
 
-  rising-list : (r : List Point) → IsHull (points l s) (onto r []) → IsSplitList l s (entries r)
+  rising-list : (r : List Point) → IsHull (points l s) (onto r []) → IsSplitList l s (entriesAlong r)
   rising-list [] h = record { opens = none s (h .covers); rules = tt }
   rising-list (v ∷ r) h = record { opens = refl; rules = stretches r v [] h }
 

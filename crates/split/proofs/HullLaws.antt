@@ -2,10 +2,10 @@
 -- Assumes nothing.
 use mathlib.Core.List.{List, [], _∷_, List·Memᴰ·head, List·Memᴰ·tail}
 use Prim.Native.Nat.{ℕ, _<_}
-use Rattle.split.specs.Hull.{Point, Step, Beats, In, Sub, Covers, Under, Convex, IsHull}
+use Rattle.split.specs.Hull.{Point, RightBelow, Beats, In, Sub, Covers, Under, Convex, IsHull}
 use Rattle.split.proofs.Points.{beats-refl, beats-trans}
 
-pub under-step : {v u : Point} (l : List Point) → Under v (u ∷ l) → Step u v
+pub under-step : {v u : Point} (l : List Point) → Under v (u ∷ l) → RightBelow u v
 under-step [] h = h
 under-step (s ∷ l) h = h .0
 

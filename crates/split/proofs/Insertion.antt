@@ -6,7 +6,7 @@ use Prim.Native.Nat.{ℕ, _≤_, _<_}
 use native.Mathlib.Nat.{mul-le-mul-left, le-of-mul-le-mul-left}
 use native.Mathlib.Decide.{decLe, decLt}
 use native.Mathlib.Omega.{arith}
-use Rattle.split.specs.Hull.{Point, value, Step, Turn, Beats, In, Sub, Under, Convex, IsHull}
+use Rattle.split.specs.Hull.{Point, value, RightBelow, Bends, Beats, In, Sub, Under, Convex, IsHull}
 use Rattle.split.specs.SplitOf.{Hides, hides?, under?, push, insert, build}
 use Rattle.split.proofs.Choices.{pick-case, by-dec, pick-yes, pick-no}
 use Rattle.split.proofs.HullLaws.{under-step, grow, own, covers-one, covers-cons, self, sub-cons, members}
@@ -58,10 +58,10 @@ lost x u l cv ua nh nu m n pm pn = height (decLt (x .c) (u .c))
     level : (x .c ≤ u .c) × (x .a ≤ u .a) × (x .order < u .order) → Beats m n x u
     level s = record { low = omega (arith, mul-le-mul-left m (s .1), mul-le-mul-left n (s .0)); then-c = omega arith; then-order = omega arith }
 
-    bent : (l : List Point) → Convex (u ∷ l) → ¬ Under x (u ∷ l) → Step u x → Dec (value m n u < value m n x) → (v : Point) × In v (x ∷ l) × Beats m n v u
+    bent : (l : List Point) → Convex (u ∷ l) → ¬ Under x (u ∷ l) → RightBelow u x → Dec (value m n u < value m n x) → (v : Point) × In v (x ∷ l) × Beats m n v u
     bent [] cv nu s d = absurd (nu s)
     bent (s ∷ l) cv nu st (yes k) =
-        let nt : ¬ Turn s u x = λ t. nu (st, t) in
+        let nt : ¬ Bends s u x = λ t. nu (st, t) in
         (s, List·Memᴰ·tail (List·Memᴰ·head refl), beats-less (flat m n (under-step l (cv .0)) st (omega arith) k))
     bent (s ∷ l) cv nu st (no k) = (x, List·Memᴰ·head refl, beats-down (omega arith) (st .down))
 

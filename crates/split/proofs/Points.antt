@@ -4,7 +4,7 @@ use mathlib.Core.Path.{_≡_}
 use Prim.Native.Nat.{ℕ, _+_, _*_, _≤_, _<_}
 use native.Mathlib.Nat.{mul-add, mul-le-mul-left, mul-le-mul-right, mul-lt-mul-of-pos-left, mul-lt-mul-of-pos-right, lt-of-mul-lt-mul-right}
 use native.Mathlib.Omega.{arith}
-use Rattle.split.specs.Hull.{Point, value, rise, fall, Step, Turn, Beats}
+use Rattle.split.specs.Hull.{Point, value, rise, fall, RightBelow, Bends, Beats}
 
 pub beats-refl : {m n : ℕ} (p : Point) → Beats m n p p
 beats-refl p = record { low = omega arith; then-c = omega arith; then-order = omega arith }
@@ -23,7 +23,7 @@ pub mul-gap : (k x y d : ℕ) → y ≡ x + d → k * y ≡ k * x + k * d
 mul-gap k x y d e = rw (e, mul-add)
 
 -- The one bridge between values and differences.
-pub gap : (m n : ℕ) {u v : Point} → Step u v → value m n v + n * fall u v ≡ value m n u + m * rise u v
+pub gap : (m n : ℕ) {u v : Point} → RightBelow u v → value m n v + n * fall u v ≡ value m n u + m * rise u v
 gap m n {u} {v} s =
     omega
     (arith, mul-gap m (u .a) (v .a) (rise u v) (omega (arith, s .right)), mul-gap n (v .c) (u .c) (fall u v) (omega (arith, s .down)))
@@ -37,13 +37,13 @@ flat-core m n x y p r pos h k =
     lt-of-mul-lt-mul-right y (omega (arith, mul-le-mul-left m h, mul-lt-mul-of-pos-right {k = r} k pos))
 
 -- At a turn, once v is as low as u, u is below s.
-pub turn : (m n : ℕ) {s u v : Point} → 0 < m → Step s u → Step u v → Turn s u v → value m n v ≤ value m n u → value m n u < value m n s
+pub turn : (m n : ℕ) {s u v : Point} → 0 < m → RightBelow s u → RightBelow u v → Bends s u v → value m n v ≤ value m n u → value m n u < value m n s
 turn m n {s} {u} {v} pos f g t h =
     let k : m * rise s u < n * fall s u = turn-core m n (rise u v) (fall u v) (rise s u) (fall s u) pos t (omega (arith, gap m n g, h)) in
     omega (arith, gap m n f, k)
 
 -- With no turn, while u is below v, s is below u.
-pub flat : (m n : ℕ) {s u v : Point} → Step s u → Step u v → rise u v * fall s u ≤ rise s u * fall u v → value m n u < value m n v → value m n s < value m n u
+pub flat : (m n : ℕ) {s u v : Point} → RightBelow s u → RightBelow u v → rise u v * fall s u ≤ rise s u * fall u v → value m n u < value m n v → value m n s < value m n u
 flat m n {s} {u} {v} f g t h =
     let k : n * fall s u < m * rise s u = flat-core m n (rise u v) (fall u v) (rise s u) (fall s u) (omega (arith, f .down)) t (omega (arith, gap m n g, h)) in
     omega (arith, gap m n f, k)

@@ -1,15 +1,16 @@
 -- A corner that two listed points shut out is above the hull at every weight: nothing at or beyond it changes the list.
 -- Assumes nothing.
-use mathlib.Core.Path.{_≡_, refl}
-use mathlib.Core.List.{List, [], _∷_, _++_, List·Memᴰ·head, List·Memᴰ·tail}
+use mathlib.Core.Path.{_≡_}
+use mathlib.Core.List.{List, _∷_, List·Memᴰ·tail}
 use Prim.Native.Nat.{ℕ, _+_, _*_, _-_, _≤_, _<_}
 use native.Mathlib.Nat.{mul-le-mul-left, mul-le-mul-right, mul-lt-mul-of-pos-left, lt-of-mul-lt-mul-left}
 use native.Mathlib.Decide.{decLe}
 use native.Mathlib.Omega.{arith}
-use Rattle.split.specs.Hull.{Point, value, rise, fall, Step, Beats, In, Sub, IsHull}
-use Rattle.split.specs.Skip.{Shut, ShutOut, Witness}
+use Rattle.grid.specs.declared.Corner.{Corner}
+use Rattle.split.specs.Hull.{Point, value, Beats, In, Sub, IsHull}
+use Rattle.split.specs.Skip.{cornerOf, Shut, ShutOut, Witness}
 use Rattle.split.proofs.HullLaws.{grow, covers-one, covers-cons, self}
-use Rattle.split.proofs.Points.{mul-gap, gap, beats-less}
+use Rattle.split.proofs.Points.{mul-gap, beats-less}
 
 rearranged : (x y p q : ℕ) → x ≤ y → p ≤ q → x * q + y * p ≤ x * p + y * q
 rearranged x y p q h k =
@@ -29,7 +30,7 @@ nearby m n x y v a c pn h k f =
 pub witness-shuts : {l : List Point} {a c : ℕ} → Witness l a c → ShutOut l a c
 witness-shuts {l} {a} {c} w = record { below = λ m n pm pn. go m n pm pn (decLe (w .shut .n * m) (n * w .shut .m)) }
   where
-    s : Shut (w .u) (w .v) a c
+    s : Shut (cornerOf (w .u)) (cornerOf (w .v)) a c
     s = w .shut
 
     go : (m n : ℕ) → 0 < m → 0 < n → Dec (w .shut .n * m ≤ n * w .shut .m) → (x : Point) × In x l × (value m n x < m * a + n * c)
@@ -56,19 +57,14 @@ module _ {l : List Point} {a c : ℕ} (w : ShutOut l a c) where
           let (x, i, f) = w .below m n pm pn in
           (x, h .sub x i, beats-less (omega (arith, mul-le-mul-left m ha, mul-le-mul-left n hc)))
 
-  -- a whole box of points
-  pub skip-all : (R : List Point) → ((p : Point) → In p R → (a ≤ p .a) × (c ≤ p .c)) → {Q : List Point} → IsHull Q l → IsHull (R ++ Q) l
-  skip-all [] h s = s
-  skip-all (p ∷ R) h s =
-      let d = h p (List·Memᴰ·head refl) in
-      skip-hull p (d .0) (d .1) (skip-all R (λ q i. h q (List·Memᴰ·tail i)) s)
-
 -- The two tests. A vertex as low in both and lower in one:
-pub shut-one : (v : Point) (a c : ℕ) → v .a ≤ a → v .c ≤ c → v .a + v .c < a + c → Shut v v a c
+pub shut-one : (v : Corner) (a c : ℕ) → v .a ≤ a → v .c ≤ c → v .a + v .c < a + c → Shut v v a c
 shut-one v a c h k f = record { m = 1; n = 1; left = h; low = k; under-u = omega arith; under-v = omega arith }
 
--- an edge that the corner is strictly above:
-pub shut-edge : (u v : Point) (a c : ℕ) → Step u v → u .a ≤ a → v .c ≤ c
-    → value (fall u v) (rise u v) v < fall u v * a + rise u v * c → Shut u v a c
-shut-edge u v a c s h k f =
-    record { m = fall u v; n = rise u v; left = h; low = k; under-u = omega (arith, gap (fall u v) (rise u v) s); under-v = f }
+-- an edge of the value e that the corner, of the value f, is strictly above:
+pub shut-edge : (u v : Corner) (a c e f : ℕ) → u .a < v .a → v .c < u .c → u .a ≤ a → v .c ≤ c
+    → e ≡ (u .c - v .c) * v .a + (v .a - u .a) * v .c → f ≡ (u .c - v .c) * a + (v .a - u .a) * c → e < f → Shut u v a c
+shut-edge u v a c e f r d h k ee ef lt =
+    let x = mul-gap (u .c - v .c) (u .a) (v .a) (v .a - u .a) (omega arith) in
+    let y = mul-gap (v .a - u .a) (v .c) (u .c) (u .c - v .c) (omega arith) in
+    record { m = u .c - v .c; n = v .a - u .a; left = h; low = k; under-u = omega arith; under-v = omega arith }

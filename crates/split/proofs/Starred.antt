@@ -5,10 +5,10 @@ use native.Mathlib.Decide.{decLe, decLt}
 use Rattle.grid.specs.Position.{squaredDifference, distance}
 use Rattle.grid.specs.Fraction.{gcdBy, gcdOf, lowest}
 use Rattle.split.specs.SplitList.{rank}
-use Rattle.split.specs.SplitOf.{hides?, step?, under?, push, insert, build, splitOf}
+use Rattle.split.specs.SplitOf.{hides?, rightBelow?, under?, push, insert, build, splitOf}
 use Rattle.split.specs.Legs.{legs, listed, computed}
 
 -- THE STARRED LEGS
 pub starred : computed legs ≡ listed legs
-unfolding splitOf build insert push hides? under? step? decLe decLt distance squaredDifference rank lowest gcdOf gcdBy
+unfolding splitOf build insert push hides? under? rightBelow? decLe decLt distance squaredDifference rank lowest gcdOf gcdBy
 starred = refl

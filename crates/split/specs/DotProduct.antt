@@ -1,5 +1,6 @@
--- Document 01's own form of "nearer": with A the squared distance from S and "B = 2 × ((p - S) · (E - S)), the dot product",
--- "p is nearer than q at t exactly when A(p) - tB(p) < A(q) - tB(q)". B is held as plus less minus, so that all is natural.
+-- Document 01's own form of "nearer": with A the squared distance from S and "B = 2 × ((p - S) · (E - S)), the dot
+-- product", "p is nearer than q at t exactly when A(p) - tB(p) < A(q) - tB(q)". B is held as plus less minus, so that
+-- all is natural.
 -- Assumes nothing.
 use Prim.Native.Nat.{ℕ, _+_, _*_, _<_}
 use Rattle.grid.specs.declared.Site.{Site}

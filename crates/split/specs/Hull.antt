@@ -1,6 +1,7 @@
--- Sites as points (A, C): their squared distances from the leg's two ends. The split list is the lower left convex hull of these points.
--- At t = n/d, with m = d - n, one site is nearer than another exactly when its m·A + n·C is less (proofs/Stewart.antt).
--- Document 01 has no hull: this is the way that the code takes, and proofs/Exists.antt leads from it to the split list.
+-- Sites as points (A, C): their squared distances from the leg's two ends. The split list is the lower left convex
+-- hull of these points. At t = n/d, with m = d - n, one site is nearer than another exactly when its m·A + n·C is
+-- less (proofs/Stewart.antt). Document 01 has no hull: this is the way that the code takes, and proofs/Exists.antt
+-- leads from it to the split list.
 -- Assumes nothing.
 use mathlib.Core.List.{List, [], _∷_, List·Memᴰ}
 use Prim.Native.Nat.{ℕ, _+_, _*_, _-_, _≤_, _<_}
@@ -47,13 +48,13 @@ abbrev pub fall : Point → Point → ℕ
 fall u v = u .c - v .c
 
 -- v lies to the right of u and below it
-pub record Step (u v : Point) : Type 0 where
+pub record RightBelow (u v : Point) : Type 0 where
   pub right : u .a < v .a
   pub down : v .c < u .c
 
 -- the breakpoint of s and u comes before that of u and v
-abbrev pub Turn : Point → Point → Point → Type 0
-Turn s u v = rise s u * fall u v < rise u v * fall s u
+abbrev pub Bends : Point → Point → Point → Type 0
+Bends s u v = rise s u * fall u v < rise u v * fall s u
 
 -- p comes before q at the weights m, n: by value, then by c, then by order
 pub record Beats (m n : ℕ) (p q : Point) : Type 0 where
@@ -76,8 +77,8 @@ Covers l Q = (m n : ℕ) → 0 < m → 0 < n → (q : Point) → In q Q → (v :
 -- v may stand on l, whose last vertex comes first: it lies right of and below that, and the breakpoints rise
 abbrev pub Under : Point → List Point → Type 0
 Under v [] = Unit {0}
-Under v (u ∷ []) = Step u v
-Under v (u ∷ s ∷ l) = Step u v × Turn s u v
+Under v (u ∷ []) = RightBelow u v
+Under v (u ∷ s ∷ l) = RightBelow u v × Bends s u v
 
 -- a list of vertices, the last one first
 abbrev pub Convex : List Point → Type 0

@@ -49,8 +49,9 @@ abbrev pub Changes : Entry → List Entry → Type 0
 Changes e [] = Unit {0}
 Changes e (f ∷ fs) = e .site .number ≢ f .site .number
 
--- the rules of an entry that is followed by rest: "Starts rise strictly", "each start is less than 1", "without common factor";
--- "At every t strictly inside an entry's stretch its site is the least-numbered of the nearest sites."
+-- the rules of an entry that is followed by rest: "Starts rise strictly", "each start is less than 1", "without
+-- common factor"; "At every t strictly inside an entry's stretch its site is the least-numbered of the nearest
+-- sites."
 pub record Stretch (l : Leg) (sites : List Site) (e : Entry) (rest : List Entry) : Type 0 where
   pub below1 : e .start .num < e .start .den
   pub reduced : Reduced (e .start)

@@ -3,7 +3,7 @@
 use mathlib.Core.Path.{_≡_, refl, sym, ap, subst, _∙_}
 use mathlib.Core.Bool.{Bool, true, false}
 use mathlib.Core.List.{List, _++_}
-use Prim.Native.Nat.{ℕ, _<_}
+use Prim.Native.Nat.{ℕ}
 use native.Mathlib.Omega.{arith}
 use lib.ListN.{length, take, drop, take-append-drop}
 use lib.Seq.{take-take, length-take-le, length-slice}
@@ -15,19 +15,19 @@ use Rattle.stops.specs.declared.Next.the-variants.{Untaken}
 use Rattle.stops.specs.declared.Got.{Got}
 use Rattle.stops.specs.declared.Got.the-variants.{Bytes, Ended, Failed}
 use Rattle.stops.specs.Input.{ReadOn}
-use Rattle.stops.specs.Calls.{Joined, Onward, Reads, Ready, Final, afterRead, Follows, Proceeds, Answered, Turned}
+use Rattle.stops.specs.Calls.{JoinedInput, Onward, WantsMore, Resumable, Final, afterRead, Follows, Proceeds, Reported, Turned}
 
 -- ---- after 0 and 67
 
-pub reads-as : (reason x : Reason) → reason ≡ x → Reads x → Reads reason
+pub reads-as : (reason x : Reason) → reason ≡ x → WantsMore x → WantsMore reason
 reads-as reason x e h = rw e h
 
 -- there is room to read; and 64 and 65 do not come
-pub ready-as : (size left : ℕ) (reason x : Reason) → reason ≡ x → Ready size reason left → Ready size x left
-ready-as size left reason x e h = subst (λ (y : Reason). Ready size y left) e h
+pub ready-as : (size left : ℕ) (reason x : Reason) → reason ≡ x → Resumable size reason left → Resumable size x left
+ready-as size left reason x e h = subst (λ (y : Reason). Resumable size y left) e h
 
 -- bytes that came are joined with those that were left
-onward-joined : (size : ℕ) (reason : Reason) (rest held : List ℕ) → Reads reason → Joined size rest held → Onward size reason rest held
+onward-joined : (size : ℕ) (reason : Reason) (rest held : List ℕ) → WantsMore reason → JoinedInput size rest held → Onward size reason rest held
 onward-joined size AllUsed rest held h j = j
 onward-joined size WrongLength rest held h j = absurd h
 onward-joined size Broken rest held h j = absurd h
@@ -35,7 +35,7 @@ onward-joined size UnknownCommand rest held h j = absurd h
 onward-joined size CutShort rest held h j = j
 onward-joined size NoRoom rest held h j = absurd h
 
-final-read : (reason : Reason) → Reads reason → Final reason
+final-read : (reason : Reason) → WantsMore reason → Final reason
 final-read AllUsed h = tt
 final-read WrongLength h = absurd h
 final-read Broken h = absurd h
@@ -43,7 +43,7 @@ final-read UnknownCommand h = absurd h
 final-read CutShort h = tt
 final-read NoRoom h = absurd h
 
-after : (s : List ℕ) (reason : Reason) (left : ℕ) (got : Got) (s′ : List ℕ) → Reads reason → ReadOn left s got s′
+after : (s : List ℕ) (reason : Reason) (left : ℕ) (got : Got) (s′ : List ℕ) → WantsMore reason → ReadOn left s got s′
     → Follows (length s) reason (take left s) (afterRead got reason) s′
 after s reason left (Bytes n) s′ h r = (
   r .behind .1,
@@ -58,7 +58,7 @@ after s reason left (Bytes n) s′ h r = (
 after s reason left Ended s′ h r = (refl, final-read reason h)
 after s reason left Failed s′ h r = h
 
-pub after-read : (s : List ℕ) (reason : Reason) (left : ℕ) (got : Got) (r : Next) (s′ : List ℕ) → Reads reason → ReadOn left s got s′ → r ≡ afterRead got reason
+pub after-read : (s : List ℕ) (reason : Reason) (left : ℕ) (got : Got) (r : Next) (s′ : List ℕ) → WantsMore reason → ReadOn left s got s′ → r ≡ afterRead got reason
     → Follows (length s) reason (take left s) r s′
 after-read s reason left got r s′ h g e = rw e (after s reason left got s′ h g)
 
@@ -82,7 +82,7 @@ module _ (size : ℕ) (reason : Reason) (rest : List ℕ) (taken : Bool) (s′ :
   pub breaks-off : taken ≡ false → Proceeds size reason rest taken Untaken s′
   breaks-off e = rw e refl
 
-pub turned : (held : ℕ) (t w s rep : List ℕ) (b : Batched) (t′ w′ s₁ rep′ : List ℕ) (r : Next) (s′ : List ℕ) → Answered held t w s rep b t′ w′ s₁ rep′
+pub turned : (held : ℕ) (t w s rep : List ℕ) (b : Batched) (t′ w′ s₁ rep′ : List ℕ) (r : Next) (s′ : List ℕ) → Reported held t w s rep b t′ w′ s₁ rep′
     → Proceeds (length s₁) (b .reason) (take (b .left) s₁) (b .taken) r s′ → length s′ ≡ length s₁ → Turned held t w s rep r t′ w′ s′ rep′
 turned held t w s rep b t′ w′ s₁ rep′ r s′ a f l =
     record {

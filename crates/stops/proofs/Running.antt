@@ -6,10 +6,10 @@ use mathlib.Core.List.{List, [], _∷_, _++_}
 use Prim.Native.Nat.{ℕ, _+_, _-_, _≤_, _<_}
 use native.Mathlib.Omega.{arith}
 use lib.ListN.{length, take, length-append}
-use Rattle.limits.specs.Limits.{tableBytes, workBytes}
+use Rattle.limits.specs.Limits.{tableBytes}
 use Rattle.book.specs.declared.Reason.{Reason}
 use Rattle.book.specs.Numbers.{reasonNumber}
-use Rattle.table.specs.Table.{Sound}
+use Rattle.table_rules.specs.Table.{Sound}
 use Rattle.demands.specs.Batch.{returnOf, LaidOut}
 use Rattle.demands.specs.Whole.{Call, MadeOn, Made}
 use Rattle.demands.specs.Whole.Made.{none, next}
@@ -17,8 +17,8 @@ use Rattle.demands.proofs.WholeRun.{laid-holds}
 use Rattle.demands.proofs.Demand1.{demand1-laid}
 use Rattle.stops.specs.declared.Next.{Next}
 use Rattle.stops.specs.declared.Next.the-variants.{More, End, Unread, Untaken, Spent}
-use Rattle.stops.specs.Input.{Taken}
-use Rattle.stops.specs.Calls.{longestCommand, longestRecord, Follows, Proceeds, restOf, Turned, Takes, Fed, mostCalls, Calls, Series, Program}
+use Rattle.stops.specs.Input.{TakenWhole}
+use Rattle.stops.specs.Calls.{Buffers, Follows, Proceeds, restOf, Turned, Takes, Fed, mostCalls, Calls, Series, Program}
 use Rattle.stops.specs.Calls.Fed.{start, more}
 use Rattle.stops.specs.Calls.Calls.{ended, unread, untaken, spent}
 use Rattle.stops.proofs.Serving.{sound-after}
@@ -47,28 +47,23 @@ pub record Running (s₀ rep₀ t₀ t w s rep : List ℕ) (held turns : ℕ) : 
   pub made : Made t₀ calls t
   pub counted : length calls + turns ≡ mostCalls
   pub sound : Sound t
-  pub work : length w ≡ workBytes
+  pub buffers : Buffers w s rep
   pub input : length s ≡ length s₀
   pub report : length rep ≡ length rep₀
   pub inside : held ≤ length s
-  pub large : longestCommand ≤ length s
-  pub wide : longestRecord ≤ length rep
 
-pub running-first : (t w s rep : List ℕ) → Sound t → length w ≡ workBytes → longestCommand ≤ length s → longestRecord ≤ length rep
-    → Running s rep t t w s rep 0 mostCalls
-running-first t w s rep h l k n =
+pub running-first : (t w s rep : List ℕ) → Sound t → Buffers w s rep → Running s rep t t w s rep 0 mostCalls
+running-first t w s rep h bs =
     record {
       calls = [];
       fed = start;
       made = none;
       counted = refl;
       sound = h;
-      work = l;
+      buffers = bs;
       input = refl;
       report = refl;
       inside = omega arith;
-      large = k;
-      wide = n;
     }
 
 module _ (s₀ rep₀ t₀ t w s rep : List ℕ) (held turns : ℕ) (v : Running s₀ rep₀ t₀ t w s rep held turns) where
@@ -80,7 +75,7 @@ module _ (s₀ rep₀ t₀ t w s rep : List ℕ) (held turns : ℕ) (v : Running
     call = record { work = w; commands = take held s; report = rep; result = returnOf (u .result); workAfter = w′; reportAfter = rep′ }
 
     takes : Takes (length rep₀) (take held s) call
-    takes = record { commands = refl; work = v .work; report = v .report }
+    takes = record { commands = refl; work = v .buffers .work; report = v .report }
 
     calls-made : Made t₀ (v .calls ++ (call ∷ [])) t′
     calls-made = made-more t₀ (v .calls) t call t′ (v .made) (u .made)
@@ -98,13 +93,15 @@ module _ (s₀ rep₀ t₀ t w s rep : List ℕ) (held turns : ℕ) (v : Running
               fed = more {held′ = take n s′} (u .result .reason) (v .fed) takes refl (u .moves) (rw (← v .input) (f .1));
               made = calls-made;
               counted = omega (arith, v .counted, length-append (v .calls) (call ∷ []));
-              sound = sound-after t w (take held s) rep (u .result) t′ w′ rep′ (v .sound) (v .work) (u .made);
-              work = lw ∙ v .work;
+              sound = sound-after t w (take held s) rep (u .result) t′ w′ rep′ (v .sound) (v .buffers .work) (u .made);
+              buffers = record {
+                work = lw ∙ v .buffers .work;
+                input = omega (arith, v .buffers .input, u .len);
+                report = omega (arith, v .buffers .report, lr);
+              };
               input = u .len ∙ v .input;
               report = lr ∙ v .report;
               inside = f .0;
-              large = omega (arith, v .large, u .len);
-              wide = omega (arith, v .wide, lr);
             }
 
     last : (x : Next) → ((n : ℕ) → x ≡ More n → ⊥) → Follows (length s) (u .result .reason) (restOf (returnOf (u .result)) (take held s)) x s′
@@ -118,7 +115,7 @@ module _ (s₀ rep₀ t₀ t w s rep : List ℕ) (held turns : ℕ) (v : Running
     pub running-last : ((n : ℕ) → r ≡ More n → ⊥) → Series (length s₀) (length rep₀) t₀ r t′
     running-last h = record { calls = v .calls ++ (call ∷ []); are = go (u .taken) (u .output) (u .proceeds); made = calls-made }
       where
-        go : (q : Bool) → Taken q (u .result .written) → Proceeds (length s) (u .result .reason) (restOf (returnOf (u .result)) (take held s)) q r s′
+        go : (q : Bool) → TakenWhole q (u .result .written) → Proceeds (length s) (u .result .reason) (restOf (returnOf (u .result)) (take held s)) q r s′
             → Calls (length s₀) (length rep₀) (v .calls ++ (call ∷ [])) r
         go true o f = last r h f
         go false o f = rw f (untaken (v .fed) takes o)

@@ -17,15 +17,15 @@ use Rattle.book.specs.Run.{Outcome, records, run, afterAll, StopsFor}
 use Rattle.book.specs.Proper.{Proper}
 use Rattle.book.proofs.Runs.{run-ends, run-book}
 use Rattle.book.proofs.Lists.{answer-length}
-use Rattle.table.specs.Table.{Sound, bookOf}
-use Rattle.table.proofs.Books.{sound-len, sound-proper}
+use Rattle.table_rules.specs.Table.{Sound, bookOf}
+use Rattle.table_rules.proofs.Books.{sound-len, sound-proper}
 use Rattle.demands.specs.Batch.{Return, returns, returnOf, Served, Batch}
 use Rattle.demands.specs.Step.{Holds}
 use Rattle.demands.proofs.Reasons.{same-reason}
 use Rattle.demands.proofs.Chains.{chain-holds}
 use Rattle.demands.proofs.WholeRun.{is-served}
-use Rattle.stops.specs.Input.{Kept, Taken}
-use Rattle.stops.specs.Calls.{longestCommand, longestRecord, Moves, Answered}
+use Rattle.stops.specs.Input.{KeptInput, TakenWhole}
+use Rattle.stops.specs.Calls.{longestRecord, Buffers, Moves, Reported}
 use Rattle.stops.proofs.Ending.{ready-after}
 
 -- the first n elements are n
@@ -65,26 +65,26 @@ module _ (t w cs rep : List ℕ) (r : BatchResult) (t′ w′ rep′ : List ℕ)
           omega (arith, l, f .long, answer-length (o .book) ok (f .command), ap (λ (x : Return). x .written) said)
 
 -- the batch, and what is kept behind it
-pub answered : (held : ℕ) (t w s rep : List ℕ) (r : BatchResult) (t′ w′ rep′ : List ℕ) (left : ℕ) (taken : Bool) (s′ : List ℕ) → Sound t → length w ≡ workBytes
-    → held ≤ length s → longestCommand ≤ length s → longestRecord ≤ length rep → Batch t w (take held s) rep (returnOf r) t′ w′ rep′ → Kept (r .used) held s left s′
-    → length rep′ ≡ length rep → Taken taken (length (take (r .written) rep′))
-    → Answered held t w s rep (record { reason = r .reason; left = left; taken = taken }) t′ w′ s′ rep′
-answered held t w s rep r t′ w′ rep′ left taken s′ sound lw h l m b k e q =
+pub answered : (held : ℕ) (t w s rep : List ℕ) (r : BatchResult) (t′ w′ rep′ : List ℕ) (left : ℕ) (taken : Bool) (s′ : List ℕ) → Sound t → Buffers w s rep
+    → held ≤ length s → Batch t w (take held s) rep (returnOf r) t′ w′ rep′ → KeptInput (r .used) held s left s′
+    → length rep′ ≡ length rep → TakenWhole taken (length (take (r .written) rep′))
+    → Reported held t w s rep (record { reason = r .reason; left = left; taken = taken }) t′ w′ s′ rep′
+answered held t w s rep r t′ w′ rep′ left taken s′ sound bs h b k e q =
     record {
       result = r;
       made = b;
       reason = refl;
       inside = omega (arith, k .count, k .len);
-      ready = ready-after (take held s) (length rep) (bookOf t) (length s′) left (omega (arith, k .len)) count-left (r .reason)
+      ready = ready-after (take held s) (length rep) (bookOf t) (length s′) left (omega (arith, k .len, bs .input)) count-left (r .reason)
           (same-reason (run (take held s) (length rep) (bookOf t) .reason) (r .reason) (sym (ap (λ (x : Return). x .reason) said)));
       rest = k .front;
-      moves = moves-on t w (take held s) rep r t′ w′ rep′ sound lw b m;
-      output = subst (Taken taken) (length-take-le (r .written) rep′ (omega (arith, e, written-inside t w (take held s) rep r t′ w′ rep′ sound lw b))) q;
+      moves = moves-on t w (take held s) rep r t′ w′ rep′ sound (bs .work) b (bs .report);
+      output = subst (TakenWhole taken) (length-take-le (r .written) rep′ (omega (arith, e, written-inside t w (take held s) rep r t′ w′ rep′ sound (bs .work) b))) q;
       len = k .len;
     }
   where
     said : returnOf r ≡ returns (reasonNumber (run (take held s) (length rep) (bookOf t) .reason)) (run (take held s) (length rep) (bookOf t) .used) (length (records (run (take held s) (length rep) (bookOf t) .turns)))
-    said = served-so t w (take held s) rep r t′ w′ rep′ sound lw b .said
+    said = served-so t w (take held s) rep r t′ w′ rep′ sound (bs .work) b .said
 
     count-left : left ≡ length (take held s) - run (take held s) (length rep) (bookOf t) .used
     count-left = omega (arith, k .count, length-take-le held s h, ap (λ (x : Return). x .used) said)

@@ -9,7 +9,7 @@ use Rattle.stops.specs.declared.Got.{Got}
 use Rattle.stops.specs.declared.Got.the-variants.{Bytes, Ended, Failed}
 
 -- of the first `held` bytes those behind the first `used` stand at the front, and r counts them
-pub record Kept (used held : ℕ) (s : List ℕ) (r : ℕ) (s′ : List ℕ) : Type 0 where
+pub record KeptInput (used held : ℕ) (s : List ℕ) (r : ℕ) (s′ : List ℕ) : Type 0 where
   pub count : r ≡ held - used
   pub front : take r s′ ≡ drop used (take held s)
   pub len : length s′ ≡ length s
@@ -27,6 +27,6 @@ pub record ReadOn (held : ℕ) (s : List ℕ) (r : Got) (s′ : List ℕ) : Type
   pub len : length s′ ≡ length s
 
 -- whether n bytes of output were taken: if not, there were some
-abbrev pub Taken : Bool → ℕ → Type 0
-Taken true n = Unit {0}
-Taken false n = 0 < n
+abbrev pub TakenWhole : Bool → ℕ → Type 0
+TakenWhole true n = Unit {0}
+TakenWhole false n = 0 < n

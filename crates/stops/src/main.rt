@@ -1,4 +1,5 @@
-// The batch program: commands from standard input, reports to standard output. Document 01, "Legs to try", last paragraph.
+// The batch program: commands from standard input, reports to standard output. Document 01, "Legs to try", last
+// paragraph.
 mod arguments;
 mod streams;
 
@@ -6,11 +7,11 @@ use book::Reason;
 ghost use mathlib.Core.Path.{_≡_};
 ghost use Prim.Native.Nat.{_≤_, _<_};
 ghost use lib.ListN.{length, take};
-ghost use Rattle.limits.specs.Limits.{tableBytes, workBytes};
-ghost use Rattle.table.specs.Table.{Sound};
-ghost use Rattle.stops.specs.Input.{Kept, ReadOn};
-ghost use Rattle.stops.specs.Calls.{longestCommand, longestRecord, Reads, Ready, Follows, afterRead};
-ghost use Rattle.stops.specs.Calls.{Proceeds, Answered, Turned, Series, Program};
+ghost use Rattle.limits.specs.Limits.{tableBytes};
+ghost use Rattle.table_rules.specs.Table.{Sound};
+ghost use Rattle.stops.specs.Input.{KeptInput, ReadOn};
+ghost use Rattle.stops.specs.Calls.{Buffers, WantsMore, Resumable, Follows, afterRead};
+ghost use Rattle.stops.specs.Calls.{Proceeds, Reported, Turned, Series, Program};
 
 // "ends with 2E and the reason byte"
 const END_MARK: u8 = 0x2E;
@@ -29,8 +30,8 @@ enum Got {
     Failed,
 }
 
-// What follows a batch: one more over so many bytes, or the end with its reason. Or the run breaks off: the input cannot be read, the
-// report was not taken, or the count of turns is spent.
+// What follows a batch: one more over so many bytes, or the end with its reason. Or the run breaks off: the input
+// cannot be read, the report was not taken, or the count of turns is spent.
 enum Next {
     More(usize),
     End(Reason),
@@ -42,14 +43,10 @@ enum Next {
 // Moves the held bytes behind the used ones to the front, and counts them.
 fn keep(input: &mut [u8], used: usize, held: usize) -> usize
     requires { ⌜ (used ≤ held) × (held ≤ length (now input)) ⌝ }
-    ensures { λ r. ⌜ Kept used held (now (input .entry)) r (now (input .exit)) ⌝ }
+    ensures { λ r. ⌜ KeptInput used held (now (input .entry)) r (now (input .exit)) ⌝ }
 {
     let left = held - used;
-    let mut i = 0;
-    while i < left {
-        input[i] = input[used + i];
-        i += 1;
-    }
+    words::shift(input, used, 0, left);
     left
 }
 
@@ -80,8 +77,10 @@ fn serve(
     held: usize,
     report: &mut [u8],
 ) -> Batched
-    requires { ⌜ Sound (now table) × (length (now work) ≡ workBytes) × (held ≤ length (now input)) × (longestCommand ≤ length (now input)) × (longestRecord ≤ length (now report)) ⌝ }
-    ensures { λ r. ⌜ Answered held (now (table .entry)) (now (work .entry)) (now (input .entry)) (now (report .entry)) r (now (table .exit)) (now (work .exit)) (now (input .exit)) (now (report .exit)) ⌝ }
+    requires { ⌜ Sound (now table) × Buffers (now work) (now input) (now report) × (held ≤ length (now input)) ⌝ }
+    ensures { λ r. ⌜ Reported held
+        (now (table .entry)) (now (work .entry)) (now (input .entry)) (now (report .entry))
+        r (now (table .exit)) (now (work .exit)) (now (input .exit)) (now (report .exit)) ⌝ }
 {
     let r = service::batch(table, work, &input[..held], report);
     let reason = r.reason;
@@ -109,8 +108,9 @@ fn after_read(got: Got, reason: Reason) -> Next
 
 // After a batch that wants more bytes.
 fn join(input: &mut [u8], reason: Reason, left: usize) -> Next
-    requires { ⌜ (left < length (now input)) × Reads reason ⌝ }
-    ensures { λ r. ⌜ Follows (length (now (input .entry))) reason (take left (now (input .entry))) r (now (input .exit)) ⌝ }
+    requires { ⌜ (left < length (now input)) × WantsMore reason ⌝ }
+    ensures { λ r. ⌜ Follows (length (now (input .entry))) reason (take left (now (input .entry)))
+        r (now (input .exit)) ⌝ }
 {
     let got = read_on(input, left);
     after_read(got, reason)
@@ -118,8 +118,9 @@ fn join(input: &mut [u8], reason: Reason, left: usize) -> Next
 
 // After 68 the report buffer is free again, and the same command finds room.
 fn follow(input: &mut [u8], reason: Reason, left: usize) -> Next
-    requires { ⌜ (left ≤ length (now input)) × Ready (length (now input)) reason left ⌝ }
-    ensures { λ r. ⌜ Follows (length (now (input .entry))) reason (take left (now (input .entry))) r (now (input .exit)) ⌝ }
+    requires { ⌜ (left ≤ length (now input)) × Resumable (length (now input)) reason left ⌝ }
+    ensures { λ r. ⌜ Follows (length (now (input .entry))) reason (take left (now (input .entry)))
+        r (now (input .exit)) ⌝ }
 {
     match reason {
         Reason::AllUsed => join(input, reason, left),
@@ -133,8 +134,9 @@ fn follow(input: &mut [u8], reason: Reason, left: usize) -> Next
 
 // What follows a batch. A report that was not taken is the last.
 fn proceed(input: &mut [u8], b: Batched) -> Next
-    requires { ⌜ (b .left ≤ length (now input)) × Ready (length (now input)) (b .reason) (b .left) ⌝ }
-    ensures { λ r. ⌜ Proceeds (length (now (input .entry))) (b .reason) (take (b .left) (now (input .entry))) (b .taken) r (now (input .exit)) ⌝ }
+    requires { ⌜ (b .left ≤ length (now input)) × Resumable (length (now input)) (b .reason) (b .left) ⌝ }
+    ensures { λ r. ⌜ Proceeds (length (now (input .entry))) (b .reason) (take (b .left) (now (input .entry)))
+        (b .taken) r (now (input .exit)) ⌝ }
 {
     let reason = b.reason;
     let left = b.left;
@@ -146,8 +148,10 @@ fn proceed(input: &mut [u8], b: Batched) -> Next
 
 // A batch over the held bytes, its report, and what follows.
 fn turn(table: &mut [u8], work: &mut [u8], input: &mut [u8], held: usize, report: &mut [u8]) -> Next
-    requires { ⌜ Sound (now table) × (length (now work) ≡ workBytes) × (held ≤ length (now input)) × (longestCommand ≤ length (now input)) × (longestRecord ≤ length (now report)) ⌝ }
-    ensures { λ r. ⌜ Turned held (now (table .entry)) (now (work .entry)) (now (input .entry)) (now (report .entry)) r (now (table .exit)) (now (work .exit)) (now (input .exit)) (now (report .exit)) ⌝ }
+    requires { ⌜ Sound (now table) × Buffers (now work) (now input) (now report) × (held ≤ length (now input)) ⌝ }
+    ensures { λ r. ⌜ Turned held
+        (now (table .entry)) (now (work .entry)) (now (input .entry)) (now (report .entry))
+        r (now (table .exit)) (now (work .exit)) (now (input .exit)) (now (report .exit)) ⌝ }
 {
     let b = serve(table, work, input, held, report);
     proceed(input, b)
@@ -155,8 +159,9 @@ fn turn(table: &mut [u8], work: &mut [u8], input: &mut [u8], held: usize, report
 
 // The turns, to the end. Nothing says that an input ends, so they are counted down, from a number that no run uses up.
 fn run(table: &mut [u8], work: &mut [u8], input: &mut [u8], report: &mut [u8]) -> Next
-    requires { ⌜ Sound (now table) × (length (now work) ≡ workBytes) × (longestCommand ≤ length (now input)) × (longestRecord ≤ length (now report)) ⌝ }
-    ensures { λ r. ⌜ Series (length (now (input .entry))) (length (now (report .entry))) (now (table .entry)) r (now (table .exit)) ⌝ }
+    requires { ⌜ Sound (now table) × Buffers (now work) (now input) (now report) ⌝ }
+    ensures { λ r. ⌜ Series (length (now (input .entry))) (length (now (report .entry))) (now (table .entry))
+        r (now (table .exit)) ⌝ }
 {
     let mut held = 0;
     let mut turns = u64::MAX;
@@ -173,7 +178,7 @@ fn run(table: &mut [u8], work: &mut [u8], input: &mut [u8], report: &mut [u8]) -
 
 // The program on its buffers.
 fn serve_all(table: &mut [u8], work: &mut [u8], input: &mut [u8], report: &mut [u8]) -> Next
-    requires { ⌜ (length (now table) ≡ tableBytes) × (length (now work) ≡ workBytes) × (longestCommand ≤ length (now input)) × (longestRecord ≤ length (now report)) ⌝ }
+    requires { ⌜ (length (now table) ≡ tableBytes) × Buffers (now work) (now input) (now report) ⌝ }
     ensures { λ r. ⌜ Program (length (now (input .entry))) (length (now (report .entry))) r (now (table .exit)) ⌝ }
 {
     service::lay_out(table);

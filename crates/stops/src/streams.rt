@@ -1,7 +1,7 @@
 // Standard input and output. A call that a signal interrupts is made again.
 ghost use Prim.Native.Nat.{_<_};
 ghost use lib.ListN.{length};
-ghost use Rattle.stops.specs.Input.{Taken};
+ghost use Rattle.stops.specs.Input.{TakenWhole};
 
 // Reads once. Nothing says that signals cease, so the tries are counted down, from a number that no run uses up.
 pub fn read(buffer: &mut [u8]) -> isize
@@ -43,7 +43,7 @@ fn say_not_taken() {
 
 // Writes all the bytes, each write going on where the one before stopped, and answers whether all were taken.
 pub fn write_all(bytes: &[u8]) -> bool
-    ensures { λ r. ⌜ Taken r (length (now (bytes .entry))) ⌝ }
+    ensures { λ r. ⌜ TakenWhole r (length (now (bytes .entry))) ⌝ }
 {
     let mut done = 0;
     while done < bytes.len() {

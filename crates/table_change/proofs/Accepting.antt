@@ -5,7 +5,6 @@ use mathlib.Core.Bool.{false}
 use mathlib.Core.List.{List}
 use Prim.Native.Nat.{ℕ}
 use native.Mathlib.Omega.{arith}
-use Rattle.limits.specs.Limits.{layoutStart}
 use Rattle.words.specs.Words.{Only}
 use Rattle.words.proofs.Frame.{word-high}
 use Rattle.grid.specs.declared.Position.{Position}
@@ -16,16 +15,16 @@ use Rattle.book.specs.declared.Command.the-variants.{Add, Remove, Move, Stand}
 use Rattle.book.specs.Book.{writeLine, strikeLine, moveLine, holds, change}
 use Rattle.book.specs.Proper.{LegOk}
 use Rattle.book.proofs.Lines.{strike-none, holds-strike}
-use Rattle.sites.specs.Lines.{linesIn, StandsAt, StandsNowhere}
-use Rattle.standing.specs.Layout.{flagStart}
-use Rattle.standing.specs.Standing.{legIn, ZeroFrom, LegStored}
-use Rattle.node.specs.Layout.{treeStart}
-use Rattle.table.specs.Table.{bookOf, Whole, Sound}
-use Rattle.table.proofs.Same.{lines-same, sites-same}
+use Rattle.table_header.specs.Layout.{layoutStart, flagStart}
+use Rattle.table_header.specs.Header.{legIn, ZeroFrom, LegStored}
+use Rattle.table_sites.specs.Lines.{linesIn, StandsAt, StandsNowhere}
+use Rattle.tree_node.specs.Layout.{treeStart}
+use Rattle.table_rules.specs.Table.{bookOf, Whole, Sound}
+use Rattle.table_rules.proofs.Same.{lines-same, sites-same}
 use Rattle.demands.specs.Step.{Holds}
-use Rattle.list_change.specs.Patching.{Patchable}
-use Rattle.list_change.proofs.Restanding.{tied-below}
-use Rattle.list_change.proofs.Patching.{patchable}
+use Rattle.table_patch.specs.Patching.{Patchable}
+use Rattle.table_patch.proofs.Restanding.{tied-below}
+use Rattle.table_patch.proofs.Patching.{patchable}
 use Rattle.table_change.specs.Changes.{Relined}
 use Rattle.table_change.proofs.Struck.{strike-written, strike-moved}
 use Rattle.table_change.proofs.Indices.{written-at, moved-at}

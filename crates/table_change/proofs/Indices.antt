@@ -10,7 +10,7 @@ use Rattle.grid.specs.declared.Position.{Position}
 use Rattle.grid.specs.declared.Site.{Site}
 use Rattle.book.specs.Book.{writeLine, moveLine}
 use Rattle.book.proofs.Lines.{siteAs, write-before, write-past, move-here, move-past}
-use Rattle.sites.specs.Lines.{numberOf, StandsAt, StandsNowhere}
+use Rattle.table_sites.specs.Lines.{numberOf, StandsAt, StandsNowhere}
 
 stands-head : (p : Site) (s : List Site) → StandsAt 0 (p .number) (p ∷ s)
 stands-head p s = record { line = omega arith; number = refl }

@@ -17,32 +17,33 @@ use Rattle.grid.specs.Position.{OnGrid}
 use Rattle.book.specs.Book.{writeLine, strikeLine, moveLine}
 use Rattle.book.specs.Proper.{Rising, NumberOk}
 use Rattle.book.proofs.Lines.{siteAs, write-before, write-past, move-is}
-use Rattle.sites.specs.Lines.{countIn, lineAt, linesIn, Array, noSite, StandsAt, StandsNowhere}
-use Rattle.sites.specs.Rules.{SitesOk}
-use Rattle.sites.specs.Changes.{inserted, deleted, placed, Changed}
-use Rattle.sites.proofs.Reading.{lines-length, line-at}
-use Rattle.sites.proofs.Finding.{at-held, at-member, at-counted, absent-counted}
-use Rattle.sites.proofs.Deletion.{deleted-struck}
-use Rattle.sites.proofs.Kept.{sites-array, insert-lines, insert-kept, delete-lines, delete-kept, place-lines, place-kept}
-use Rattle.node.specs.declared.Entry.{Entry}
-use Rattle.node.specs.Layout.{treeStart}
-use Rattle.node.specs.Header.{rootIn}
-use Rattle.node.specs.Tally.{total}
-use Rattle.node.proofs.Counting.{total-append, total-one}
-use Rattle.rtree.specs.Rooted.{Rooted, leavesIn}
-use Rattle.rtree.proofs.Outside.{rooted-below, leaves-below}
+use Rattle.table_header.specs.Header.{countIn}
+use Rattle.table_sites.specs.Lines.{lineAt, linesIn, Array, noSite, StandsAt, StandsNowhere}
+use Rattle.table_sites.specs.Rules.{SitesOk}
+use Rattle.table_sites.specs.Changes.{inserted, deleted, placed, ArrayChanged}
+use Rattle.table_sites.proofs.Reading.{lines-length, line-at}
+use Rattle.table_sites.proofs.Finding.{at-held, at-member, at-counted, absent-counted}
+use Rattle.table_sites.proofs.Deletion.{deleted-struck}
+use Rattle.table_sites.proofs.Kept.{sites-array, insert-lines, insert-kept, delete-lines, delete-kept, place-lines, place-kept}
+use Rattle.tree_node.specs.declared.NodeEntry.{NodeEntry}
+use Rattle.tree_node.specs.Layout.{treeStart}
+use Rattle.tree_node.specs.Header.{rootIn}
+use Rattle.tree_node.specs.Tally.{total}
+use Rattle.tree_node.proofs.Counting.{total-append, total-one}
+use Rattle.tree_rules.specs.Rooted.{Rooted, leavesIn}
+use Rattle.tree_rules.proofs.Outside.{rooted-below, leaves-below}
 use Rattle.tree_add.specs.Added.{Added}
 use Rattle.tree_remove.specs.Removal.{Removed}
 use Rattle.tree_check.specs.Leaves.{leafEntry, leafEntries}
 use Rattle.tree_check.proofs.Leaves.{leaves-append, tied-count}
-use Rattle.table.specs.Table.{Whole}
-use Rattle.table.proofs.Same.{lines-same, sites-same, leg-same, list-same, header-same}
+use Rattle.table_rules.specs.Table.{Whole}
+use Rattle.table_rules.proofs.Same.{lines-same, sites-same, leg-same, list-same, header-same}
 use Rattle.table_change.specs.Changes.{Swapped, Relined}
 use Rattle.table_search.proofs.Points.{line-leaf}
 
 -- ---- totals of lines
 
-total-write : (w : Entry → ℕ) (p : Site) (s : List Site) → total w (leafEntries (writeLine p s)) ≡ w (leafEntry p) + total w (leafEntries s)
+total-write : (w : NodeEntry → ℕ) (p : Site) (s : List Site) → total w (leafEntries (writeLine p s)) ≡ w (leafEntry p) + total w (leafEntries s)
 unfolding total leafEntries writeLine
 total-write w p [] = refl
 total-write w p (q ∷ s) = go (decLt (p .number) (q .number)) (total-write w p s)
@@ -52,7 +53,7 @@ total-write w p (q ∷ s) = go (decLt (p .number) (q .number)) (total-write w p 
     go (yes h) ih = ap (λ (x : List Site). total w (leafEntries x)) (write-before p q s h)
     go (no h) ih = ap (λ (x : List Site). total w (leafEntries x)) (write-past p q s (omega arith)) ∙ (omega arith)
 
-total-head : (w : Entry → ℕ) (p : Site) (z : List Site) → total w (leafEntries (p ∷ z)) ≡ w (leafEntry p) + total w (leafEntries z)
+total-head : (w : NodeEntry → ℕ) (p : Site) (z : List Site) → total w (leafEntries (p ∷ z)) ≡ w (leafEntry p) + total w (leafEntries z)
 unfolding total leafEntries
 total-head w p z = refl
 
@@ -60,7 +61,7 @@ deleted-parts : (k : ℕ) (s : List Site) → deleted k s ≡ take k s ++ drop (
 unfolding deleted
 deleted-parts k s = refl
 
-total-strike : (w : Entry → ℕ) (n : ℕ) (s : List Site) (k : ℕ) → StandsAt k n s → Rising s
+total-strike : (w : NodeEntry → ℕ) (n : ℕ) (s : List Site) (k : ℕ) → StandsAt k n s → Rising s
     → w (leafEntry (getD s k noSite)) + total w (leafEntries (strikeLine n s)) ≡ total w (leafEntries s)
 total-strike w n s k a r =
     let d : strikeLine n s ≡ take k s ++ drop (k + 1) s = sym (deleted-struck k s a r) ∙ deleted-parts k s in
@@ -81,17 +82,17 @@ total-strike w n s k a r =
 -- ---- the table
 
 -- the change of the site array leaves the header and all that stands above the records
-below-tree : (l : List Site) (b b₁ : List ℕ) → Changed l b b₁ → Only 0 treeStart b b₁
+below-tree : (l : List Site) (b b₁ : List ℕ) → ArrayChanged l b b₁ → Only 0 treeStart b b₁
 below-tree l b b₁ c = record { len = c .len; low = λ i h. absurd (omega arith); high = λ i h. c .above i (omega arith) }
 
-pub changed-rooted : (l : List Site) (b b₁ : List ℕ) → Whole b → Changed l b b₁ → Rooted (rootIn b₁) b₁
+pub changed-rooted : (l : List Site) (b b₁ : List ℕ) → Whole b → ArrayChanged l b b₁ → Rooted (rootIn b₁) b₁
 changed-rooted l b b₁ w c = rooted-below (below-tree l b b₁ c) (w .tree .rooted)
 
-pub changed-leaves : (l : List Site) (b b₁ : List ℕ) → Changed l b b₁ → leavesIn b₁ ≡ leavesIn b
+pub changed-leaves : (l : List Site) (b b₁ : List ℕ) → ArrayChanged l b b₁ → leavesIn b₁ ≡ leavesIn b
 changed-leaves l b b₁ c = leaves-below (below-tree l b b₁ c)
 
-relined : (l m : List Site) (b b₁ b₂ : List ℕ) → Whole b → Changed l b b₁ → SitesOk b₁ → linesIn b₁ ≡ m → Only treeStart tableBytes b₁ b₂ → Rooted (rootIn b₂) b₂
-    → ((w : Entry → ℕ) → total w (leavesIn b₂) ≡ total w (leafEntries m)) → Relined m b b₂
+relined : (l m : List Site) (b b₁ b₂ : List ℕ) → Whole b → ArrayChanged l b b₁ → SitesOk b₁ → linesIn b₁ ≡ m → Only treeStart tableBytes b₁ b₂ → Rooted (rootIn b₂) b₂
+    → ((w : NodeEntry → ℕ) → total w (leavesIn b₂) ≡ total w (leafEntries m)) → Relined m b b₂
 relined l m b b₁ b₂ w c s e o r t =
     record {
       whole = record {
@@ -120,11 +121,11 @@ pub absent-inside : (b : List ℕ) (k n : ℕ) → StandsNowhere k n (linesIn b)
 absent-inside b k n f = absent-counted b f
 
 module _ (b b₁ : List ℕ) (k : ℕ) (p : Site) (w : Whole b) (f : StandsNowhere k (p .number) (linesIn b)) where
-  pub grow-few : length (linesIn b) < maxSites → Changed (inserted k p (linesIn b)) b b₁ → length (leavesIn b₁) < maxSites
+  pub grow-few : length (linesIn b) < maxSites → ArrayChanged (inserted k p (linesIn b)) b b₁ → length (leavesIn b₁) < maxSites
   grow-few h c = omega (arith, ap length (changed-leaves (inserted k p (linesIn b)) b b₁ c), tied-count b (w .tree))
 
   -- ADDED to both
-  pub grown : (b₂ : List ℕ) (e : Entry) → NumberOk p → OnGrid (p .position) → Changed (inserted k p (linesIn b)) b b₁ → e ≡ leafEntry p → Added e b₁ b₂
+  pub grown : (b₂ : List ℕ) (e : NodeEntry) → NumberOk p → OnGrid (p .position) → ArrayChanged (inserted k p (linesIn b)) b b₁ → e ≡ leafEntry p → Added e b₁ b₂
       → Relined (writeLine p (linesIn b)) b b₂
   grown b₂ e np on c q a =
       relined (inserted k p (linesIn b)) (writeLine p (linesIn b)) b b₁ b₂ w c (insert-kept k p f c np on (w .sites)) (insert-lines k p f c) (a .only) (a .rooted)
@@ -142,16 +143,16 @@ module _ (b b₁ : List ℕ) (k n : ℕ) (w : Whole b) (f : StandsAt k n (linesI
   pub at-inside : k < countIn b
   at-inside = at-counted b f
 
-  leaf-there : (l : List Site) (s : Site) (e : Entry) → s ≡ lineAt b k → e ≡ leafEntry s → Changed l b b₁ → List·Memᴰ e (leavesIn b₁)
+  leaf-there : (l : List Site) (s : Site) (e : NodeEntry) → s ≡ lineAt b k → e ≡ leafEntry s → ArrayChanged l b b₁ → List·Memᴰ e (leavesIn b₁)
   leaf-there l s e qs q c =
-      subst (λ (x : List Entry). List·Memᴰ e x) (sym (changed-leaves l b b₁ c))
-      (subst (λ (x : Entry). List·Memᴰ x (leavesIn b)) (sym (q ∙ ap leafEntry (qs ∙ line-is))) (line-leaf b w (getD (linesIn b) k noSite) (at-member f)))
+      subst (λ (x : List NodeEntry). List·Memᴰ e x) (sym (changed-leaves l b b₁ c))
+      (subst (λ (x : NodeEntry). List·Memᴰ x (leavesIn b)) (sym (q ∙ ap leafEntry (qs ∙ line-is))) (line-leaf b w (getD (linesIn b) k noSite) (at-member f)))
 
-  pub shrink-there : (s : Site) (e : Entry) → s ≡ lineAt b k → e ≡ leafEntry s → Changed (deleted k (linesIn b)) b b₁ → List·Memᴰ e (leavesIn b₁)
+  pub shrink-there : (s : Site) (e : NodeEntry) → s ≡ lineAt b k → e ≡ leafEntry s → ArrayChanged (deleted k (linesIn b)) b b₁ → List·Memᴰ e (leavesIn b₁)
   shrink-there s e qs q c = leaf-there (deleted k (linesIn b)) s e qs q c
 
   -- REMOVED from both
-  pub shrunk : (b₂ : List ℕ) (s : Site) (e : Entry) → s ≡ lineAt b k → e ≡ leafEntry s → Changed (deleted k (linesIn b)) b b₁ → Removed e b₁ b₂ → Relined (strikeLine n (linesIn b)) b b₂
+  pub shrunk : (b₂ : List ℕ) (s : Site) (e : NodeEntry) → s ≡ lineAt b k → e ≡ leafEntry s → ArrayChanged (deleted k (linesIn b)) b b₁ → Removed e b₁ b₂ → Relined (strikeLine n (linesIn b)) b b₂
   shrunk b₂ s e qs q c a =
       relined (deleted k (linesIn b)) (strikeLine n (linesIn b)) b b₁ b₂ w c (delete-kept k c (w .sites)) (delete-lines k c f (w .sites .rising)) (a .only) (a .rooted)
       (λ v. omega (
@@ -165,15 +166,15 @@ module _ (b b₁ : List ℕ) (k n : ℕ) (w : Whole b) (f : StandsAt k n (linesI
 
   -- ---- one site moved
 
-  pub move-there : (p : Position) (s : Site) (e : Entry) → s ≡ lineAt b k → e ≡ leafEntry s → Changed (placed k p (linesIn b)) b b₁ → List·Memᴰ e (leavesIn b₁)
+  pub move-there : (p : Position) (s : Site) (e : NodeEntry) → s ≡ lineAt b k → e ≡ leafEntry s → ArrayChanged (placed k p (linesIn b)) b b₁ → List·Memᴰ e (leavesIn b₁)
   move-there p s e qs q c = leaf-there (placed k p (linesIn b)) s e qs q c
 
-  pub move-few : (p : Position) → Changed (placed k p (linesIn b)) b b₁ → length (leavesIn b₁) ≤ maxSites
+  pub move-few : (p : Position) → ArrayChanged (placed k p (linesIn b)) b b₁ → length (leavesIn b₁) ≤ maxSites
   move-few p c = omega (arith, ap length (changed-leaves (placed k p (linesIn b)) b b₁ c), tied-count b (w .tree), lines-length b, w .sites .few)
 
   -- MOVED in both
-  pub moved : (p : Position) (b₂ : List ℕ) (s : Site) (e d : Entry) → OnGrid p → s ≡ lineAt b k → e ≡ leafEntry s → d ≡ leafEntry (siteAs n p)
-      → Changed (placed k p (linesIn b)) b b₁ → Swapped e d b₁ b₂ → Relined (moveLine n p (linesIn b)) b b₂
+  pub moved : (p : Position) (b₂ : List ℕ) (s : Site) (e d : NodeEntry) → OnGrid p → s ≡ lineAt b k → e ≡ leafEntry s → d ≡ leafEntry (siteAs n p)
+      → ArrayChanged (placed k p (linesIn b)) b b₁ → Swapped e d b₁ b₂ → Relined (moveLine n p (linesIn b)) b b₂
   moved p b₂ s e d on qs q qd c a =
       relined (placed k p (linesIn b)) (moveLine n p (linesIn b)) b b₁ b₂ w c (place-kept k p c (f .line) on (w .sites)) (place-lines k p c f (w .sites .rising))
       (a .only) (a .rooted)
@@ -190,9 +191,9 @@ module _ (b b₁ : List ℕ) (k n : ℕ) (w : Whole b) (f : StandsAt k n (linesI
       ))
 
 -- one leaf entry for another
-pub swap-few : (old : Entry) (b b₁ : List ℕ) → length (leavesIn b) ≤ maxSites → Removed old b b₁ → length (leavesIn b₁) < maxSites
+pub swap-few : (old : NodeEntry) (b b₁ : List ℕ) → length (leavesIn b) ≤ maxSites → Removed old b b₁ → length (leavesIn b₁) < maxSites
 swap-few old b b₁ h a = omega (arith, a .leaf (λ x. 1), total-one (leavesIn b₁), total-one (leavesIn b))
 
-pub swapped : (old new : Entry) (b b₁ b₂ : List ℕ) → Removed old b b₁ → Added new b₁ b₂ → Swapped old new b b₂
+pub swapped : (old new : NodeEntry) (b b₁ b₂ : List ℕ) → Removed old b b₁ → Added new b₁ b₂ → Swapped old new b b₂
 swapped old new b b₁ b₂ a g =
     record { rooted = g .rooted; leaf = λ w. omega (arith, a .leaf w, g .leaf w); only = only-trans (a .only) (g .only) }

@@ -4,27 +4,27 @@ use mathlib.Core.Path.{_≡_}
 use mathlib.Core.List.{List}
 use Prim.Native.Nat.{ℕ, _+_, _≤_}
 use Rattle.limits.specs.Limits.{maxSites, tableBytes}
-use Rattle.words.specs.Words.{wordAt, Only}
+use Rattle.words.specs.Words.{Only}
 use Rattle.grid.specs.declared.Site.{Site}
-use Rattle.sites.specs.Lines.{linesIn}
-use Rattle.standing.specs.Layout.{lengthStart}
-use Rattle.standing.specs.Standing.{legIn, standingIn}
-use Rattle.node.specs.declared.Entry.{Entry}
-use Rattle.node.specs.Layout.{treeStart}
-use Rattle.node.specs.Header.{rootIn}
-use Rattle.node.specs.Tally.{total}
-use Rattle.rtree.specs.Rooted.{Rooted, leavesIn}
-use Rattle.table.specs.Table.{Whole}
+use Rattle.table_header.specs.Header.{legIn, lengthIn}
+use Rattle.table_sites.specs.Lines.{linesIn}
+use Rattle.table_standing.specs.Standing.{standingIn}
+use Rattle.tree_node.specs.declared.NodeEntry.{NodeEntry}
+use Rattle.tree_node.specs.Layout.{treeStart}
+use Rattle.tree_node.specs.Header.{rootIn}
+use Rattle.tree_node.specs.Tally.{total}
+use Rattle.tree_rules.specs.Rooted.{Rooted, leavesIn}
+use Rattle.table_rules.specs.Table.{Whole}
 
 -- the table has other lines, its tree has their leaf entries, and the standing leg and the stored list are as they were
 pub record Relined (l : List Site) (b b′ : List ℕ) : Type 0 where
   pub whole : Whole b′
   pub lines : linesIn b′ ≡ l
   pub leg : legIn b′ ≡ legIn b
-  pub list : wordAt b lengthStart ≤ maxSites → standingIn b′ ≡ standingIn b
+  pub list : lengthIn b ≤ maxSites → standingIn b′ ≡ standingIn b
 
 -- the tree has the leaf entry new in the place of old, and nothing below the tree has changed
-pub record Swapped (old new : Entry) (b b′ : List ℕ) : Type 0 where
+pub record Swapped (old new : NodeEntry) (b b′ : List ℕ) : Type 0 where
   pub rooted : Rooted (rootIn b′) b′
-  pub leaf : (w : Entry → ℕ) → w old + total w (leavesIn b′) ≡ w new + total w (leavesIn b)
+  pub leaf : (w : NodeEntry → ℕ) → w old + total w (leavesIn b′) ≡ w new + total w (leavesIn b)
   pub only : Only treeStart tableBytes b b′

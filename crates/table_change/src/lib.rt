@@ -2,32 +2,32 @@
 use grid::Leg;
 use grid::Position;
 use grid::Site;
-use node::Entry;
 use tree_check::leaf_entry;
-ghost use mathlib.Core.Path.{_≡_};
-ghost use Prim.Native.Nat.{_*_, _<_, _≤_};
+use tree_node::NodeEntry;
+ghost use Prim.Native.Nat.{_<_, _≤_};
 ghost use lib.ListN.{length};
 ghost use Rattle.limits.specs.Limits.{maxSites};
 ghost use Rattle.grid.specs.Position.{OnGrid, LegOnGrid};
-ghost use Rattle.row.specs.Vertices.{rowBytes};
+ghost use Rattle.list_row.specs.Vertices.{rowBytes};
 ghost use Rattle.book.specs.declared.Command.{Command};
 ghost use Rattle.book.specs.Book.{writeLine, strikeLine, moveLine, change};
 ghost use Rattle.book.specs.Proper.{NumberOk};
-ghost use Rattle.sites.specs.Lines.{linesIn, StandsAt, StandsNowhere};
-ghost use Rattle.table.specs.Table.{bookOf, Whole, Sound};
+ghost use Rattle.table_sites.specs.Lines.{linesIn, StandsAt, StandsNowhere};
+ghost use Rattle.table_rules.specs.Table.{bookOf, Whole, Sound};
 ghost use Rattle.demands.specs.Step.{Holds};
 ghost use mathlib.Core.List.{List·Memᴰ};
-ghost use Rattle.node.specs.Header.{rootIn};
-ghost use Rattle.rtree.specs.Rooted.{Rooted, leavesIn};
+ghost use Rattle.tree_node.specs.Header.{rootIn};
+ghost use Rattle.tree_rules.specs.Rooted.{Rooted, leavesIn};
 ghost use Rattle.table_change.specs.Changes.{Swapped, Relined};
 
 // Adds a site whose record goes before record k.
 fn grow(t: &mut [u8], k: usize, site: Site)
-    requires { ⌜ Whole (now t) × StandsNowhere k (site .number) (linesIn (now t)) × (length (linesIn (now t)) < maxSites) ⌝ }
+    requires { ⌜ Whole (now t) × StandsNowhere k (site .number) (linesIn (now t))
+        × (length (linesIn (now t)) < maxSites) ⌝ }
     requires { ⌜ NumberOk site × OnGrid (site .position) ⌝ }
     ensures { λ _. ⌜ Relined (writeLine site (linesIn (now (t .entry)))) (now (t .entry)) (now (t .exit)) ⌝ }
 {
-    sites::change::insert(t, k, site);
+    table_sites::change::insert(t, k, site);
     let e = leaf_entry(site);
     tree_add::add(t, e);
 }
@@ -37,14 +37,15 @@ fn shrink(t: &mut [u8], k: usize, n: u16)
     requires { ⌜ Whole (now t) × StandsAt k n (linesIn (now t)) ⌝ }
     ensures { λ _. ⌜ Relined (strikeLine n (linesIn (now (t .entry)))) (now (t .entry)) (now (t .exit)) ⌝ }
 {
-    let e = leaf_entry(sites::line(t, k));
-    sites::change::delete(t, k);
+    let e = leaf_entry(table_sites::line(t, k));
+    table_sites::change::delete(t, k);
     tree_remove::remove(t, e);
 }
 
 // Puts one leaf entry in the place of another.
-fn swap_leaf(t: &mut [u8], old: Entry, new: Entry)
-    requires { ⌜ Rooted (rootIn (now t)) (now t) × List·Memᴰ old (leavesIn (now t)) × (length (leavesIn (now t)) ≤ maxSites) ⌝ }
+fn swap_leaf(t: &mut [u8], old: NodeEntry, new: NodeEntry)
+    requires { ⌜ Rooted (rootIn (now t)) (now t) × List·Memᴰ old (leavesIn (now t))
+        × (length (leavesIn (now t)) ≤ maxSites) ⌝ }
     ensures { λ _. ⌜ Swapped old new (now (t .entry)) (now (t .exit)) ⌝ }
 {
     tree_remove::remove(t, old);
@@ -56,51 +57,55 @@ fn relocate(t: &mut [u8], k: usize, n: u16, p: Position)
     requires { ⌜ Whole (now t) × StandsAt k n (linesIn (now t)) × OnGrid p ⌝ }
     ensures { λ _. ⌜ Relined (moveLine n p (linesIn (now (t .entry)))) (now (t .entry)) (now (t .exit)) ⌝ }
 {
-    let old = leaf_entry(sites::line(t, k));
+    let old = leaf_entry(table_sites::line(t, k));
     let new = leaf_entry(Site {
         number: n,
         position: p,
     });
-    sites::change::place(t, k, p);
+    table_sites::change::place(t, k, p);
     swap_leaf(t, old, new);
 }
 
 // Adds a site whose record goes before record k. Document 01, command 41.
 pub fn insert(t: &mut [u8], work: &mut [u8], k: usize, site: Site)
-    requires { ⌜ Sound (now t) × StandsNowhere k (site .number) (linesIn (now t)) × (length (linesIn (now t)) < maxSites) ⌝ }
-    requires { ⌜ NumberOk site × OnGrid (site .position) × (2 * rowBytes ≤ length (now work)) ⌝ }
-    ensures { λ _. ⌜ Holds (now (t .exit)) (change (Command.Add (site .number) (site .position)) (bookOf (now (t .entry)))) ⌝ }
+    requires { ⌜ Sound (now t) × StandsNowhere k (site .number) (linesIn (now t))
+        × (length (linesIn (now t)) < maxSites) ⌝ }
+    requires { ⌜ NumberOk site × OnGrid (site .position) × (rowBytes ≤ length (now work)) ⌝ }
+    ensures { λ _. ⌜ Holds (now (t .exit))
+        (change (Command.Add (site .number) (site .position)) (bookOf (now (t .entry)))) ⌝ }
 {
     grow(t, k, site);
     let n = site.number;
-    list_change::patch_held(t, work, n, k);
+    table_patch::patch_held(t, work, n, k);
 }
 
 // Removes site n, of record k. Document 01, command 44.
 pub fn delete(t: &mut [u8], work: &mut [u8], k: usize, n: u16)
-    requires { ⌜ Sound (now t) × StandsAt k n (linesIn (now t)) × (2 * rowBytes ≤ length (now work)) ⌝ }
+    requires { ⌜ Sound (now t) × StandsAt k n (linesIn (now t)) × (rowBytes ≤ length (now work)) ⌝ }
     ensures { λ _. ⌜ Holds (now (t .exit)) (change (Command.Remove n) (bookOf (now (t .entry)))) ⌝ }
 {
     shrink(t, k, n);
-    list_change::patch_gone(t, work, n);
+    table_patch::patch_gone(t, work, n);
 }
 
 // Gives the site of record k a new position. Document 01, command 4D.
 pub fn place(t: &mut [u8], work: &mut [u8], k: usize, site: Site)
-    requires { ⌜ Sound (now t) × StandsAt k (site .number) (linesIn (now t)) × OnGrid (site .position) × (2 * rowBytes ≤ length (now work)) ⌝ }
-    ensures { λ _. ⌜ Holds (now (t .exit)) (change (Command.Move (site .number) (site .position)) (bookOf (now (t .entry)))) ⌝ }
+    requires { ⌜ Sound (now t) × StandsAt k (site .number) (linesIn (now t)) × OnGrid (site .position)
+        × (rowBytes ≤ length (now work)) ⌝ }
+    ensures { λ _. ⌜ Holds (now (t .exit))
+        (change (Command.Move (site .number) (site .position)) (bookOf (now (t .entry)))) ⌝ }
 {
     let n = site.number;
     let p = site.position;
     relocate(t, k, n, p);
-    list_change::patch_held(t, work, n, k);
+    table_patch::patch_held(t, work, n, k);
 }
 
 // Sets the standing leg. Document 01, command 53.
 pub fn stand(t: &mut [u8], work: &mut [u8], leg: Leg)
-    requires { ⌜ Sound (now t) × LegOnGrid leg × (2 * rowBytes ≤ length (now work)) ⌝ }
+    requires { ⌜ Sound (now t) × LegOnGrid leg × (rowBytes ≤ length (now work)) ⌝ }
     ensures { λ _. ⌜ Holds (now (t .exit)) (change (Command.Stand leg) (bookOf (now (t .entry)))) ⌝ }
 {
-    standing::store_leg(t, leg);
-    list_change::restand(t, work);
+    table_header::store_leg(t, leg);
+    table_patch::restand(t, work);
 }

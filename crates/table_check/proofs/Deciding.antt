@@ -10,29 +10,29 @@ use lib.ListN.{length}
 use lib.Dec.{eqb}
 use borrow.Author.Tests.{eqb-true, eqb-false}
 use Rattle.limits.specs.Limits.{tableBytes}
-use Rattle.words.specs.Words.{wordAt}
 use Rattle.grid.specs.declared.Leg.{Leg}
 use Rattle.grid.specs.Position.{LegOnGrid}
 use Rattle.grid.specs.Says.{Says}
 use Rattle.grid.proofs.Says.{says-yes, says-no, says-map}
-use Rattle.row.specs.Vertices.{entriesIn}
-use Rattle.book.specs.Book.{listOf, standingList}
+use Rattle.list_row.specs.Vertices.{entriesIn}
+use Rattle.book.specs.Book.{sitesOf, listOf, standingList}
 use Rattle.book.specs.Proper.{LegOk}
-use Rattle.sites.specs.Lines.{linesIn, Array}
-use Rattle.sites.specs.Rules.{SitesOk}
-use Rattle.sites.proofs.Kept.{sites-array}
-use Rattle.standing.specs.declared.Standing.{Standing}
-use Rattle.standing.specs.Layout.{lengthStart, listStart}
-use Rattle.standing.specs.Standing.{legIn, wordsFrom, standingIn, numbersOf, HeaderOk, asOption}
+use Rattle.table_header.specs.declared.Standing.{Standing}
+use Rattle.table_header.specs.Header.{legIn, HeaderOk, asOption, lengthIn}
+use Rattle.table_sites.specs.Lines.{Array}
+use Rattle.table_sites.specs.Rules.{SitesOk}
+use Rattle.table_sites.proofs.Kept.{sites-array}
+use Rattle.table_standing.specs.Layout.{listStart}
+use Rattle.table_standing.specs.Standing.{wordsFrom, standingIn, numbersOf}
 use Rattle.tree_check.specs.Tied.{Tied}
-use Rattle.table.specs.Table.{bookOf, Whole, StandingOk, Sound}
-use Rattle.table.specs.Listing.{ListsTable}
+use Rattle.table_rules.specs.Table.{bookOf, Whole, StandingOk, Sound}
+use Rattle.table_rules.specs.Listing.{ListsTable}
 use Rattle.table_check.proofs.Matching.{words-length}
 
 -- ---- the standing leg and list
 
 module _ (b : List ℕ) (s : Standing) (w : Whole b) (q : asOption s ≡ legIn b) where
-  pub unset-says : (n : ℕ) → s ≡ Standing.Unset → n ≡ wordAt b lengthStart → Says (eqb n 0) (StandingOk b)
+  pub unset-says : (n : ℕ) → s ≡ Standing.Unset → n ≡ lengthIn b → Says (eqb n 0) (StandingOk b)
   unfolding standingIn wordsFrom numbersOf
   unset-says n u e = go (eqb n 0) refl
     where
@@ -40,7 +40,7 @@ module _ (b : List ℕ) (s : Standing) (w : Whole b) (q : asOption s ≡ legIn b
       leg = sym q ∙ ap asOption u
 
       list : numbersOf (standingList (bookOf b)) ≡ []
-      list = ap (λ (o : Option Leg). numbersOf (listOf o (linesIn b))) leg
+      list = ap (λ (o : Option Leg). numbersOf (listOf o (sitesOf (bookOf b)))) leg
 
       go : (t : Bool) → eqb n 0 ≡ t → Says t (StandingOk b)
       go true z =
@@ -48,7 +48,7 @@ module _ (b : List ℕ) (s : Standing) (w : Whole b) (q : asOption s ≡ legIn b
             leg = subst LegOk (sym leg) tt;
             list = ap (wordsFrom b listStart) (sym e ∙ eqb-true n 0 z) ∙ sym list;
           }
-      go false z = λ x. eqb-false n 0 z (e ∙ (omega (arith, words-length b listStart (wordAt b lengthStart), ap length (x .list ∙ list))))
+      go false z = λ x. eqb-false n 0 z (e ∙ (omega (arith, words-length b listStart (lengthIn b), ap length (x .list ∙ list))))
 
   module _ (l : Leg) (a : s ≡ Standing.Along l) where
     leg-is : legIn b ≡ some l
@@ -71,7 +71,7 @@ module _ (b : List ℕ) (s : Standing) (w : Whole b) (q : asOption s ≡ legIn b
         right : numbersOf (entriesIn l b r k) ≡ numbersOf (standingList (bookOf b))
         right =
             ap numbersOf (f .list)
-            ∙ sym (ap (λ (o : Option Leg). numbersOf (listOf o (linesIn b))) leg-is)
+            ∙ sym (ap (λ (o : Option Leg). numbersOf (listOf o (sitesOf (bookOf b)))) leg-is)
 
 -- ---- sites, header and tree
 

@@ -11,13 +11,14 @@ use Rattle.limits.specs.Limits.{tableBytes}
 use Rattle.words.specs.Words.{wordAt}
 use Rattle.grid.specs.declared.Leg.{Leg}
 use Rattle.split.specs.SplitList.{Entry}
-use Rattle.row.specs.Places.{siteAtByte, siteAt}
-use Rattle.row.specs.Vertices.{placeAt, Held, entriesIn}
-use Rattle.record3d.specs.RowEntries.{entryAt}
-use Rattle.record3d.proofs.Entries.{entries-one, entries-length}
-use Rattle.standing.specs.Layout.{lengthStart, listStart}
-use Rattle.standing.specs.Standing.{wordsFrom, standingIn, numbersOf}
-use Rattle.standing.proofs.Numbers.{numbers-append, words-are}
+use Rattle.list_row.specs.Places.{siteAt, HasSite}
+use Rattle.list_row.specs.Vertices.{placeAt, Held, entriesIn}
+use Rattle.list_row.specs.Entries.{rowEntry}
+use Rattle.list_row.proofs.Entries.{entries-one, entries-length}
+use Rattle.table_header.specs.Header.{lengthIn}
+use Rattle.table_standing.specs.Layout.{listStart}
+use Rattle.table_standing.specs.Standing.{wordsFrom, standingIn, numbersOf, storedNumber}
+use Rattle.table_standing.proofs.Numbers.{numbers-append, words-are}
 
 pub words-length : (b : List ℕ) (i n : ℕ) → length (wordsFrom b i n) ≡ n
 unfolding wordsFrom
@@ -45,7 +46,7 @@ numbers-at l b r zero j h = absurd (omega arith)
 numbers-at l b r (suc k) j h = ap (λ (x : List ℕ). getD x j 0) split ∙ go (λ g. numbers-at l b r k j g) (decLt j k)
   where
     split : numbersOf (entriesIn l b r (suc k)) ≡ numbersOf (entriesIn l b r k) ++ siteAt b (placeAt r k) .number ∷ []
-    split = ap numbersOf (entries-one l b r k) ∙ numbers-append (entriesIn l b r k) (entryAt l b r k ∷ []) ∙ ap (λ (x : List ℕ). numbersOf (entriesIn l b r k) ++ x) (numbers-one (entryAt l b r k))
+    split = ap numbersOf (entries-one l b r k) ∙ numbers-append (entriesIn l b r k) (rowEntry l b r k ∷ []) ∙ ap (λ (x : List ℕ). numbersOf (entriesIn l b r k) ++ x) (numbers-one (rowEntry l b r k))
 
     long : length (numbersOf (entriesIn l b r k)) ≡ k
     long = numbers-length (entriesIn l b r k) ∙ entries-length l b r k
@@ -62,7 +63,7 @@ numbers-at l b r (suc k) j h = ap (λ (x : List ℕ). getD x j 0) split ∙ go (
 -- i words match
 pub record Matched (b r : List ℕ) (k i : ℕ) : Type 0 where
   pub within : i ≤ k
-  pub same : (j : ℕ) → j < i → wordAt b (listStart + 2 * j) ≡ siteAt b (placeAt r j) .number
+  pub same : (j : ℕ) → j < i → storedNumber b j ≡ siteAt b (placeAt r j) .number
 
 pub matched-none : (b r : List ℕ) (k : ℕ) → Matched b r k 0
 matched-none b r k = record { within = omega arith; same = λ j h. absurd (omega arith) }
@@ -71,43 +72,35 @@ module _ (l : Leg) (b r : List ℕ) (k : ℕ) (len : length b ≡ tableBytes) (h
   pub row-inside : (i : ℕ) → i < k → 2 * i + 2 ≤ length r
   row-inside i h = omega (arith, hd .inside)
 
-  pub place-inside : (i p : ℕ) → i < k → p ≡ wordAt r (2 * i) → 2 * p + 2 ≤ length b
-  unfolding placeAt
-  place-inside i p h e = omega (arith, hd .sites i h .inside)
+  pub site-there : (i : ℕ) → i < k → HasSite b (placeAt r i)
+  site-there i h = hd .sites i h
 
-  pub list-inside : (i : ℕ) → i < k → listStart + 2 * i + 2 ≤ length b
-  list-inside i h = omega (arith, hd .few)
-
-  number-is : (i p n : ℕ) → p ≡ wordAt r (2 * i) → n ≡ wordAt b (2 * p) → n ≡ siteAt b (placeAt r i) .number
-  unfolding placeAt siteAtByte
-  number-is i p n e f = f ∙ ap (λ (x : ℕ). wordAt b (2 * x)) e
-
-  pub matched-one : (i p n s : ℕ) → Matched b r k i → i < k → p ≡ wordAt r (2 * i) → n ≡ wordAt b (2 * p) → s ≡ wordAt b (listStart + 2 * i) → n ≡ s → Matched b r k (i + 1)
-  matched-one i p n s m h ep en es e = record { within = omega arith; same = λ j g. go j g (decLt j i) }
+  pub matched-one : (i n s : ℕ) → Matched b r k i → i < k → n ≡ siteAt b (placeAt r i) .number → s ≡ storedNumber b i → n ≡ s → Matched b r k (i + 1)
+  matched-one i n s m h en es e = record { within = omega arith; same = λ j g. go j g (decLt j i) }
     where
-      go : (j : ℕ) → j < i + 1 → Dec (j < i) → wordAt b (listStart + 2 * j) ≡ siteAt b (placeAt r j) .number
+      go : (j : ℕ) → j < i + 1 → Dec (j < i) → storedNumber b j ≡ siteAt b (placeAt r j) .number
       go j g (yes d) = m .same j d
-      go j g (no d) = let q : j ≡ i = omega arith in rw q (sym es ∙ sym e ∙ number-is i p n ep en)
+      go j g (no d) = let q : j ≡ i = omega arith in rw q (sym es ∙ sym e ∙ en)
 
   -- THE LISTS ARE THE SAME
-  pub matched-all : (n i : ℕ) → n ≡ wordAt b lengthStart → n ≡ k → Matched b r k i → k ≤ i → standingIn b ≡ numbersOf (entriesIn l b r k)
+  pub matched-all : (n i : ℕ) → n ≡ lengthIn b → n ≡ k → Matched b r k i → k ≤ i → standingIn b ≡ numbersOf (entriesIn l b r k)
   unfolding standingIn
   matched-all n i en e m h = ap (wordsFrom b listStart) (sym en ∙ e) ∙ words-are l b r b listStart k (λ j g. m .same j (omega (arith, m .within)))
 
   -- of another length
-  pub other-length : (n : ℕ) → n ≡ wordAt b lengthStart → (n ≡ k → ⊥) → ¬ (standingIn b ≡ numbersOf (entriesIn l b r k))
+  pub other-length : (n : ℕ) → n ≡ lengthIn b → (n ≡ k → ⊥) → ¬ (standingIn b ≡ numbersOf (entriesIn l b r k))
   unfolding standingIn
   other-length n en h e =
-      h (omega (arith, words-length b listStart (wordAt b lengthStart), ap length e, numbers-length (entriesIn l b r k), entries-length l b r k))
+      h (omega (arith, words-length b listStart (lengthIn b), ap length e, numbers-length (entriesIn l b r k), entries-length l b r k))
 
   -- of another number
-  pub other-number : (m i p n s : ℕ) → m ≡ wordAt b lengthStart → m ≡ k → i < k → p ≡ wordAt r (2 * i) → n ≡ wordAt b (2 * p) → s ≡ wordAt b (listStart + 2 * i) → (n ≡ s → ⊥)
+  pub other-number : (m i n s : ℕ) → m ≡ lengthIn b → m ≡ k → i < k → n ≡ siteAt b (placeAt r i) .number → s ≡ storedNumber b i → (n ≡ s → ⊥)
       → ¬ (standingIn b ≡ numbersOf (entriesIn l b r k))
   unfolding standingIn
-  other-number m i p n s em ek h ep en es d e =
+  other-number m i n s em ek h en es d e =
       d
-      (number-is i p n ep en
+      (en
       ∙ sym (numbers-at l b r k i h)
       ∙ sym (ap (λ (x : List ℕ). getD x i 0) e)
-      ∙ word-of b listStart (wordAt b lengthStart) i (omega arith)
+      ∙ word-of b listStart (lengthIn b) i (omega arith)
       ∙ sym es)

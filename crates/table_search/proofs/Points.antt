@@ -8,16 +8,16 @@ use lib.ListN.{length}
 use Rattle.limits.specs.Limits.{maxSites}
 use Rattle.grid.specs.declared.Site.{Site}
 use Rattle.split.specs.SplitList.{SameSites, SitesOnGrid}
-use Rattle.sites.specs.Lines.{linesIn}
-use Rattle.sites.proofs.Reading.{lines-length}
-use Rattle.node.specs.declared.Entry.{Entry}
-use Rattle.rtree.specs.Tree.{Each}
-use Rattle.rtree.specs.Rooted.{leavesIn}
-use Rattle.rtree.proofs.Members.{same-member, same-each}
+use Rattle.table_sites.specs.Lines.{linesIn}
+use Rattle.table_sites.proofs.Reading.{lines-length}
+use Rattle.tree_node.specs.declared.NodeEntry.{NodeEntry}
+use Rattle.tree_rules.specs.Tree.{Each}
+use Rattle.tree_rules.specs.Rooted.{leavesIn}
+use Rattle.tree_rules.proofs.Members.{same-member, same-each}
 use Rattle.tree_search.specs.Sites.{siteOf, LeafPoint, sites}
 use Rattle.tree_check.specs.Leaves.{leafEntry, leafEntries}
 use Rattle.tree_check.proofs.Leaves.{tied-count}
-use Rattle.table.specs.Table.{Whole}
+use Rattle.table_rules.specs.Table.{Whole}
 
 line-points : (s : List Site) → SitesOnGrid s → Each LeafPoint (leafEntries s)
 unfolding Each leafEntries
@@ -41,23 +41,23 @@ module _ (b : List ℕ) (w : Whole b) where
   pub line-leaf : (p : Site) → List·Memᴰ p (linesIn b) → List·Memᴰ (leafEntry p) (leavesIn b)
   line-leaf p m = same-member (leafEntries (linesIn b)) (leavesIn b) (λ v. sym (w .tree .leaf v)) (leafEntry p) (entry-of (linesIn b) p m)
 
-site-of : (l : List Entry) (e : Entry) → List·Memᴰ e l → List·Memᴰ (siteOf e) (sites l)
+site-of : (l : List NodeEntry) (e : NodeEntry) → List·Memᴰ e l → List·Memᴰ (siteOf e) (sites l)
 unfolding sites
 site-of (d ∷ l) e (List·Memᴰ·head q) = List·Memᴰ·head (ap siteOf q)
 site-of (d ∷ l) e (List·Memᴰ·tail m) = List·Memᴰ·tail (site-of l e m)
 
 -- a site of leaf entries comes from one
-record From (l : List Entry) (p : Site) : Type 0 where
-  entry : Entry
+record From (l : List NodeEntry) (p : Site) : Type 0 where
+  entry : NodeEntry
   member : List·Memᴰ entry l
   is : siteOf entry ≡ p
 
-from : (l : List Entry) (p : Site) → List·Memᴰ p (sites l) → From l p
+from : (l : List NodeEntry) (p : Site) → List·Memᴰ p (sites l) → From l p
 unfolding sites
 from (d ∷ l) p (List·Memᴰ·head q) = record { entry = d; member = List·Memᴰ·head refl; is = sym q }
 from (d ∷ l) p (List·Memᴰ·tail m) = let f = from l p m in record { entry = f .entry; member = List·Memᴰ·tail (f .member); is = f .is }
 
-line-of : (s : List Site) (e : Entry) → List·Memᴰ e (leafEntries s) → List·Memᴰ (siteOf e) s
+line-of : (s : List Site) (e : NodeEntry) → List·Memᴰ e (leafEntries s) → List·Memᴰ (siteOf e) s
 unfolding leafEntries
 line-of (q ∷ s) e (List·Memᴰ·head z) = List·Memᴰ·head (ap siteOf z)
 line-of (q ∷ s) e (List·Memᴰ·tail m) = List·Memᴰ·tail (line-of s e m)

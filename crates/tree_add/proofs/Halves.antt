@@ -8,33 +8,34 @@ use lib.ListN.{length, set}
 use Rattle.limits.specs.Limits.{minEntries, maxNodes, tableBytes}
 use Rattle.words.specs.Words.{Only}
 use Rattle.words.proofs.Frame.{only-trans}
-use Rattle.node.specs.declared.Entry.{Entry}
-use Rattle.node.specs.Layout.{poolStart}
-use Rattle.node.specs.Node.{entries, Wrote}
-use Rattle.node.specs.Free.{free}
-use Rattle.node.specs.Boxes.{hull}
-use Rattle.node.specs.Tally.{total, hit, tally, Within}
-use Rattle.node.proofs.Counting.{hit-same, taken-total, taken-not}
-use Rattle.node.proofs.Reading.{eight}
-use Rattle.node.proofs.Storing.{others, in-pool, in-tree}
-use Rattle.node.proofs.FreeStack.{free-kept}
-use Rattle.rtree.specs.Perm.{Perm}
-use Rattle.rtree.specs.Perm.Perm.{trans}
-use Rattle.rtree.specs.Tree.{Store, joined, leaves, nodes, Each, Sound}
-use Rattle.rtree.proofs.Every.{each-left, each-right}
-use Rattle.rtree.proofs.Totals.{total-both, leaves-at, nodes-at, leaves-hull, nodes-hull}
-use Rattle.rtree.proofs.Kept.{Agree, kept-leaves, kept-nodes, kept-sound, sound-node}
-use Rattle.rtree.proofs.Perms.{perm-sym, perm-each, perm-total, perm-snoc}
+use Rattle.tree_node.specs.declared.NodeEntry.{NodeEntry}
+use Rattle.tree_node.specs.Layout.{poolStart}
+use Rattle.tree_node.specs.Node.{entries, Wrote}
+use Rattle.tree_node.specs.Free.{free}
+use Rattle.tree_node.specs.Boxes.{hull}
+use Rattle.tree_node.specs.Tally.{total, hit, tally, Within}
+use Rattle.tree_node.proofs.Counting.{hit-same, taken-total, taken-not}
+use Rattle.tree_node.proofs.Reading.{eight}
+use Rattle.tree_node.proofs.Storing.{others, in-pool, in-tree}
+use Rattle.tree_node.proofs.FreeStack.{free-kept}
+use Rattle.permutation.specs.Perm.{Perm}
+use Rattle.permutation.specs.Perm.Perm.{trans}
+use Rattle.tree_rules.specs.Tree.{Store, joined, leaves, nodes, Each, SoundUnder}
+use Rattle.tree_rules.proofs.Every.{each-left, each-right}
+use Rattle.tree_rules.proofs.Totals.{total-both, leaves-at, nodes-at, leaves-hull, nodes-hull}
+use Rattle.tree_rules.proofs.Kept.{Agree, kept-leaves, kept-nodes, kept-sound, sound-node}
+use Rattle.permutation.proofs.Perms.{perm-sym, perm-snoc}
+use Rattle.tree_rules.proofs.Perms.{perm-each, perm-total}
 use Rattle.tree_split.specs.Parted.{Parted}
 use Rattle.tree_add.specs.declared.Room.{Room}
-use Rattle.tree_add.specs.Steps.{spill, Placed, Open, Renewed}
+use Rattle.tree_add.specs.Steps.{spill, PutBehind, Divisible, Renewed}
 
 -- node c is not free
-pub open-not-free : (h c : ℕ) (xs : List Entry) (b : List ℕ) → Open h c xs b → tally c (free b) ≡ 0
+pub open-not-free : (h c : ℕ) (xs : List NodeEntry) (b : List ℕ) → Divisible h c xs b → tally c (free b) ≡ 0
 open-not-free h c xs b op = omega (arith, op .apart c, hit-same c c refl)
 
 -- the nine entries of node c, x among them, are shared with node s
-module _ (h c s : ℕ) (x : Entry) (b b₁ : List ℕ) (op : Open h c (x ∷ []) b) (sp : Parted c s x b b₁) where
+module _ (h c s : ℕ) (x : NodeEntry) (b b₁ : List ℕ) (op : Divisible h c (x ∷ []) b) (sp : Parted c s x b b₁) where
   pub half-taken : (w : ℕ → ℕ) → total w (free b) ≡ w s + total w (free b₁)
   half-taken = taken-total (free b) (free b₁) s (sp .taken)
 
@@ -61,27 +62,27 @@ module _ (h c s : ℕ) (x : Entry) (b b₁ : List ℕ) (op : Open h c (x ∷ [])
   -- later the two nodes have the same entries, and so has what lies under them
   module _ (b′ : List ℕ) (same-c : entries b′ c ≡ entries b₁ c) (same-s : entries b′ s ≡ entries b₁ s)
       (agree : Agree (entries b) (entries b′) (joined (nodes (entries b) h) (entries b c ++ (x ∷ [])))) where
-    each-half : Each (Sound (entries b′) h) (entries b₁ c ++ entries b₁ s)
+    each-half : Each (SoundUnder (entries b′) h) (entries b₁ c ++ entries b₁ s)
     each-half =
         perm-each
-        (Sound (entries b′) h)
+        (SoundUnder (entries b′) h)
         (perm-sym nine)
         (kept-sound (entries b) (entries b′) h (entries b c ++ (x ∷ [])) agree (op .sound))
 
-    pub half-old : Sound (entries b′) (suc h) (hull c (entries b′ c))
+    pub half-old : SoundUnder (entries b′) (suc h) (hull c (entries b′ c))
     half-old =
         sound-node (entries b′) h c (op .id) (rw same-c (sp .least .0)) (eight b′ c)
-        (rw same-c (each-left (Sound (entries b′) h) (entries b₁ c) (entries b₁ s) each-half))
+        (rw same-c (each-left (SoundUnder (entries b′) h) (entries b₁ c) (entries b₁ s) each-half))
 
-    pub half-new : Sound (entries b′) (suc h) (hull s (entries b′ s))
+    pub half-new : SoundUnder (entries b′) (suc h) (hull s (entries b′ s))
     half-new =
         sound-node (entries b′) h s (sp .id) (rw same-s (sp .least .1)) (eight b′ s)
-        (rw same-s (each-right (Sound (entries b′) h) (entries b₁ c) (entries b₁ s) each-half))
+        (rw same-s (each-right (SoundUnder (entries b′) h) (entries b₁ c) (entries b₁ s) each-half))
 
-    both : {A : Type 0} (w : A → ℕ) (f : Entry → List A) → total w (joined f (entries b′ c)) + total w (joined f (entries b′ s)) ≡ total w (joined f (entries b c ++ (x ∷ [])))
+    both : {A : Type 0} (w : A → ℕ) (f : NodeEntry → List A) → total w (joined f (entries b′ c)) + total w (joined f (entries b′ s)) ≡ total w (joined f (entries b c ++ (x ∷ [])))
     both w f = rw (same-c, same-s) (omega (arith, total-both w f (entries b₁ c) (entries b₁ s), perm-total w f nine))
 
-    pub half-leaves : (w : Entry → ℕ) → total w (joined (leaves (entries b′) (suc h)) (hull c (entries b′ c) ∷ hull s (entries b′ s) ∷ []))
+    pub half-leaves : (w : NodeEntry → ℕ) → total w (joined (leaves (entries b′) (suc h)) (hull c (entries b′ c) ∷ hull s (entries b′ s) ∷ []))
         ≡ total w (joined (leaves (entries b) h) (entries b c ++ (x ∷ [])))
     unfolding joined total
     half-leaves w =
@@ -112,7 +113,7 @@ module _ (h c s : ℕ) (x : Entry) (b b₁ : List ℕ) (op : Open h c (x ∷ [])
         )
 
 -- node c and what it hands back lie under node n
-module _ (h n c : ℕ) (xs : List Entry) (b : List ℕ) (hn : hit n c + tally n (joined (nodes (entries b) h) (entries b c ++ xs)) ≡ 0) where
+module _ (h n c : ℕ) (xs : List NodeEntry) (b : List ℕ) (hn : hit n c + tally n (joined (nodes (entries b) h) (entries b c ++ xs)) ≡ 0) where
   pub under-not : c ≡ n → ⊥
   under-not q = omega (arith, hit-same n c (sym q))
 
@@ -122,7 +123,7 @@ module _ (h n c : ℕ) (xs : List Entry) (b : List ℕ) (hn : hit n c + tally n 
       omega arith
 
 -- the split of c leaves its parent n
-module _ (h n c s : ℕ) (x : Entry) (b b₁ : List ℕ) (hn : hit n c + tally n (joined (nodes (entries b) h) (entries b c ++ (x ∷ []))) ≡ 0) (hf : tally n (free b) ≡ 0) (sp : Parted c s x b b₁) where
+module _ (h n c s : ℕ) (x : NodeEntry) (b b₁ : List ℕ) (hn : hit n c + tally n (joined (nodes (entries b) h) (entries b c ++ (x ∷ []))) ≡ 0) (hf : tally n (free b) ≡ 0) (sp : Parted c s x b b₁) where
   half-n : entries b₁ n ≡ entries b n
   half-n =
       sp .rest n
@@ -133,8 +134,8 @@ module _ (h n c s : ℕ) (x : Entry) (b b₁ : List ℕ) (hn : hit n c + tally n
   half-in k lt = rw half-n lt
 
   -- n's entry for c is set anew, and one for s is added or handed back
-  pub renewed-split : (r : Room) (k : ℕ) (g : Entry) (b₂ b₃ : List ℕ) → Open h c (x ∷ []) b → n < maxNodes → Wrote n (set (entries b₁ n) k (hull c (entries b₁ c))) b₁ b₂
-      → g ≡ hull s (entries b₂ s) → Placed r n g b₂ b₃ → Renewed r h n k c (x ∷ []) b b₃
+  pub renewed-split : (r : Room) (k : ℕ) (g : NodeEntry) (b₂ b₃ : List ℕ) → Divisible h c (x ∷ []) b → n < maxNodes → Wrote n (set (entries b₁ n) k (hull c (entries b₁ c))) b₁ b₂
+      → g ≡ hull s (entries b₂ s) → PutBehind r n g b₂ b₃ → Renewed r h n k c (x ∷ []) b b₃
   unfolding Each
   renewed-split r k g b₂ b₃ op lt w qg pl =
       let E : Store = entries b in
@@ -166,7 +167,7 @@ module _ (h n c s : ℕ) (x : Entry) (b b₁ : List ℕ) (hn : hit n c + tally n
       }
 
 -- c has room: its entry in n is set anew
-pub renewed-same : (h n k c : ℕ) (b b′ : List ℕ) → Open h c [] b → hit n c + tally n (joined (nodes (entries b) h) (entries b c ++ [])) ≡ 0 → n < maxNodes → minEntries ≤ length (entries b c)
+pub renewed-same : (h n k c : ℕ) (b b′ : List ℕ) → Divisible h c [] b → hit n c + tally n (joined (nodes (entries b) h) (entries b c ++ [])) ≡ 0 → n < maxNodes → minEntries ≤ length (entries b c)
     → Wrote n (set (entries b n) k (hull c (entries b c))) b b′ → Renewed Room.Kept h n k c [] b b′
 unfolding spill joined total Each
 renewed-same h n k c b b′ op hn lt lo w =
@@ -175,8 +176,8 @@ renewed-same h n k c b b′ op hn lt lo w =
     let same : E′ c ≡ E c = others (w .only) c (under-not h n c [] b hn) in
     let nil : E c ++ [] ≡ E c = append-nil (E c) in
     let agree : Agree E E′ (joined (nodes E h) (E c)) = λ m z.
-    others (w .only) m (under-out h n c [] b hn m (subst (λ (l : List Entry). 0 < tally m (joined (nodes E h) l)) (sym nil) z)) in
-    let sd : Each (Sound E h) (E c) = subst (λ (l : List Entry). Each (Sound E h) l) nil (op .sound) in
+    others (w .only) m (under-out h n c [] b hn m (subst (λ (l : List NodeEntry). 0 < tally m (joined (nodes E h) l)) (sym nil) z)) in
+    let sd : Each (SoundUnder E h) (E c) = subst (λ (l : List NodeEntry). Each (SoundUnder E h) l) nil (op .sound) in
     let o : Only poolStart tableBytes b b′ = in-pool lt (w .only) in
     record {
       extra = [];
@@ -189,7 +190,7 @@ renewed-same h n k c b b′ op hn lt lo w =
             arith,
             leaves-hull E′ h c (E′ c) [] v,
             leaves-at E′ h c (E c) same v,
-            ap (λ (l : List Entry). total v (joined (leaves E h) l)) nil,
+            ap (λ (l : List NodeEntry). total v (joined (leaves E h) l)) nil,
             ap (total v) (kept-leaves E E′ h (E c) agree),
           );
       ids = λ v.
@@ -197,7 +198,7 @@ renewed-same h n k c b b′ op hn lt lo w =
             arith,
             nodes-hull E′ h c (E′ c) [] v,
             nodes-at E′ h c (E c) same v,
-            ap (λ (l : List Entry). total v (joined (nodes E h) l)) nil,
+            ap (λ (l : List NodeEntry). total v (joined (nodes E h) l)) nil,
             ap (total v) (kept-nodes E E′ h (E c) agree),
             ap (total v) (free-kept o),
           );

@@ -9,27 +9,27 @@ use lib.ListN.{length, length-append}
 use Rattle.limits.specs.Limits.{maxEntries, maxLevels, maxNodes, maxSites, tableBytes}
 use Rattle.words.specs.Words.{Only}
 use Rattle.words.proofs.Frame.{only-trans, only-wider}
-use Rattle.node.specs.declared.Entry.{Entry}
-use Rattle.node.specs.declared.Root.{Root}
-use Rattle.node.specs.Layout.{poolStart}
-use Rattle.node.specs.Node.{entries, Wrote}
-use Rattle.node.specs.Free.{free, Taken}
-use Rattle.node.specs.Header.{rootIn, Small, Headed}
-use Rattle.node.specs.Boxes.{hull}
-use Rattle.node.specs.Tally.{total, hit, tally, Within}
-use Rattle.node.proofs.Counting.{total-one, taken-total, taken-not, hit-same}
-use Rattle.node.proofs.Reading.{eight}
-use Rattle.node.proofs.Storing.{others, in-pool, in-tree}
-use Rattle.node.proofs.FreeStack.{free-kept}
-use Rattle.rtree.specs.Tree.{Store, joined, leaves, nodes, Each, Sound}
-use Rattle.rtree.specs.Rooted.{treeLeaves, treeNodes, RootSound, Rooted, leavesIn}
-use Rattle.rtree.proofs.Totals.{leaves-at, nodes-at}
-use Rattle.rtree.proofs.Kept.{Agree}
-use Rattle.rtree.proofs.Roots.{root-node, root-ready, root-levels, root-free, rooted-small, rooted-by}
-use Rattle.rtree.proofs.Outside.{rooted-headed, leaves-headed}
+use Rattle.tree_node.specs.declared.NodeEntry.{NodeEntry}
+use Rattle.tree_node.specs.declared.Root.{Root}
+use Rattle.tree_node.specs.Layout.{poolStart}
+use Rattle.tree_node.specs.Node.{entries, Wrote}
+use Rattle.tree_node.specs.Free.{free, Taken}
+use Rattle.tree_node.specs.Header.{rootIn, SmallRoot, Headed}
+use Rattle.tree_node.specs.Boxes.{hull}
+use Rattle.tree_node.specs.Tally.{total, hit, tally, Within}
+use Rattle.tree_node.proofs.Counting.{total-one, taken-total, taken-not, hit-same}
+use Rattle.tree_node.proofs.Reading.{eight}
+use Rattle.tree_node.proofs.Storing.{others, in-pool, in-tree}
+use Rattle.tree_node.proofs.FreeStack.{free-kept}
+use Rattle.tree_rules.specs.Tree.{Store, joined, leaves, nodes, Each, SoundUnder}
+use Rattle.tree_rules.specs.Rooted.{treeLeaves, treeNodes, RootSound, Rooted, leavesIn}
+use Rattle.tree_rules.proofs.Totals.{leaves-at, nodes-at}
+use Rattle.tree_rules.proofs.Kept.{Agree}
+use Rattle.tree_rules.proofs.Roots.{root-node, root-ready, root-levels, root-free, rooted-small, rooted-by}
+use Rattle.tree_rules.proofs.Outside.{rooted-headed, leaves-headed}
 use Rattle.tree_split.specs.Parted.{Parted}
 use Rattle.tree_add.specs.declared.Room.{Room}
-use Rattle.tree_add.specs.Steps.{spill, Open, Inserted, Raised, Planted}
+use Rattle.tree_add.specs.Steps.{spill, Divisible, InsertedUnder, Raised, Planted}
 use Rattle.tree_add.specs.Added.{Added}
 use Rattle.tree_add.proofs.Halves.{half-taken, half-not-c, half-not-s, half-rest, half-old, half-new, half-leaves, half-nodes}
 use Rattle.tree_add.proofs.Upward.{after-open, after-full}
@@ -60,7 +60,7 @@ module _ (r : ℕ) (b b₁ : List ℕ) (tk : Taken r [] b b₁) where
         }
 
 -- a root with eight entries, and x
-module _ (g n s : ℕ) (x : Entry) (b b₁ : List ℕ) (op : Open g n (x ∷ []) b) (sp : Parted n s x b b₁) where
+module _ (g n s : ℕ) (x : NodeEntry) (b b₁ : List ℕ) (op : Divisible g n (x ∷ []) b) (sp : Parted n s x b b₁) where
   pub rise-some : 2 ≤ length (free b) → 0 < length (free b₁)
   rise-some le = omega (arith, ap length (sp .taken))
 
@@ -109,11 +109,11 @@ module _ (g n : ℕ) (b : List ℕ) (rt : Rooted (Root.Top g n) b) where
   pub root-enough : length (treeLeaves (entries b) (Root.Top g n)) < maxSites → g ≤ length (free b)
   root-enough le = omega (arith, root-free g n b rt le)
 
-  module _ (e : Entry) (b₁ : List ℕ) where
-    pub plant-kept : (o : Room) → o ≡ Room.Kept → Inserted o g n e b b₁ → Planted (Root.Top g n) e (Root.Top g n) b b₁
+  module _ (e : NodeEntry) (b₁ : List ℕ) where
+    pub plant-kept : (o : Room) → o ≡ Room.Kept → InsertedUnder o g n e b b₁ → Planted (Root.Top g n) e (Root.Top g n) b b₁
     unfolding spill RootSound treeLeaves treeNodes
     plant-kept o q a =
-        let ad : Inserted Room.Kept g n e b b₁ = rw q at a in
+        let ad : InsertedUnder Room.Kept g n e b b₁ = rw q at a in
         let E₁ : Store = entries b₁ in
         let nil : E₁ n ++ [] ≡ E₁ n = append-nil (E₁ n) in
         let top = root-node g n b rt in
@@ -125,18 +125,18 @@ module _ (g n : ℕ) (b : List ℕ) (rt : Rooted (Root.Top g n) b) where
                 two = λ z. omega (arith, top .two z, ad .least);
                 one = omega (arith, top .one, ad .least);
                 most = eight b₁ n;
-                below = subst (λ (l : List Entry). Each (Sound E₁ g) l) nil (ad .sound);
+                below = subst (λ (l : List NodeEntry). Each (SoundUnder E₁ g) l) nil (ad .sound);
               }
-              (λ w. omega (arith, ad .ids w, nodes-at E₁ g n (E₁ n) refl w, ap (λ (l : List Entry). total w (joined (nodes E₁ g) l)) nil));
-          leaf = λ w. omega (arith, ad .leaf w, leaves-at E₁ g n (E₁ n) refl w, ap (λ (l : List Entry). total w (joined (leaves E₁ g) l)) nil);
+              (λ w. omega (arith, ad .ids w, nodes-at E₁ g n (E₁ n) refl w, ap (λ (l : List NodeEntry). total w (joined (nodes E₁ g) l)) nil));
+          leaf = λ w. omega (arith, ad .leaf w, leaves-at E₁ g n (E₁ n) refl w, ap (λ (l : List NodeEntry). total w (joined (leaves E₁ g) l)) nil);
           only = ad .only;
         }
 
-    module _ (o : Room) (x : Entry) (q : o ≡ Room.Over x) (a : Inserted o g n e b b₁) where
-      spilt : Inserted (Room.Over x) g n e b b₁
+    module _ (o : Room) (x : NodeEntry) (q : o ≡ Room.Over x) (a : InsertedUnder o g n e b b₁) where
+      spilt : InsertedUnder (Room.Over x) g n e b b₁
       spilt = rw q at a
 
-      pub plant-open : Open g n (x ∷ []) b₁
+      pub plant-open : Divisible g n (x ∷ []) b₁
       unfolding spill
       plant-open = after-open (Room.Over x) g n e b b₁ (root-ready g n b rt) spilt
 
@@ -168,8 +168,8 @@ module _ (b : List ℕ) (rt : Rooted Root.Empty b) where
   unfolding Within
   first-within m z = rt .within m (omega arith)
 
-  pub first-done : (n : ℕ) (e : Entry) (b₁ b₂ : List ℕ) → Taken n [] b b₁ → Wrote n (entries b₁ n ++ (e ∷ [])) b₁ b₂ → Planted Root.Empty e (Root.Top 0 n) b b₂
-  unfolding RootSound treeLeaves treeNodes joined total Each Sound leaves nodes
+  pub first-done : (n : ℕ) (e : NodeEntry) (b₁ b₂ : List ℕ) → Taken n [] b b₁ → Wrote n (entries b₁ n ++ (e ∷ [])) b₁ b₂ → Planted Root.Empty e (Root.Top 0 n) b b₂
+  unfolding RootSound treeLeaves treeNodes joined total Each SoundUnder leaves nodes
   first-done n e b₁ b₂ tk w =
       let here : entries b₂ n ≡ e ∷ [] = w .here ∙ rw (tk .here) in
       let o : Only poolStart tableBytes b₁ b₂ = in-pool (tk .id) (w .only) in
@@ -199,8 +199,8 @@ module _ (r : Root) (b : List ℕ) (q : r ≡ rootIn b) where
   unfolding leavesIn
   told-few le = rw q le
 
-  module _ (e : Entry) (r′ : Root) (b₁ : List ℕ) (pl : Planted r e r′ b b₁) where
-    pub told-small : length (leavesIn b) < maxSites → Small r′
+  module _ (e : NodeEntry) (r′ : Root) (b₁ : List ℕ) (pl : Planted r e r′ b b₁) where
+    pub told-small : length (leavesIn b) < maxSites → SmallRoot r′
     told-small le =
         rooted-small r′ b₁ (pl .rooted)
         (omega (arith, pl .leaf (λ _. 1), total-one (treeLeaves (entries b₁) r′), total-one (treeLeaves (entries b) r), told-few le))

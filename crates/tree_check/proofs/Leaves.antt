@@ -8,19 +8,19 @@ use borrow.Author.Tests.{eq-eqb, ne-eqb}
 use lib.ListN.{length, getD}
 use Rattle.grid.specs.declared.Site.{Site}
 use Rattle.book.specs.Proper.{Rising}
-use Rattle.sites.specs.Lines.{linesIn, noSite, numberOf}
-use Rattle.sites.proofs.Order.{rising-at, rising-tail}
-use Rattle.node.specs.declared.Entry.{Entry}
-use Rattle.rtree.specs.Tree.{Each}
-use Rattle.rtree.specs.Rooted.{leavesIn}
-use Rattle.rtree.proofs.Members.{same-length}
+use Rattle.table_sites.specs.Lines.{linesIn, noSite, numberOf}
+use Rattle.table_sites.proofs.Order.{rising-at, rising-tail}
+use Rattle.tree_node.specs.declared.NodeEntry.{NodeEntry}
+use Rattle.tree_rules.specs.Tree.{Each}
+use Rattle.tree_rules.specs.Rooted.{leavesIn}
+use Rattle.tree_rules.proofs.Members.{same-length}
 use Rattle.tree_check.specs.Leaves.{leafEntry, leafEntries, indexOf, Known}
 use Rattle.tree_check.specs.Tied.{Tied}
 
 pub leaves-append : (s u : List Site) → leafEntries (s ++ u) ≡ leafEntries s ++ leafEntries u
 unfolding leafEntries
 leaves-append [] u = refl
-leaves-append (p ∷ s) u = ap (λ (l : List Entry). leafEntry p ∷ l) (leaves-append s u)
+leaves-append (p ∷ s) u = ap (λ (l : List NodeEntry). leafEntry p ∷ l) (leaves-append s u)
 
 leaves-length : (s : List Site) → length (leafEntries s) ≡ length s
 unfolding leafEntries
@@ -41,11 +41,11 @@ index-of (p ∷ s) r (suc k) x h e =
     rw (ne-eqb (p .number) x (λ q. omega arith)) (ap suc (index-of s (rising-tail p s r) k x (omega arith) e))
 
 -- a known entry has the number of its line
-pub known-number : (s : List Site) (e : Entry) → Known s e → numberOf s (indexOf s (e .reference)) ≡ e .reference
-known-number s e p = sym (ap (λ (d : Entry). d .reference) (p .leaf))
+pub known-number : (s : List Site) (e : NodeEntry) → Known s e → numberOf s (indexOf s (e .reference)) ≡ e .reference
+known-number s e p = sym (ap (λ (d : NodeEntry). d .reference) (p .leaf))
 
 -- what holds of each line's leaf entry
-each-line : (P : Entry → Type 0) (s : List Site) → ((k : ℕ) → k < length s → P (leafEntry (getD s k noSite))) → Each P (leafEntries s)
+each-line : (P : NodeEntry → Type 0) (s : List Site) → ((k : ℕ) → k < length s → P (leafEntry (getD s k noSite))) → Each P (leafEntries s)
 unfolding leafEntries Each
 each-line P [] f = tt
 each-line P (p ∷ s) f = (f 0 (omega arith), each-line P s (λ k h. f (suc k) (omega arith)))

@@ -12,8 +12,8 @@ use lib.Dec.{ltb}
 use lib.ListN.{length, getD, set, length-set}
 use lib.Seq.{getD-set-same, getD-set-other}
 use Rattle.grid.specs.Says.{Says}
-use Rattle.node.specs.Tally.{hit}
-use Rattle.node.proofs.Counting.{hit-same}
+use Rattle.tree_node.specs.Tally.{hit}
+use Rattle.tree_node.proofs.Counting.{hit-same}
 use Rattle.tree_check.specs.Marks.{markBytes, seenBytes, Blank, Full, Fresh, Marked, Bits, Prepared}
 
 pub hit-not : (x y : ℕ) → (x ≡ y → ⊥) → hit x y ≡ 0

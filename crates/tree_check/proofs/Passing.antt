@@ -12,24 +12,24 @@ use Rattle.limits.specs.Limits.{minEntries, maxNodes, maxSites}
 use Rattle.grid.specs.declared.Site.{Site}
 use Rattle.grid.specs.Says.{Says}
 use Rattle.grid.proofs.Says.{says-yes, says-no}
-use Rattle.sites.specs.declared.Found.{Found}
-use Rattle.sites.specs.Lines.{linesIn, lineAt, noSite, Array, StandsAt, FoundAs}
-use Rattle.sites.proofs.Reading.{line-at}
-use Rattle.sites.proofs.Finding.{found-at, found-absent, absent-missing, at-counted}
-use Rattle.node.specs.declared.Entry.{Entry}
-use Rattle.node.specs.Boxes.{hull}
-use Rattle.node.specs.Node.{entries, noEntry}
-use Rattle.node.specs.Tally.{total, hit}
-use Rattle.node.specs.Told.{Told}
-use Rattle.node.proofs.Counting.{hit-same}
-use Rattle.node.proofs.Reading.{eight}
-use Rattle.node.proofs.Telling.{told-yes, told-no, told-map}
-use Rattle.rtree.specs.Tree.{joined, leaves, nodes, Each, Child, Sound}
-use Rattle.rtree.proofs.Every.{each-append, each-left, each-right}
-use Rattle.rtree.proofs.Totals.{total-cons}
+use Rattle.table_sites.specs.declared.Found.{Found}
+use Rattle.table_sites.specs.Lines.{linesIn, lineAt, noSite, Array, StandsAt, FoundAs}
+use Rattle.table_sites.proofs.Reading.{line-at}
+use Rattle.table_sites.proofs.Finding.{found-at, found-absent, absent-missing, at-counted}
+use Rattle.tree_node.specs.declared.NodeEntry.{NodeEntry}
+use Rattle.tree_node.specs.Boxes.{hull}
+use Rattle.tree_node.specs.Node.{entries, noEntry}
+use Rattle.tree_node.specs.Tally.{total, hit}
+use Rattle.tree_node.specs.Told.{Told}
+use Rattle.tree_node.proofs.Counting.{hit-same}
+use Rattle.tree_node.proofs.Reading.{eight}
+use Rattle.tree_node.proofs.Telling.{told-yes, told-no, told-map}
+use Rattle.tree_rules.specs.Tree.{joined, leaves, nodes, Each, Child, SoundUnder}
+use Rattle.tree_rules.proofs.Every.{each-append, each-left, each-right}
+use Rattle.tree_rules.proofs.Totals.{total-cons}
 use Rattle.tree_check.specs.Marks.{markBytes, recordMark, Fresh, Marked, Bits, Prepared}
 use Rattle.tree_check.specs.Leaves.{leafEntry, indexOf, Known}
-use Rattle.tree_check.specs.Walk.{asked, met, Pass, Fits}
+use Rattle.tree_check.specs.Walk.{askedFor, met, Pass, Fits}
 use Rattle.tree_check.proofs.Marking.{marked-both, fresh-first, fresh-then, fresh-both, marked-set, fresh-at, fresh-hit, prepared-on, fresh-none, marked-none}
 use Rattle.tree_check.proofs.Leaves.{index-of, known-number}
 
@@ -46,13 +46,13 @@ told-says false f g t = λ c. t .no refl (g c)
 -- what is asked for, part by part
 module _ (b : List ℕ) (h : ℕ) where
   met-none : (m : ℕ) → met b h [] m ≡ 0
-  unfolding met asked joined total
+  unfolding met askedFor joined total
   met-none m = refl
 
-  met-cons : (e : Entry) (l : List Entry) (m : ℕ) → met b h (e ∷ l) m ≡ met b h (e ∷ []) m + met b h l m
-  unfolding met asked joined total
+  met-cons : (e : NodeEntry) (l : List NodeEntry) (m : ℕ) → met b h (e ∷ l) m ≡ met b h (e ∷ []) m + met b h l m
+  unfolding met askedFor joined total
   met-cons e l m =
-      let w : Entry → ℕ = λ d. hit m (recordMark (indexOf (linesIn b) (d .reference))) in
+      let w : NodeEntry → ℕ = λ d. hit m (recordMark (indexOf (linesIn b) (d .reference))) in
       omega (
         arith,
         total-cons (hit m) (nodes (entries b) h) e l,
@@ -61,18 +61,18 @@ module _ (b : List ℕ) (h : ℕ) where
         total-cons w (leaves (entries b) h) e [],
       )
 
-  met-node : (e : Entry) (m : ℕ) → met b (suc h) (e ∷ []) m ≡ hit m (e .reference) + met b h (entries b (e .reference)) m
-  unfolding met asked joined total nodes leaves
+  met-node : (e : NodeEntry) (m : ℕ) → met b (suc h) (e ∷ []) m ≡ hit m (e .reference) + met b h (entries b (e .reference)) m
+  unfolding met askedFor joined total nodes leaves
   met-node e m =
-      let w : Entry → ℕ = λ d. hit m (recordMark (indexOf (linesIn b) (d .reference))) in
+      let w : NodeEntry → ℕ = λ d. hit m (recordMark (indexOf (linesIn b) (d .reference))) in
       omega (
         arith,
         total-cons (hit m) (nodes (entries b) (suc h)) e [],
         total-cons w (leaves (entries b) (suc h)) e [],
       )
 
-met-leaf : (b : List ℕ) (e : Entry) (m : ℕ) → met b 0 (e ∷ []) m ≡ hit m (recordMark (indexOf (linesIn b) (e .reference)))
-unfolding met asked joined total nodes leaves
+met-leaf : (b : List ℕ) (e : NodeEntry) (m : ℕ) → met b 0 (e ∷ []) m ≡ hit m (recordMark (indexOf (linesIn b) (e .reference)))
+unfolding met askedFor joined total nodes leaves
 met-leaf b e m = omega arith
 
 -- entries one after the other
@@ -81,7 +81,7 @@ module _ (b : List ℕ) (h : ℕ) (o : List ℕ) where
   unfolding joined Each
   pass-none s = record { sound = tt; known = tt; fresh = fresh-none o (met b h []) (met-none b h) (s .bits) }
 
-  module _ (e : Entry) (l : List Entry) where
+  module _ (e : NodeEntry) (l : List NodeEntry) where
     pass-head : Pass b h (e ∷ l) o → Pass b h (e ∷ []) o
     unfolding joined Each
     pass-head p =
@@ -126,7 +126,7 @@ module _ (b : List ℕ) (h c k j : ℕ) (o : List ℕ) (count : j ≡ length (en
       let le : length (entries b c) ≤ k = omega arith in
       rw (drop-of-length-le (entries b c) le) (told-yes (pass-none b h o s) (marked-none o (met b h []) (met-none b h)))
 
-  module _ (e : Entry) (lt : k < j) (q : e ≡ getD (entries b c) k noEntry) where
+  module _ (e : NodeEntry) (lt : k < j) (q : e ≡ getD (entries b c) k noEntry) where
     here : drop k (entries b c) ≡ e ∷ drop (k + 1) (entries b c)
     here = drop-cons (entries b c) k noEntry (omega arith) ∙ rw (← q, add-one)
 
@@ -138,7 +138,7 @@ module _ (b : List ℕ) (h c k j : ℕ) (o : List ℕ) (count : j ≡ length (en
         → Told s (Pass b h (drop k (entries b c)) o) (Marked (met b h (drop k (entries b c))) o o₂)
     node-told r s o₁ o₂ t z u =
         let p = t .yes z in
-        let l : List Entry = drop (k + 1) (entries b c) in
+        let l : List NodeEntry = drop (k + 1) (entries b c) in
         rw here
         (told-map
         (pass-cons b h o e l o₁ (p .1) (p .0))
@@ -151,7 +151,7 @@ pub leaf-in : (b : List ℕ) (x : Found) (k n : ℕ) → FoundAs x n (linesIn b)
 leaf-in b x k n f q a = omega (arith, at-counted b (found-at q f), a .few)
 
 -- a leaf entry
-module _ (b o : List ℕ) (e : Entry) where
+module _ (b o : List ℕ) (e : NodeEntry) where
   leaf-known : Pass b 0 (e ∷ []) o → Known (linesIn b) e
   unfolding joined leaves Each
   leaf-known p = p .known .0
@@ -171,7 +171,7 @@ module _ (b o : List ℕ) (e : Entry) where
       is-index : indexOf (linesIn b) (e .reference) ≡ k
       is-index = index-of (linesIn b) (s .array .rising) k (e .reference) (stands .line) (stands .number)
 
-      module _ (p : Site) (d : Entry) (qp : p ≡ lineAt b k) (qd : d ≡ leafEntry p) (r : Bool) (t : Told r (e ≡ d) (e ≡ d)) where
+      module _ (p : Site) (d : NodeEntry) (qp : p ≡ lineAt b k) (qd : d ≡ leafEntry p) (r : Bool) (t : Told r (e ≡ d) (e ≡ d)) where
         own : d ≡ leafEntry (getD (linesIn b) k noSite)
         own = qd ∙ ap leafEntry (qp ∙ sym (line-at b k noSite (at-counted b stands)))
 
@@ -181,7 +181,7 @@ module _ (b o : List ℕ) (e : Entry) where
 
         pub leaf-told : (u : Bool) (o₁ : List ℕ) → r ≡ true → Told u (getD o (maxNodes + k) 0 ≡ 0) (o₁ ≡ set o (maxNodes + k) 1)
             → Told u (Pass b 0 (e ∷ []) o) (Marked (met b 0 (e ∷ [])) o o₁)
-        unfolding joined leaves Each Sound Fresh Marked Bits
+        unfolding joined leaves Each SoundUnder Fresh Marked Bits
         leaf-told u o₁ y v =
             let low = leaf-in b x k (e .reference) f q (s .array) in
             told-both
@@ -209,9 +209,9 @@ pub node-leaf : (b : List ℕ) (h c : ℕ) (o o₁ : List ℕ) (r : Bool) → h 
 node-leaf b h c o o₁ r z t = rw z t
 
 -- an entry above the leaves
-module _ (b : List ℕ) (g : ℕ) (o : List ℕ) (e : Entry) where
-  child : Pass b (suc g) (e ∷ []) o → Child (entries b) (Sound (entries b) g) e
-  unfolding Each Sound
+module _ (b : List ℕ) (g : ℕ) (o : List ℕ) (e : NodeEntry) where
+  child : Pass b (suc g) (e ∷ []) o → Child (entries b) (SoundUnder (entries b) g) e
+  unfolding Each SoundUnder
   child p = p .sound .0
 
   child-met : e .reference < maxNodes → Pass b (suc g) (e ∷ []) o → getD o (e .reference) 0 ≡ 0
@@ -226,7 +226,7 @@ module _ (b : List ℕ) (g : ℕ) (o : List ℕ) (e : Entry) where
 
   module _ (lt : e .reference < maxNodes) (o₁ : List ℕ) (one : Marked (λ m. hit m (e .reference)) o o₁) where
     pass-up : Fits b e → Pass b g (entries b (e .reference)) o₁ → Pass b (suc g) (e ∷ []) o
-    unfolding Each Sound joined leaves
+    unfolding Each SoundUnder joined leaves
     pass-up f p =
         record {
           sound =
@@ -254,7 +254,7 @@ at-height : (P : ℕ → Type 0) (h : ℕ) → (h ≡ 0 → ⊥) → P (suc (h -
 at-height P h up p = let u : suc (h - 1) ≡ h = omega arith in subst P u p
 
 -- the same as the code reads it
-module _ (b : List ℕ) (h : ℕ) (o : List ℕ) (e : Entry) (up : h ≡ 0 → ⊥) where
+module _ (b : List ℕ) (h : ℕ) (o : List ℕ) (e : NodeEntry) (up : h ≡ 0 → ⊥) where
   pub entry-far : {B : Type 0} → maxNodes ≤ e .reference → Told false (Pass b h (e ∷ []) o) B
   entry-far {B} le =
       at-height (λ x. Told false (Pass b x (e ∷ []) o) B) h up (told-no (λ p. omega (arith, child b (h - 1) o e p .id)))
@@ -289,11 +289,11 @@ module _ (b : List ℕ) (h : ℕ) (o : List ℕ) (e : Entry) (up : h ≡ 0 → �
       p)
 
 -- whether an entry fits its child node
-module _ (b : List ℕ) (e : Entry) where
+module _ (b : List ℕ) (e : NodeEntry) where
   pub fits-few : (k : ℕ) → k ≡ length (entries b (e .reference)) → k < minEntries → ¬ Fits b e
   fits-few k q lt p = omega (arith, p .least)
 
-  pub fits-told : (k : ℕ) (f : Entry) (r : Bool) → k ≡ length (entries b (e .reference)) → minEntries ≤ k → f ≡ hull (e .reference) (entries b (e .reference))
+  pub fits-told : (k : ℕ) (f : NodeEntry) (r : Bool) → k ≡ length (entries b (e .reference)) → minEntries ≤ k → f ≡ hull (e .reference) (entries b (e .reference))
       → Told r (e ≡ f) (e ≡ f) → Says r (Fits b e)
   fits-told k f r q le h t =
       told-says r (λ (z : e ≡ f). record { box = z ∙ h; least = omega arith }) (λ (p : Fits b e). p .box ∙ sym h) t
@@ -314,7 +314,7 @@ module _ (b : List ℕ) (o o₁ : List ℕ) (r : Bool) (s : Prepared b o) (y : r
       (marked-set o o₁ c (s .room) (omega arith) (z .0) (z .1))
       (ap length (z .1) ∙ length-set o c 1)
 
-  prepared-next : (h : ℕ) (l : List Entry) → Told r (Pass b h l o) (Marked (met b h l) o o₁) → length o₁ ≡ length o → Prepared b o₁
+  prepared-next : (h : ℕ) (l : List NodeEntry) → Told r (Pass b h l o) (Marked (met b h l) o o₁) → length o₁ ≡ length o → Prepared b o₁
   prepared-next h l t len = let z = t .yes y in prepared-on b o o₁ (met b h l) s (z .0 .fresh) (z .1) len
 
 -- The loop over a node's entries, which stand at height h: they are left from the kth on, and whoever tells of these tells of the node.
@@ -332,7 +332,7 @@ module _ (b : List ℕ) (h c : ℕ) (o₀ : List ℕ) (k : ℕ) (o : List ℕ) (
   pub left-none : j ≤ k → Told true (Pass b h (entries b c) o₀) (Marked (met b h (entries b c)) o₀ o)
   left-none past = w .rest true o (node-end b h c k j o count (w .prepared) past)
 
-  module _ (e : Entry) (lt : k < j) (q : e ≡ getD (entries b c) k noEntry) (r : Bool) (o₁ : List ℕ) (t : Told r (Pass b h (e ∷ []) o) (Marked (met b h (e ∷ [])) o o₁)) where
+  module _ (e : NodeEntry) (lt : k < j) (q : e ≡ getD (entries b c) k noEntry) (r : Bool) (o₁ : List ℕ) (t : Told r (Pass b h (e ∷ []) o) (Marked (met b h (e ∷ [])) o o₁)) where
     pub left-no : r ≡ false → Told false (Pass b h (entries b c) o₀) (Marked (met b h (entries b c)) o₀ o₁)
     left-no z = w .rest false o₁ (node-no b h c k j o count e lt q r t z)
 

@@ -5,15 +5,15 @@ use mathlib.Core.Logic.{⊎-elim}
 use Prim.Native.Nat.{ℕ, zero, suc, _≤_, _<_}
 use native.Mathlib.Omega.{arith}
 use Rattle.limits.specs.Limits.{maxNodes}
-use Rattle.node.specs.declared.Entry.{Entry}
-use Rattle.node.specs.declared.Root.{Root}
-use Rattle.node.specs.Tally.{total, hit, tally}
-use Rattle.node.proofs.Counting.{hit-eq, le-or-lt}
-use Rattle.rtree.specs.Tree.{Store, joined, nodes, nodesAt, Each, Sound}
-use Rattle.rtree.specs.Rooted.{treeNodes, RootSound}
-use Rattle.rtree.proofs.Totals.{total-cons}
+use Rattle.tree_node.specs.declared.NodeEntry.{NodeEntry}
+use Rattle.tree_node.specs.declared.Root.{Root}
+use Rattle.tree_node.specs.Tally.{total, hit, tally}
+use Rattle.tree_node.proofs.Counting.{hit-eq, le-or-lt}
+use Rattle.tree_rules.specs.Tree.{Store, joined, nodes, nodesAt, Each, SoundUnder}
+use Rattle.tree_rules.specs.Rooted.{treeNodes, RootSound}
+use Rattle.tree_rules.proofs.Totals.{total-cons}
 
-each-pool : (E : Store) (h : ℕ) (m : ℕ) → ((e : Entry) → Sound E h e → 0 < tally m (nodes E h e) → m < maxNodes) → (l : List Entry) → Each (Sound E h) l → 0 < tally m (joined (nodes E h) l) → m < maxNodes
+each-pool : (E : Store) (h : ℕ) (m : ℕ) → ((e : NodeEntry) → SoundUnder E h e → 0 < tally m (nodes E h e) → m < maxNodes) → (l : List NodeEntry) → Each (SoundUnder E h) l → 0 < tally m (joined (nodes E h) l) → m < maxNodes
 unfolding Each joined total
 each-pool E h m f [] s z = absurd (omega arith)
 each-pool E h m f (e ∷ l) s z =
@@ -30,8 +30,8 @@ node-pool E h m c lt f z =
     (λ (some : 0 < hit m c). omega (arith, hit-eq m c some))
     (le-or-lt (hit m c) 0)
 
-sound-pool : (E : Store) (h m : ℕ) (e : Entry) → Sound E h e → 0 < tally m (nodes E h e) → m < maxNodes
-unfolding Sound nodes total nodesAt
+sound-pool : (E : Store) (h m : ℕ) (e : NodeEntry) → SoundUnder E h e → 0 < tally m (nodes E h e) → m < maxNodes
+unfolding SoundUnder nodes total nodesAt
 sound-pool E zero m e s z = absurd (omega arith)
 sound-pool E (suc h) m e s z =
     node-pool E h m (e .reference) (s .id) (each-pool E h m (sound-pool E h m) (E (e .reference)) (s .below)) z

@@ -9,23 +9,23 @@ use lib.ListN.{length, getD, set}
 use Rattle.limits.specs.Limits.{maxNodes, maxLevels}
 use Rattle.grid.specs.Says.{Says}
 use Rattle.grid.proofs.Says.{says-yes, says-no}
-use Rattle.node.specs.declared.Root.{Root}
-use Rattle.node.specs.Header.{rootIn}
-use Rattle.node.specs.Node.{entries}
-use Rattle.node.specs.Tally.{total, hit}
-use Rattle.node.specs.Told.{Told}
-use Rattle.node.proofs.Counting.{hit-same}
-use Rattle.node.proofs.Reading.{eight}
-use Rattle.node.proofs.Telling.{told-yes, told-no, told-map}
-use Rattle.rtree.specs.Tree.{leavesAt, nodesAt, Each}
-use Rattle.rtree.specs.Rooted.{treeLeaves, treeNodes, RootNode, RootSound}
+use Rattle.tree_node.specs.declared.Root.{Root}
+use Rattle.tree_node.specs.Header.{rootIn}
+use Rattle.tree_node.specs.Node.{entries}
+use Rattle.tree_node.specs.Tally.{total, hit}
+use Rattle.tree_node.specs.Told.{Told}
+use Rattle.tree_node.proofs.Counting.{hit-same}
+use Rattle.tree_node.proofs.Reading.{eight}
+use Rattle.tree_node.proofs.Telling.{told-yes, told-no, told-map}
+use Rattle.tree_rules.specs.Tree.{leavesAt, nodesAt, Each}
+use Rattle.tree_rules.specs.Rooted.{treeLeaves, treeNodes, RootNode, RootSound}
 use Rattle.tree_check.specs.Marks.{Fresh, Marked, Bits, Prepared}
-use Rattle.tree_check.specs.Walk.{asked, met, Pass, Enough, Low, rootMet, RootPass}
+use Rattle.tree_check.specs.Walk.{askedFor, met, Pass, Enough, Low, rootMet, RootPass}
 use Rattle.tree_check.proofs.Marking.{marked-both, fresh-then, fresh-both, marked-set, fresh-at, fresh-none, marked-none}
 
 -- no tree, and a tree
 pub root-none : (b : List ℕ) (o : List ℕ) (r : Root) → Prepared b o → r ≡ Root.Empty → r ≡ rootIn b → Told true (RootPass b (rootIn b) o) (Marked (rootMet b (rootIn b)) o o)
-unfolding RootSound treeLeaves treeNodes rootMet asked total Low Each
+unfolding RootSound treeLeaves treeNodes rootMet askedFor total Low Each
 root-none b o r s q z =
     rw (← z, q)
     (told-yes
@@ -57,7 +57,7 @@ module _ (b : List ℕ) (g c : ℕ) (o : List ℕ) where
   top-node p = p .top
 
   met-top : (m : ℕ) → rootMet b (Root.Top g c) m ≡ hit m c + met b g (entries b c) m
-  unfolding rootMet met asked treeNodes treeLeaves nodesAt leavesAt total
+  unfolding rootMet met askedFor treeNodes treeLeaves nodesAt leavesAt total
   met-top m = omega arith
 
   pub top-high : {B : Type 0} → maxLevels ≤ g → Told false (RootPass b (Root.Top g c) o) B

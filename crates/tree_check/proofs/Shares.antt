@@ -8,11 +8,11 @@ use native.Mathlib.Nat.{eq-or-lt-of-le}
 use native.Mathlib.Omega.{arith}
 use lib.ListN.{length, getD}
 use Rattle.grid.specs.declared.Site.{Site}
-use Rattle.sites.specs.Lines.{noSite}
-use Rattle.node.specs.declared.Entry.{Entry}
-use Rattle.node.specs.Tally.{total, hit, tally, Within}
-use Rattle.node.proofs.Counting.{hit-same, total-one}
-use Rattle.rtree.specs.Tree.{Each}
+use Rattle.table_sites.specs.Lines.{noSite}
+use Rattle.tree_node.specs.declared.NodeEntry.{NodeEntry}
+use Rattle.tree_node.specs.Tally.{total, hit, tally, Within}
+use Rattle.tree_node.proofs.Counting.{hit-same, total-one}
+use Rattle.tree_rules.specs.Tree.{Each}
 use Rattle.tree_check.specs.Leaves.{leafEntry, leafEntries, indexOf, Known}
 use Rattle.tree_check.proofs.Marking.{hit-not}
 
@@ -122,7 +122,7 @@ length-spread n l w =
     omega (arith, total-one l, total-spread (λ _. 1) n l w)
 
 -- a total over the leaf entries of lines, line by line
-pub total-known : (s : List Site) (w : Entry → ℕ) (l : List Entry) → Each (Known s) l
+pub total-known : (s : List Site) (w : NodeEntry → ℕ) (l : List NodeEntry) → Each (Known s) l
     → total w l ≡ sum (λ k. total (λ e. hit k (indexOf s (e .reference))) l * w (leafEntry (getD s k noSite))) (length s)
 unfolding total Each
 total-known s w [] p = let z = sum-zero (λ k. 0 * w (leafEntry (getD s k noSite))) (length s) (λ k h. omega arith) in omega arith
@@ -141,7 +141,7 @@ total-known s w (e ∷ l) p =
     )
 
 -- a total over the leaf entries of all lines
-pub total-lines : (w : Entry → ℕ) (s : List Site) → total w (leafEntries s) ≡ sum (λ k. w (leafEntry (getD s k noSite))) (length s)
+pub total-lines : (w : NodeEntry → ℕ) (s : List Site) → total w (leafEntries s) ≡ sum (λ k. w (leafEntry (getD s k noSite))) (length s)
 unfolding total leafEntries sum
 total-lines w [] = refl
 total-lines w (p ∷ s) = omega (arith, sum-first (λ k. w (leafEntry (getD (p ∷ s) k noSite))) (length s), total-lines w s)

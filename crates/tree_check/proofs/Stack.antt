@@ -12,13 +12,13 @@ use native.Mathlib.Omega.{arith}
 use lib.ListN.{length, getD, set}
 use Rattle.limits.specs.Limits.{maxNodes}
 use Rattle.words.specs.Words.{wordAt}
-use Rattle.node.specs.Layout.{stackStart}
-use Rattle.node.specs.Free.{numbers, free}
-use Rattle.node.specs.Tally.{total, hit, tally, Within}
-use Rattle.node.specs.Told.{Told}
-use Rattle.node.proofs.Counting.{hit-same}
-use Rattle.node.proofs.FreeStack.{length-free}
-use Rattle.node.proofs.Telling.{told-yes, told-no}
+use Rattle.tree_node.specs.Layout.{stackStart}
+use Rattle.tree_node.specs.Free.{numbers, free}
+use Rattle.tree_node.specs.Tally.{total, hit, tally, Within}
+use Rattle.tree_node.specs.Told.{Told}
+use Rattle.tree_node.proofs.Counting.{hit-same}
+use Rattle.tree_node.proofs.FreeStack.{length-free}
+use Rattle.tree_node.proofs.Telling.{told-yes, told-no}
 use Rattle.tree_check.specs.Marks.{markBytes, seenBytes, Fresh, Marked, Bits, FreePass}
 use Rattle.tree_check.proofs.Marking.{fresh-none, marked-none, marked-one, hit-most, hit-not}
 

@@ -13,31 +13,32 @@ use Rattle.grid.specs.declared.Site.{Site}
 use Rattle.grid.specs.Says.{Says}
 use Rattle.grid.proofs.Says.{says-map}
 use Rattle.book.specs.Proper.{Rising}
-use Rattle.sites.specs.Lines.{countIn, linesIn, noSite, numberOf, Array}
-use Rattle.sites.proofs.Reading.{lines-length}
-use Rattle.node.specs.declared.Entry.{Entry}
-use Rattle.node.specs.declared.Root.{Root}
-use Rattle.node.specs.Header.{rootIn}
-use Rattle.node.specs.Node.{entries}
-use Rattle.node.specs.Free.{free}
-use Rattle.node.specs.Tally.{total, hit, tally, Within}
-use Rattle.node.specs.Told.{Told}
-use Rattle.node.proofs.Counting.{hit-same, le-or-lt}
-use Rattle.rtree.specs.Tree.{Each}
-use Rattle.rtree.specs.Rooted.{treeLeaves, treeNodes, Rooted, leavesIn}
-use Rattle.rtree.proofs.Members.{same-each}
-use Rattle.rtree.proofs.Roots.{root-levels}
+use Rattle.table_header.specs.Header.{countIn}
+use Rattle.table_sites.specs.Lines.{linesIn, noSite, numberOf, Array}
+use Rattle.table_sites.proofs.Reading.{lines-length}
+use Rattle.tree_node.specs.declared.NodeEntry.{NodeEntry}
+use Rattle.tree_node.specs.declared.Root.{Root}
+use Rattle.tree_node.specs.Header.{rootIn}
+use Rattle.tree_node.specs.Node.{entries}
+use Rattle.tree_node.specs.Free.{free}
+use Rattle.tree_node.specs.Tally.{total, hit, tally, Within}
+use Rattle.tree_node.specs.Told.{Told}
+use Rattle.tree_node.proofs.Counting.{hit-same, le-or-lt}
+use Rattle.tree_rules.specs.Tree.{Each}
+use Rattle.tree_rules.specs.Rooted.{treeLeaves, treeNodes, Rooted, leavesIn}
+use Rattle.tree_rules.proofs.Members.{same-each}
+use Rattle.tree_rules.proofs.Roots.{root-levels}
 use Rattle.tree_check.specs.Marks.{recordMark, Blank, Full, Fresh, Marked, FreePass}
 use Rattle.tree_check.specs.Leaves.{leafEntry, leafEntries, indexOf, Known}
 use Rattle.tree_check.specs.Tied.{Tied}
-use Rattle.tree_check.specs.Walk.{asked, Low, rootMet, RootPass}
+use Rattle.tree_check.specs.Walk.{askedFor, Low, rootMet, RootPass}
 use Rattle.tree_check.proofs.Marking.{hit-not}
 use Rattle.tree_check.proofs.Shares.{sum, sum-ext, sum-one, sum-add, sum-full, hits-high, hits-in, length-spread, total-known, total-lines}
 use Rattle.tree_check.proofs.Pool.{root-pool}
 use Rattle.tree_check.proofs.Leaves.{tied-count, own-index, own-known}
 
 -- the marks that the leaf entries L ask for, where s are the lines
-abbrev leafHits : List Site → List Entry → ℕ → ℕ
+abbrev leafHits : List Site → List NodeEntry → ℕ → ℕ
 leafHits s L m = total (λ e. hit m (recordMark (indexOf s (e .reference)))) L
 
 -- the lines ask for one mark each
@@ -51,12 +52,12 @@ line-hits s r m =
     (λ k lt. ap (λ (x : ℕ). hit m (maxNodes + x)) (own-index s r k lt))
 
 -- the marks of nodes stand below maxNodes, those of records from there on
-total-zero : (w : Entry → ℕ) → ((e : Entry) → w e ≡ 0) → (l : List Entry) → total w l ≡ 0
+total-zero : (w : NodeEntry → ℕ) → ((e : NodeEntry) → w e ≡ 0) → (l : List NodeEntry) → total w l ≡ 0
 unfolding total
 total-zero w z [] = refl
 total-zero w z (e ∷ l) = omega (arith, z e, total-zero w z l)
 
-total-same : (v w : Entry → ℕ) → ((e : Entry) → v e ≡ w e) → (l : List Entry) → total v l ≡ total w l
+total-same : (v w : NodeEntry → ℕ) → ((e : NodeEntry) → v e ≡ w e) → (l : List NodeEntry) → total v l ≡ total w l
 unfolding total
 total-same v w q [] = refl
 total-same v w q (e ∷ l) = omega (arith, q e, total-same v w q l)
@@ -68,8 +69,8 @@ hit-shift a x y = go (ℕ-discrete x y)
     go (yes q) = hit-same (a + x) (a + y) (omega arith) ∙ sym (hit-same x y q)
     go (no ne) = hit-not (a + x) (a + y) (λ q. ne (omega arith)) ∙ sym (hit-not x y ne)
 
-node-part : (s : List Site) (N : List ℕ) (L : List Entry) (m : ℕ) → m < maxNodes → asked s N L m ≡ tally m N
-unfolding asked
+node-part : (s : List Site) (N : List ℕ) (L : List NodeEntry) (m : ℕ) → m < maxNodes → askedFor s N L m ≡ tally m N
+unfolding askedFor
 node-part s N L m lt =
     omega (
       arith,
@@ -79,8 +80,8 @@ node-part s N L m lt =
           L,
     )
 
-record-part : (s : List Site) (N : List ℕ) (L : List Entry) (m : ℕ) → (0 < tally m N → m < maxNodes) → maxNodes ≤ m → asked s N L m ≡ leafHits s L m
-unfolding asked
+record-part : (s : List Site) (N : List ℕ) (L : List NodeEntry) (m : ℕ) → (0 < tally m N → m < maxNodes) → maxNodes ≤ m → askedFor s N L m ≡ leafHits s L m
+unfolding askedFor
 record-part s N L m pool le =
     ⊎-elim
     (λ (none : tally m N ≤ 0). omega arith)
@@ -96,7 +97,7 @@ few b a = omega (arith, a .few, lines-length b)
 
 -- what a tied table asks for
 module _ (b : List ℕ) (a : Array b) (t : Tied b) where
-  leaf-total : (w : Entry → ℕ) → total w (treeLeaves (entries b) (rootIn b)) ≡ total w (leafEntries (linesIn b))
+  leaf-total : (w : NodeEntry → ℕ) → total w (treeLeaves (entries b) (rootIn b)) ≡ total w (leafEntries (linesIn b))
   unfolding leavesIn
   leaf-total w = t .leaf w
 

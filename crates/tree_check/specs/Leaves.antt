@@ -7,11 +7,11 @@ use Prim.Native.Nat.{ℕ, suc, _<_}
 use lib.Dec.{eqb}
 use lib.ListN.{length, getD}
 use Rattle.grid.specs.declared.Site.{Site}
-use Rattle.sites.specs.Lines.{noSite}
-use Rattle.node.specs.declared.Entry.{Entry}
+use Rattle.table_sites.specs.Lines.{noSite}
+use Rattle.tree_node.specs.declared.NodeEntry.{NodeEntry}
 
 -- the leaf entry of a site: its number, its position as a box, and a spare number of 0
-abbrev pub leafEntry : Site → Entry
+abbrev pub leafEntry : Site → NodeEntry
 leafEntry p =
     record {
       reference = p .number;
@@ -23,7 +23,7 @@ leafEntry p =
     }
 
 -- the leaf entries of sites
-unfoldable pub leafEntries : List Site → List Entry
+unfoldable pub leafEntries : List Site → List NodeEntry
 leafEntries [] = []
 leafEntries (p ∷ s) = leafEntry p ∷ leafEntries s
 
@@ -33,6 +33,6 @@ indexOf [] x = 0
 indexOf (p ∷ s) x = cond (eqb (p .number) x) 0 (suc (indexOf s x))
 
 -- e is the leaf entry of the line that has its number
-pub record Known (s : List Site) (e : Entry) : Type 0 where
+pub record Known (s : List Site) (e : NodeEntry) : Type 0 where
   pub held : indexOf s (e .reference) < length s
   pub leaf : e ≡ leafEntry (getD s (indexOf s (e .reference)) noSite)

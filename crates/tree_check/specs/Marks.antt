@@ -1,14 +1,14 @@
--- The marks of what a walk has met: a byte for each node of the pool, then one for each record of the site array, 0 or 1.
--- Behind them stand hints, of which nothing is demanded.
+-- The marks of what a walk has met: a byte for each node of the pool, then one for each record of the site array, 0
+-- or 1. Behind them stand hints, of which nothing is demanded.
 -- Assumes nothing.
 use mathlib.Core.List.{List}
 use mathlib.Core.Path.{_≡_}
 use Prim.Native.Nat.{ℕ, _+_, _≤_, _<_}
 use lib.ListN.{length, getD}
 use Rattle.limits.specs.Limits.{maxSites, maxNodes}
-use Rattle.sites.specs.Lines.{Array}
-use Rattle.node.specs.Free.{free}
-use Rattle.node.specs.Tally.{tally, Within}
+use Rattle.table_sites.specs.Lines.{Array}
+use Rattle.tree_node.specs.Free.{free}
+use Rattle.tree_node.specs.Tally.{tally, Within}
 
 -- the marks
 abbrev pub markBytes : ℕ

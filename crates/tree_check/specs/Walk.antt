@@ -6,33 +6,34 @@ use Prim.Native.Nat.{ℕ, _+_, _≤_}
 use lib.ListN.{length}
 use Rattle.limits.specs.Limits.{minEntries, maxLevels}
 use Rattle.grid.specs.declared.Site.{Site}
-use Rattle.sites.specs.Lines.{linesIn}
-use Rattle.node.specs.declared.Entry.{Entry}
-use Rattle.node.specs.declared.Root.{Root}
-use Rattle.node.specs.Boxes.{hull}
-use Rattle.node.specs.Node.{entries}
-use Rattle.node.specs.Tally.{total, hit, tally}
-use Rattle.rtree.specs.Tree.{joined, leaves, nodes, Each, Sound}
-use Rattle.rtree.specs.Rooted.{treeLeaves, treeNodes, RootSound}
+use Rattle.table_sites.specs.Lines.{linesIn}
+use Rattle.tree_node.specs.declared.NodeEntry.{NodeEntry}
+use Rattle.tree_node.specs.declared.Root.{Root}
+use Rattle.tree_node.specs.Boxes.{hull}
+use Rattle.tree_node.specs.Node.{entries}
+use Rattle.tree_node.specs.Tally.{total, hit, tally}
+use Rattle.tree_rules.specs.Tree.{joined, leaves, nodes, Each, SoundUnder}
+use Rattle.tree_rules.specs.Rooted.{treeLeaves, treeNodes, RootSound}
 use Rattle.tree_check.specs.Leaves.{indexOf, Known}
 use Rattle.tree_check.specs.Marks.{recordMark, Fresh}
 
 -- how often mark m is asked for by the nodes N and the leaf entries L, where s are the lines
-unfoldable pub asked : List Site → List ℕ → List Entry → ℕ → ℕ
-asked s N L m = tally m N + total (λ e. hit m (recordMark (indexOf s (e .reference)))) L
+unfoldable pub askedFor : List Site → List ℕ → List NodeEntry → ℕ → ℕ
+askedFor s N L m = tally m N + total (λ e. hit m (recordMark (indexOf s (e .reference)))) L
 
 -- how often mark m is asked for by what lies under the entries l, which stand at height h
-unfoldable pub met : List ℕ → ℕ → List Entry → ℕ → ℕ
-met b h l = asked (linesIn b) (joined (nodes (entries b) h) l) (joined (leaves (entries b) h) l)
+unfoldable pub met : List ℕ → ℕ → List NodeEntry → ℕ → ℕ
+met b h l = askedFor (linesIn b) (joined (nodes (entries b) h) l) (joined (leaves (entries b) h) l)
 
--- the entries l, which stand at height h, keep the tree's rules, their leaf entries are those of lines, and nothing is met twice
-pub record Pass (b : List ℕ) (h : ℕ) (l : List Entry) (o : List ℕ) : Type 0 where
-  pub sound : Each (Sound (entries b) h) l
+-- the entries l, which stand at height h, keep the tree's rules, their leaf entries are those of lines, and nothing
+-- is met twice
+pub record Pass (b : List ℕ) (h : ℕ) (l : List NodeEntry) (o : List ℕ) : Type 0 where
+  pub sound : Each (SoundUnder (entries b) h) l
   pub known : Each (Known (linesIn b)) (joined (leaves (entries b) h) l)
   pub fresh : Fresh (met b h l) o
 
 -- e's child node keeps the rules on nodes, but for what its entries refer to
-pub record Fits (b : List ℕ) (e : Entry) : Type 0 where
+pub record Fits (b : List ℕ) (e : NodeEntry) : Type 0 where
   -- "Each box is the smallest that holds what lies under it"
   pub box : e ≡ hull (e .reference) (entries b (e .reference))
   -- "A node other than the root holds at least 3"
@@ -52,7 +53,7 @@ Low (Root.Top g c) = g + 1 ≤ maxLevels
 
 -- how often mark m is asked for by the tree under r
 unfoldable pub rootMet : List ℕ → Root → ℕ → ℕ
-rootMet b r = asked (linesIn b) (treeNodes (entries b) r) (treeLeaves (entries b) r)
+rootMet b r = askedFor (linesIn b) (treeNodes (entries b) r) (treeLeaves (entries b) r)
 
 -- the tree under r keeps its rules, its leaf entries are those of lines, and nothing is met twice
 pub record RootPass (b : List ℕ) (r : Root) (o : List ℕ) : Type 0 where

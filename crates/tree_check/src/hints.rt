@@ -1,11 +1,11 @@
-// Hints for the search of the site array, in lent bytes behind the marks: for a number modulo so many, half the index of a record that has such a
-// number. A hint only saves time: what stands there is tested.
-use sites::Found;
+// Hints for the search of the site array, in lent bytes behind the marks: for a number modulo so many, half the index
+// of a record that has such a number. A hint only saves time: what stands there is tested.
+use table_sites::Found;
 ghost use mathlib.Core.Path.{_≡_};
 ghost use Prim.Native.Nat.{_≤_, _<_};
 ghost use lib.ListN.{length};
 ghost use Rattle.limits.specs.Limits.{maxSites, tableBytes};
-ghost use Rattle.sites.specs.Lines.{linesIn, Array, FoundAs};
+ghost use Rattle.table_sites.specs.Lines.{linesIn, Array, FoundAs};
 ghost use Rattle.tree_check.specs.Marks.{seenBytes};
 
 const HINT_START: usize = 1024;
@@ -32,7 +32,7 @@ pub fn note(t: &[u8], n: usize, seen: &mut [u8])
 {
     let mut k = 0;
     while k < n {
-        let i = hint_at(sites::number(t, k));
+        let i = hint_at(table_sites::number(t, k));
         seen[i] = (k / 2) as u8;
         k += 1;
     }
@@ -45,5 +45,5 @@ pub fn find(t: &[u8], x: u16, seen: &[u8]) -> Found
 {
     let i = hint_at(x);
     let k = 2 * wide(seen[i]);
-    sites::find_near(t, x, k)
+    table_sites::find_near(t, x, k)
 }

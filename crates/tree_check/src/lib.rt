@@ -1,6 +1,6 @@
-// The test of arbitrary bytes: whether the tree in a table keeps its rules and its leaf entries are those of the site array.
-// Follows document 01, "The tree", and its cause 65. The test walks the tree once and marks each node and each record that it meets, so that
-// no node is read twice: rubbish costs no more than a full tree.
+// The test of arbitrary bytes: whether the tree in a table keeps its rules and its leaf entries are those of the site
+// array. Follows document 01, "The tree", and its cause 65. The test walks the tree once and marks each node and each
+// record that it meets, so that no node is read twice: rubbish costs no more than a full tree.
 pub mod free;
 pub mod hints;
 pub mod marks;
@@ -8,11 +8,11 @@ pub mod walk;
 
 use grid::Site;
 use limits::MAX_NODES;
-use node::Entry;
+use tree_node::NodeEntry;
 ghost use mathlib.Core.Path.{_≡_};
 ghost use lib.ListN.{length};
 ghost use Rattle.grid.specs.Says.{Says};
-ghost use Rattle.sites.specs.Lines.{Array};
+ghost use Rattle.table_sites.specs.Lines.{Array};
 ghost use Rattle.tree_check.specs.Leaves.{leafEntry};
 ghost use Rattle.tree_check.specs.Marks.{seenBytes};
 ghost use Rattle.tree_check.specs.Tied.{Tied};
@@ -21,12 +21,12 @@ ghost use Rattle.tree_check.specs.Tied.{Tied};
 pub const SEEN_BYTES: usize = 2048;
 
 // The leaf entry of a site.
-pub fn leaf_entry(p: Site) -> Entry
+pub fn leaf_entry(p: Site) -> NodeEntry
     ensures { λ r. ⌜ r ≡ leafEntry p ⌝ }
 {
     let east = p.position.east;
     let north = p.position.north;
-    Entry {
+    NodeEntry {
         reference: p.number,
         west: east,
         south: north,
@@ -42,7 +42,7 @@ pub fn check(t: &[u8], seen: &mut [u8]) -> bool
     requires { ⌜ Array (now t) × (length (now seen) ≡ seenBytes) ⌝ }
     ensures { λ r. ⌜ Says r (Tied (now (t .entry))) ⌝ }
 {
-    let n = sites::count(t);
+    let n = table_header::count(t);
     hints::note(t, n, seen);
     marks::clear(seen);
     if walk::check_root(t, seen) {

@@ -3,11 +3,11 @@ ghost use mathlib.Core.Path.{_≡_};
 ghost use Prim.Native.Nat.{_≤_, _<_, min};
 ghost use lib.ListN.{length, getD, set};
 ghost use Rattle.grid.specs.Says.{Says};
-ghost use Rattle.node.specs.Told.{Told};
+ghost use Rattle.tree_node.specs.Told.{Told};
 ghost use Rattle.tree_check.specs.Marks.{markBytes, seenBytes, Blank, Full};
 
 // A byte for each node and for each record.
-const MARK_BYTES: usize = 776;
+const MARK_BYTES: usize = limits::MAX_NODES + limits::MAX_SITES;
 
 // Takes every mark away.
 pub fn clear(seen: &mut [u8])
@@ -39,7 +39,8 @@ fn lesser(a: u8, b: u8) -> u8
     if a <= b { a } else { b }
 }
 
-// Whether each of the first l marks is set. All are read: the least of many bytes takes less time than a branch for each.
+// Whether each of the first l marks is set. All are read: the least of many bytes takes less time than a branch for
+// each.
 pub fn full(seen: &[u8], l: usize) -> bool
     requires { ⌜ (length (now seen) ≡ seenBytes) × (l ≤ markBytes) ⌝ }
     ensures { λ r. ⌜ Says r (Full l (now (seen .entry))) ⌝ }

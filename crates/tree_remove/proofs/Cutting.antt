@@ -8,30 +8,30 @@ use lib.ListN.{length, getD}
 use Rattle.limits.specs.Limits.{maxNodes, tableBytes}
 use Rattle.words.specs.Words.{Only}
 use Rattle.words.proofs.Frame.{only-trans}
-use Rattle.node.specs.declared.Entry.{Entry}
-use Rattle.node.specs.Layout.{poolStart}
-use Rattle.node.specs.Node.{entries, noEntry, swapOut, Wrote}
-use Rattle.node.specs.Free.{free}
-use Rattle.node.specs.Tally.{total, hit, tally}
-use Rattle.node.proofs.Counting.{hit-same, total-one}
-use Rattle.node.proofs.Storing.{others, in-pool, in-tree}
-use Rattle.node.proofs.FreeStack.{free-kept}
-use Rattle.rtree.specs.Tree.{Store, joined, leaves, nodes, leavesAt, nodesAt, Each, Sound}
-use Rattle.rtree.specs.Perm.{Perm}
-use Rattle.rtree.specs.Change.{Ready}
-use Rattle.rtree.proofs.Kept.{Agree, kept-leaves, kept-nodes, kept-sound}
-use Rattle.rtree.proofs.Perms.{perm-each, perm-total, swapOut-perm, length-swapOut}
-use Rattle.rtree.proofs.Totals.{total-cons, leaves-at, nodes-at, leaves-under, nodes-under}
-use Rattle.rtree.proofs.Descent.{child, child-ready}
-use Rattle.tree_remove.specs.Take.{Open, Cut}
+use Rattle.tree_node.specs.declared.NodeEntry.{NodeEntry}
+use Rattle.tree_node.specs.Layout.{poolStart}
+use Rattle.tree_node.specs.Node.{entries, noEntry, swapOut, Wrote}
+use Rattle.tree_node.specs.Free.{free}
+use Rattle.tree_node.specs.Tally.{total, hit, tally}
+use Rattle.tree_node.proofs.Counting.{hit-same, total-one}
+use Rattle.tree_node.proofs.Storing.{others, in-pool, in-tree}
+use Rattle.tree_node.proofs.FreeStack.{free-kept}
+use Rattle.tree_rules.specs.Tree.{Store, joined, leaves, nodes, leavesAt, nodesAt, Each, SoundUnder}
+use Rattle.permutation.specs.Perm.{Perm}
+use Rattle.tree_rules.specs.Change.{Ready}
+use Rattle.tree_rules.proofs.Kept.{Agree, kept-leaves, kept-nodes, kept-sound}
+use Rattle.tree_rules.proofs.Perms.{perm-each, perm-total, swapOut-perm, length-swapOut}
+use Rattle.tree_rules.proofs.Totals.{total-cons, leaves-at, nodes-at, leaves-under, nodes-under}
+use Rattle.tree_rules.proofs.Descent.{child, child-ready}
+use Rattle.tree_remove.specs.Take.{Prunable, Pruned}
 use Rattle.tree_remove.proofs.Renewing.{Parted, Renewed}
 
 -- entry k of node n, f, and the others
-module _ (h n k : ℕ) (f : Entry) (b : List ℕ) (lt : k < length (entries b n)) (qf : f ≡ getD (entries b n) k noEntry) where
+module _ (h n k : ℕ) (f : NodeEntry) (b : List ℕ) (lt : k < length (entries b n)) (qf : f ≡ getD (entries b n) k noEntry) where
   with-others : Perm (entries b n) (f ∷ swapOut (entries b n) k)
   with-others = rw qf (swapOut-perm (entries b n) k lt)
 
-  all-leaves : (w : Entry → ℕ) → total w (leavesAt (entries b) h n) ≡ total w (leaves (entries b) h f) + total w (joined (leaves (entries b) h) (swapOut (entries b n) k))
+  all-leaves : (w : NodeEntry → ℕ) → total w (leavesAt (entries b) h n) ≡ total w (leaves (entries b) h f) + total w (joined (leaves (entries b) h) (swapOut (entries b n) k))
   all-leaves w =
       leaves-at (entries b) h n (entries b n) refl w
       ∙ perm-total w (leaves (entries b) h) with-others
@@ -44,17 +44,17 @@ module _ (h n k : ℕ) (f : Entry) (b : List ℕ) (lt : k < length (entries b n)
       (λ (x : ℕ). w n + x)
       (perm-total w (nodes (entries b) h) with-others ∙ total-cons w (nodes (entries b) h) f (swapOut (entries b n) k))
 
-  others-sound : Each (Sound (entries b) h) (entries b n) → Each (Sound (entries b) h) (swapOut (entries b n) k)
+  others-sound : Each (SoundUnder (entries b) h) (entries b n) → Each (SoundUnder (entries b) h) (swapOut (entries b n) k)
   unfolding Each
-  others-sound s = perm-each (Sound (entries b) h) with-others s .1
+  others-sound s = perm-each (SoundUnder (entries b) h) with-others s .1
 
 -- f is a leaf entry
-pub leaf-cut : (n k : ℕ) (f e : Entry) (b b₁ : List ℕ) → Ready 0 n b → k < length (entries b n) → f ≡ getD (entries b n) k noEntry → f ≡ e
-    → Wrote n (swapOut (entries b n) k) b b₁ → Cut 0 n e b b₁
-unfolding Sound leaves nodes total
+pub leaf-cut : (n k : ℕ) (f e : NodeEntry) (b b₁ : List ℕ) → Ready 0 n b → k < length (entries b n) → f ≡ getD (entries b n) k noEntry → f ≡ e
+    → Wrote n (swapOut (entries b n) k) b b₁ → Pruned 0 n e b b₁
+unfolding SoundUnder leaves nodes total
 leaf-cut n k f e b b₁ rd lt qf q w =
     let E : Store = entries b in
-    let L : List Entry = swapOut (entries b n) k in
+    let L : List NodeEntry = swapOut (entries b n) k in
     let o : Only poolStart tableBytes b b₁ = in-pool (rd .id) (w .only) in
     record {
       sound = rw (w .here) (others-sound 0 n k f b lt qf (rd .sound));
@@ -66,11 +66,11 @@ leaf-cut n k f e b b₁ rd lt qf q w =
     }
 
 -- f's child node is searched
-module _ (g n k : ℕ) (f : Entry) (b : List ℕ) (op : Open (suc g) n b) (lt : k < length (entries b n)) (qf : f ≡ getD (entries b n) k noEntry) where
+module _ (g n k : ℕ) (f : NodeEntry) (b : List ℕ) (op : Prunable (suc g) n b) (lt : k < length (entries b n)) (qf : f ≡ getD (entries b n) k noEntry) where
   abbrev c : ℕ
   c = f .reference
 
-  abbrev L : List Entry
+  abbrev L : List NodeEntry
   L = swapOut (entries b n) k
 
   rd : Ready (suc g) n b
@@ -79,7 +79,7 @@ module _ (g n k : ℕ) (f : Entry) (b : List ℕ) (op : Open (suc g) n b) (lt : 
   at : (w : ℕ → ℕ) → total w (nodesAt (entries b) (suc g) n) ≡ w n + (total w (nodesAt (entries b) g c) + total w (joined (nodes (entries b) (suc g)) L))
   at w = omega (arith, all-nodes (suc g) n k f b lt qf w, ap (total w) (nodes-under (entries b) g f))
 
-  at-leaves : (w : Entry → ℕ) → total w (leavesAt (entries b) (suc g) n) ≡ total w (leavesAt (entries b) g c) + total w (joined (leaves (entries b) (suc g)) L)
+  at-leaves : (w : NodeEntry → ℕ) → total w (leavesAt (entries b) (suc g) n) ≡ total w (leavesAt (entries b) g c) + total w (joined (leaves (entries b) (suc g)) L)
   at-leaves w = omega (arith, all-leaves (suc g) n k f b lt qf w, ap (total w) (leaves-under (entries b) g f))
 
   lengths : suc (length (nodesAt (entries b) g c)) + length (free b) ≤ maxNodes
@@ -92,7 +92,7 @@ module _ (g n k : ℕ) (f : Entry) (b : List ℕ) (op : Open (suc g) n b) (lt : 
         op .fits,
       )
 
-  pub child-open : Open g c b
+  pub child-open : Prunable g c b
   child-open =
       record {
         ready = child-ready g n k b f rd lt qf;
@@ -100,7 +100,7 @@ module _ (g n k : ℕ) (f : Entry) (b : List ℕ) (op : Open (suc g) n b) (lt : 
         fits = omega (arith, lengths);
       }
 
-  module _ (e : Entry) (b₁ : List ℕ) (ct : Cut g c e b b₁) where
+  module _ (e : NodeEntry) (b₁ : List ℕ) (ct : Pruned g c e b b₁) where
     -- n itself is as it was
     pub parent-same : entries b₁ n ≡ entries b n
     parent-same = ct .rest n (omega (arith, at (hit n), rd .apart n, hit-same n n refl))
@@ -137,7 +137,7 @@ module _ (g n k : ℕ) (f : Entry) (b : List ℕ) (op : Open (suc g) n b) (lt : 
               );
         }
 
-    pub inner-cut : (b₂ : List ℕ) → Renewed g n c L b₁ b₂ → Cut (suc g) n e b b₂
+    pub inner-cut : (b₂ : List ℕ) → Renewed g n c L b₁ b₂ → Pruned (suc g) n e b b₂
     inner-cut b₂ rn =
         let E₂ : Store = entries b₂ in
         record {

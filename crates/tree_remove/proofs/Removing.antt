@@ -7,41 +7,41 @@ use native.Mathlib.Omega.{arith}
 use lib.ListN.{length, drop}
 use Rattle.limits.specs.Limits.{maxNodes}
 use Rattle.words.proofs.Frame.{only-trans, only-wider}
-use Rattle.node.specs.declared.Entry.{Entry}
-use Rattle.node.specs.declared.Root.{Root}
-use Rattle.node.specs.Node.{entries}
-use Rattle.node.specs.Free.{free}
-use Rattle.node.specs.Header.{rootIn, Headed}
-use Rattle.node.specs.Tally.{total, hit, Within}
-use Rattle.node.proofs.Counting.{total-one}
-use Rattle.rtree.specs.Tree.{leavesAt, nodesAt}
-use Rattle.rtree.specs.Rooted.{treeLeaves, treeNodes, Rooted, leavesIn}
-use Rattle.rtree.specs.Change.{Ready, Became}
-use Rattle.rtree.proofs.Roots.{root-node, root-ready, rooted-by}
-use Rattle.rtree.proofs.Outside.{rooted-headed, leaves-headed}
-use Rattle.tree_remove.specs.declared.Outcome.{Outcome}
-use Rattle.tree_remove.specs.Take.{Open, Cut, Searched}
+use Rattle.tree_node.specs.declared.NodeEntry.{NodeEntry}
+use Rattle.tree_node.specs.declared.Root.{Root}
+use Rattle.tree_node.specs.Node.{entries}
+use Rattle.tree_node.specs.Free.{free}
+use Rattle.tree_node.specs.Header.{rootIn, Headed}
+use Rattle.tree_node.specs.Tally.{total, hit, Within}
+use Rattle.tree_node.proofs.Counting.{total-one}
+use Rattle.tree_rules.specs.Tree.{leavesAt, nodesAt}
+use Rattle.tree_rules.specs.Rooted.{treeLeaves, treeNodes, Rooted, leavesIn}
+use Rattle.tree_rules.specs.Change.{Ready, Became}
+use Rattle.tree_rules.proofs.Roots.{root-node, root-ready, rooted-by}
+use Rattle.tree_rules.proofs.Outside.{rooted-headed, leaves-headed}
+use Rattle.tree_remove.specs.declared.Removal.{Removal}
+use Rattle.tree_remove.specs.Take.{Prunable, Pruned, Sought}
 use Rattle.tree_remove.specs.Removal.{TakenFrom, Removed}
 use Rattle.tree_remove.proofs.Members.{never-absent}
 
 -- the tree under the root n, whose entries stand at height g
-module _ (g n : ℕ) (e : Entry) (b : List ℕ) (rt : Rooted (Root.Top g n) b) where
-  pub root-open : Open g n b
+module _ (g n : ℕ) (e : NodeEntry) (b : List ℕ) (rt : Rooted (Root.Top g n) b) where
+  pub root-open : Prunable g n b
   unfolding treeNodes
   root-open = record { ready = root-ready g n b rt; least = root-node g n b rt .two; fits = omega (arith, rt .all) }
 
   -- an entry that stands in the tree is found
-  pub found : (o : Outcome) (b₁ : List ℕ) → List·Memᴰ e (treeLeaves (entries b) (Root.Top g n)) → o ≡ Outcome.Absent
-      → Searched o g n e (drop 0 (entries b n)) b b₁ → ⊥
-  unfolding Searched treeLeaves leavesAt
+  pub found : (o : Removal) (b₁ : List ℕ) → List·Memᴰ e (treeLeaves (entries b) (Root.Top g n)) → o ≡ Removal.Absent
+      → Sought o g n e (drop 0 (entries b n)) b b₁ → ⊥
+  unfolding Sought treeLeaves leavesAt
   found o b₁ m q s =
-      let x : Searched Outcome.Absent g n e (drop 0 (entries b n)) b b₁ = rw q at s in
+      let x : Sought Removal.Absent g n e (drop 0 (entries b n)) b b₁ = rw q at s in
       never-absent (leavesAt (entries b) g n) e m (x .1)
 
-  module _ (o : Outcome) (b₁ : List ℕ) (q : o ≡ Outcome.Gone) (s : Searched o g n e (drop 0 (entries b n)) b b₁) where
-    cut : Cut g n e b b₁
-    unfolding Searched
-    cut = let x : Searched Outcome.Gone g n e (drop 0 (entries b n)) b b₁ = rw q at s in x
+  module _ (o : Removal) (b₁ : List ℕ) (q : o ≡ Removal.Gone) (s : Sought o g n e (drop 0 (entries b n)) b b₁) where
+    cut : Pruned g n e b b₁
+    unfolding Sought
+    cut = let x : Sought Removal.Gone g n e (drop 0 (entries b n)) b b₁ = rw q at s in x
 
     pub cut-ready : Ready g n b₁
     unfolding treeNodes Within
@@ -81,12 +81,12 @@ module _ (g n : ℕ) (e : Entry) (b : List ℕ) (rt : Rooted (Root.Top g n) b) w
         }
 
 -- an empty tree has no entry
-pub none-there : (r : Root) (e : Entry) (b : List ℕ) → r ≡ Root.Empty → List·Memᴰ e (treeLeaves (entries b) r) → ⊥
+pub none-there : (r : Root) (e : NodeEntry) (b : List ℕ) → r ≡ Root.Empty → List·Memᴰ e (treeLeaves (entries b) r) → ⊥
 unfolding treeLeaves
 none-there r e b q m = let z : List·Memᴰ e (treeLeaves (entries b) Root.Empty) = rw q at m in List·Memᴰ·not-nil z
 
 -- the tree that the header tells
-module _ (e : Entry) (r : Root) (b : List ℕ) (q : r ≡ rootIn b) where
+module _ (e : NodeEntry) (r : Root) (b : List ℕ) (q : r ≡ rootIn b) where
   pub header-rooted : Rooted (rootIn b) b → Rooted r b
   header-rooted rt = rw q rt
 

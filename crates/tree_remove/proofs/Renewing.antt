@@ -7,47 +7,48 @@ use native.Mathlib.Omega.{arith}
 use lib.ListN.{length}
 use Rattle.limits.specs.Limits.{maxNodes, tableBytes}
 use Rattle.words.specs.Words.{Only}
-use Rattle.node.specs.declared.Entry.{Entry}
-use Rattle.node.specs.Layout.{freeStart}
-use Rattle.node.specs.Node.{entries}
-use Rattle.node.specs.Free.{free}
-use Rattle.node.specs.Boxes.{hull}
-use Rattle.node.specs.Tally.{total, hit, tally}
-use Rattle.node.proofs.Counting.{hit-same}
-use Rattle.node.proofs.Reading.{eight}
-use Rattle.rtree.specs.Tree.{Store, joined, leaves, nodes, leavesAt, nodesAt, Each, Sound}
-use Rattle.rtree.specs.Perm.{Perm}
-use Rattle.rtree.specs.Perm.Perm.{next, trans}
-use Rattle.rtree.proofs.Every.{each-append, each-left, each-right}
-use Rattle.rtree.proofs.Kept.{Agree, kept-leaves, kept-nodes, kept-sound, sound-node}
-use Rattle.rtree.proofs.Perms.{perm-sym, perm-each, perm-length, perm-total, perm-snoc}
-use Rattle.rtree.proofs.Totals.{total-both, total-cons, leaves-at, nodes-at, leaves-under, nodes-under, leaves-hull, nodes-hull}
+use Rattle.tree_node.specs.declared.NodeEntry.{NodeEntry}
+use Rattle.tree_node.specs.Layout.{freeStart}
+use Rattle.tree_node.specs.Node.{entries}
+use Rattle.tree_node.specs.Free.{free}
+use Rattle.tree_node.specs.Boxes.{hull}
+use Rattle.tree_node.specs.Tally.{total, hit, tally}
+use Rattle.tree_node.proofs.Counting.{hit-same}
+use Rattle.tree_node.proofs.Reading.{eight}
+use Rattle.tree_rules.specs.Tree.{Store, joined, leaves, nodes, leavesAt, nodesAt, Each, SoundUnder}
+use Rattle.permutation.specs.Perm.{Perm}
+use Rattle.permutation.specs.Perm.Perm.{next, trans}
+use Rattle.tree_rules.proofs.Every.{each-append, each-left, each-right}
+use Rattle.tree_rules.proofs.Kept.{Agree, kept-leaves, kept-nodes, kept-sound, sound-node}
+use Rattle.permutation.proofs.Perms.{perm-sym, perm-length, perm-snoc}
+use Rattle.tree_rules.proofs.Perms.{perm-each, perm-total}
+use Rattle.tree_rules.proofs.Totals.{total-both, total-cons, leaves-at, nodes-at, leaves-under, nodes-under, leaves-hull, nodes-hull}
 use Rattle.tree_repair.specs.Repair.{Sibling, Loose, Lifted, Merged, Shared, Repaired}
 use Rattle.tree_repair.specs.Repair.Joined.{merged, shared}
 use Rattle.tree_repair.specs.Repair.Repaired.{lifted, joinedTo}
 
 -- node n's child c, which may have lost an entry, and n's other entries l, which stand at height h + 1: all sound, and no node stands twice
-pub record Parted (h n c : ℕ) (l : List Entry) (b : List ℕ) : Type 0 where
+pub record Parted (h n c : ℕ) (l : List NodeEntry) (b : List ℕ) : Type 0 where
   pub len : length b ≡ tableBytes
   pub parent : n < maxNodes
   pub child : c < maxNodes
   pub least : 2 ≤ length (entries b c)
-  pub below : Each (Sound (entries b) h) (entries b c)
-  pub others : Each (Sound (entries b) (suc h)) l
+  pub below : Each (SoundUnder (entries b) h) (entries b c)
+  pub others : Each (SoundUnder (entries b) (suc h)) l
   pub apart : (m : ℕ) → hit m n + tally m (nodesAt (entries b) h c) + tally m (joined (nodes (entries b) (suc h)) l) + tally m (free b) ≤ 1
   pub room : length (free b) < maxNodes
 
 -- node n has sound entries again, over the same leaf entries and nodes
-pub record Renewed (h n c : ℕ) (l : List Entry) (b b′ : List ℕ) : Type 0 where
-  pub sound : Each (Sound (entries b′) (suc h)) (entries b′ n)
+pub record Renewed (h n c : ℕ) (l : List NodeEntry) (b b′ : List ℕ) : Type 0 where
+  pub sound : Each (SoundUnder (entries b′) (suc h)) (entries b′ n)
   pub least : length l ≤ length (entries b′ n)
-  pub leaf : (w : Entry → ℕ) → total w (joined (leaves (entries b′) (suc h)) (entries b′ n)) ≡ total w (leavesAt (entries b) h c) + total w (joined (leaves (entries b) (suc h)) l)
+  pub leaf : (w : NodeEntry → ℕ) → total w (joined (leaves (entries b′) (suc h)) (entries b′ n)) ≡ total w (leavesAt (entries b) h c) + total w (joined (leaves (entries b) (suc h)) l)
   pub ids : (w : ℕ → ℕ) → total w (joined (nodes (entries b′) (suc h)) (entries b′ n)) + total w (free b′)
       ≡ total w (nodesAt (entries b) h c) + total w (joined (nodes (entries b) (suc h)) l) + total w (free b)
   pub rest : (m : ℕ) → (m ≡ n → ⊥) → tally m (nodesAt (entries b) h c) + tally m (joined (nodes (entries b) (suc h)) l) ≡ 0 → entries b′ m ≡ entries b m
   pub only : Only freeStart tableBytes b b′
 
-module _ (h n c : ℕ) (l : List Entry) (b : List ℕ) (pt : Parted h n c l b) where
+module _ (h n c : ℕ) (l : List NodeEntry) (b : List ℕ) (pt : Parted h n c l b) where
   abbrev E : Store
   E = entries b
 
@@ -55,8 +56,8 @@ module _ (h n c : ℕ) (l : List Entry) (b : List ℕ) (pt : Parted h n c l b) w
   at-c = nodes-at E h c (E c) refl
 
   -- the siblings of c are other nodes, with entries enough
-  siblings : (r : List Entry) → Each (Sound E (suc h)) r → ((m : ℕ) → hit m n + hit m c + tally m (joined (nodes E (suc h)) r) ≤ 1) → Each (λ g. Sibling n c b (g .reference)) r
-  unfolding Each Sound
+  siblings : (r : List NodeEntry) → Each (SoundUnder E (suc h)) r → ((m : ℕ) → hit m n + hit m c + tally m (joined (nodes E (suc h)) r) ≤ 1) → Each (λ g. Sibling n c b (g .reference)) r
+  unfolding Each SoundUnder
   siblings [] s p = tt
   siblings (g ∷ r) s p = (
     record { id = s .0 .id; under = λ q. twice n q (hit-same n n refl); other = λ q. twice′ c q (hit-same c c refl); least = s .0 .least },
@@ -111,10 +112,10 @@ module _ (h n c : ℕ) (l : List Entry) (b : List ℕ) (pt : Parted h n c l b) w
     lifted-here : Perm (E′ n) (hull c (E c) ∷ l)
     lifted-here = rw (x .here) (perm-snoc l (hull c (E c)))
 
-    lifted-sound : Sound E′ (suc h) (hull c (E c))
+    lifted-sound : SoundUnder E′ (suc h) (hull c (E c))
     lifted-sound =
         subst
-        (λ (z : List Entry). Sound E′ (suc h) (hull c z))
+        (λ (z : List NodeEntry). SoundUnder E′ (suc h) (hull c z))
         lifted-c
         (sound-node
         E′
@@ -129,7 +130,7 @@ module _ (h n c : ℕ) (l : List Entry) (b : List ℕ) (pt : Parted h n c l b) w
     unfolding Each
     lifted-renewed =
         record {
-          sound = perm-each (Sound E′ (suc h)) (perm-sym lifted-here) (lifted-sound, kept-sound E E′ (suc h) l lifted-others (pt .others));
+          sound = perm-each (SoundUnder E′ (suc h)) (perm-sym lifted-here) (lifted-sound, kept-sound E E′ (suc h) l lifted-others (pt .others));
           least = omega (arith, perm-length lifted-here);
           leaf =
               λ w. omega (
@@ -157,7 +158,7 @@ module _ (h n c : ℕ) (l : List Entry) (b : List ℕ) (pt : Parted h n c l b) w
         }
 
   -- c is joined with g's child
-  module _ (g : Entry) (stay : List Entry) (p : Perm l (g ∷ stay)) where
+  module _ (g : NodeEntry) (stay : List NodeEntry) (p : Perm l (g ∷ stay)) where
     abbrev d : ℕ
     d = g .reference
 
@@ -165,7 +166,7 @@ module _ (h n c : ℕ) (l : List Entry) (b : List ℕ) (pt : Parted h n c l b) w
     at-d w = ap (total w) (nodes-under E h g) ∙ nodes-at E h d (E d) refl w
 
     -- what stood under n
-    was-leaves : (w : Entry → ℕ) → total w (leavesAt E h c) + total w (joined (leaves E (suc h)) l)
+    was-leaves : (w : NodeEntry → ℕ) → total w (leavesAt E h c) + total w (joined (leaves E (suc h)) l)
         ≡ total w (joined (leaves E h) (E c)) + total w (joined (leaves E h) (E d)) + total w (joined (leaves E (suc h)) stay)
     was-leaves w =
         omega (
@@ -181,19 +182,19 @@ module _ (h n c : ℕ) (l : List Entry) (b : List ℕ) (pt : Parted h n c l b) w
         ≡ (w c + total w (joined (nodes E h) (E c))) + (w d + total w (joined (nodes E h) (E d))) + total w (joined (nodes E (suc h)) stay)
     was-nodes w = omega (arith, at-c w, perm-total w (nodes E (suc h)) p, total-cons w (nodes E (suc h)) g stay, at-d w)
 
-    g-sound : Each (Sound E (suc h)) (g ∷ stay)
-    g-sound = perm-each (Sound E (suc h)) p (pt .others)
+    g-sound : Each (SoundUnder E (suc h)) (g ∷ stay)
+    g-sound = perm-each (SoundUnder E (suc h)) p (pt .others)
 
-    stay-sound : Each (Sound E (suc h)) stay
+    stay-sound : Each (SoundUnder E (suc h)) stay
     unfolding Each
     stay-sound = g-sound .1
 
     d-id : d < maxNodes
-    unfolding Each Sound
+    unfolding Each SoundUnder
     d-id = g-sound .0 .id
 
-    d-below : Each (Sound E h) (E d)
-    unfolding Each Sound
+    d-below : Each (SoundUnder E h) (E d)
+    unfolding Each SoundUnder
     d-below = g-sound .0 .below
 
     -- all nodes but n, c and d are as they were
@@ -227,11 +228,11 @@ module _ (h n c : ℕ) (l : List Entry) (b : List ℕ) (pt : Parted h n c l b) w
           (λ (q : m ≡ d). omega (arith, was-nodes (hit m), hit-same m d q))
 
       -- the entries of c and d are those of C and D now
-      module _ (C D : List Entry) (q : Perm (E c ++ E d) (C ++ D)) where
-        both : {A : Type 0} (w : A → ℕ) (F : Entry → List A) → total w (joined F C) + total w (joined F D) ≡ total w (joined F (E c)) + total w (joined F (E d))
+      module _ (C D : List NodeEntry) (q : Perm (E c ++ E d) (C ++ D)) where
+        both : {A : Type 0} (w : A → ℕ) (F : NodeEntry → List A) → total w (joined F C) + total w (joined F D) ≡ total w (joined F (E c)) + total w (joined F (E d))
         both w F = omega (arith, perm-total w F q, total-both w F (E c) (E d), total-both w F C D)
 
-        both-leaves : (w : Entry → ℕ) → total w (joined (leaves E″ h) C) + total w (joined (leaves E″ h) D) ≡ total w (joined (leaves E h) (E c)) + total w (joined (leaves E h) (E d))
+        both-leaves : (w : NodeEntry → ℕ) → total w (joined (leaves E″ h) C) + total w (joined (leaves E″ h) D) ≡ total w (joined (leaves E h) (E c)) + total w (joined (leaves E h) (E d))
         both-leaves w =
             omega (
               arith,
@@ -249,22 +250,22 @@ module _ (h n c : ℕ) (l : List Entry) (b : List ℕ) (pt : Parted h n c l b) w
               ap (total w) (kept-nodes E E″ h (E d) d-kept),
             )
 
-        both-sound : Each (Sound E″ h) (C ++ D)
+        both-sound : Each (SoundUnder E″ h) (C ++ D)
         both-sound =
             perm-each
-            (Sound E″ h)
+            (SoundUnder E″ h)
             q
-            (each-append (Sound E″ h) (E c) (E d) (kept-sound E E″ h (E c) c-kept (pt .below)) (kept-sound E E″ h (E d) d-kept d-below))
+            (each-append (SoundUnder E″ h) (E c) (E d) (kept-sound E E″ h (E c) c-kept (pt .below)) (kept-sound E E″ h (E d) d-kept d-below))
 
     pub merged-renewed : (b′ : List ℕ) → Merged n c d stay b b′ → Renewed h n c l b b′
     unfolding Each joined total
     merged-renewed b′ x =
         let F : Store = entries b′ in
-        let D : List Entry = F d in
+        let D : List NodeEntry = F d in
         let here : Perm (F n) (hull d D ∷ stay) = rw (x .here) (perm-snoc stay (hull d D)) in
-        let sd : Sound F (suc h) (hull d D) = sound-node F h d d-id (x .least) (eight b′ d) (both-sound b′ (x .rest) [] D (x .perm)) in
+        let sd : SoundUnder F (suc h) (hull d D) = sound-node F h d d-id (x .least) (eight b′ d) (both-sound b′ (x .rest) [] D (x .perm)) in
         record {
-          sound = perm-each (Sound F (suc h)) (perm-sym here) (sd, kept-sound E F (suc h) stay (stay-kept b′ (x .rest)) stay-sound);
+          sound = perm-each (SoundUnder F (suc h)) (perm-sym here) (sd, kept-sound E F (suc h) stay (stay-kept b′ (x .rest)) stay-sound);
           least = omega (arith, perm-length here, perm-length p);
           leaf =
               λ w. omega (
@@ -295,15 +296,15 @@ module _ (h n c : ℕ) (l : List Entry) (b : List ℕ) (pt : Parted h n c l b) w
     unfolding Each
     shared-renewed b′ x =
         let F : Store = entries b′ in
-        let C : List Entry = F c in
-        let D : List Entry = F d in
+        let C : List NodeEntry = F c in
+        let D : List NodeEntry = F d in
         let here : Perm (F n) (hull d D ∷ hull c C ∷ stay) =
         rw (x .here) (trans (perm-snoc (stay ++ (hull c C ∷ [])) (hull d D)) (next (perm-snoc stay (hull c C)))) in
-        let all : Each (Sound F h) (C ++ D) = both-sound b′ (x .rest) C D (x .perm) in
-        let sc : Sound F (suc h) (hull c C) = sound-node F h c (pt .child) (x .least) (eight b′ c) (each-left (Sound F h) C D all) in
-        let sd : Sound F (suc h) (hull d D) = sound-node F h d d-id (x .least₂) (eight b′ d) (each-right (Sound F h) C D all) in
+        let all : Each (SoundUnder F h) (C ++ D) = both-sound b′ (x .rest) C D (x .perm) in
+        let sc : SoundUnder F (suc h) (hull c C) = sound-node F h c (pt .child) (x .least) (eight b′ c) (each-left (SoundUnder F h) C D all) in
+        let sd : SoundUnder F (suc h) (hull d D) = sound-node F h d d-id (x .least₂) (eight b′ d) (each-right (SoundUnder F h) C D all) in
         record {
-          sound = perm-each (Sound F (suc h)) (perm-sym here) (sd, (sc, kept-sound E F (suc h) stay (stay-kept b′ (x .rest)) stay-sound));
+          sound = perm-each (SoundUnder F (suc h)) (perm-sym here) (sd, (sc, kept-sound E F (suc h) stay (stay-kept b′ (x .rest)) stay-sound));
           least = omega (arith, perm-length here, perm-length p);
           leaf =
               λ w. omega (
@@ -334,7 +335,7 @@ module _ (h n c : ℕ) (l : List Entry) (b : List ℕ) (pt : Parted h n c l b) w
           only = x .only;
         }
 
-pub renewed : (h n c : ℕ) (l : List Entry) (b b′ : List ℕ) → Parted h n c l b → Repaired n c l b b′ → Renewed h n c l b b′
+pub renewed : (h n c : ℕ) (l : List NodeEntry) (b b′ : List ℕ) → Parted h n c l b → Repaired n c l b b′ → Renewed h n c l b b′
 renewed h n c l b b′ pt (lifted x) = lifted-renewed h n c l b pt b′ x
 renewed h n c l b b′ pt (joinedTo g stay p (merged x)) = merged-renewed h n c l b pt g stay p b′ x
 renewed h n c l b b′ pt (joinedTo g stay p (shared x)) = shared-renewed h n c l b pt g stay p b′ x

@@ -6,22 +6,22 @@ use Prim.Native.Nat.{ℕ, suc, _+_, _-_, _≤_, _<_}
 use native.Mathlib.Omega.{arith}
 use lib.ListN.{length, getD}
 use Rattle.words.proofs.Frame.{only-refl}
-use Rattle.node.specs.declared.Entry.{Entry}
-use Rattle.node.specs.declared.Root.{Root}
-use Rattle.node.specs.Node.{entries, noEntry}
-use Rattle.node.specs.Free.{Given}
-use Rattle.node.specs.Tally.{total}
-use Rattle.node.proofs.Reading.{eight}
-use Rattle.node.proofs.Storing.{nodes-kept}
-use Rattle.node.proofs.FreeStack.{low-in-tree}
-use Rattle.rtree.specs.Tree.{Store, joined, leaves, nodes, Each, Child, Sound}
-use Rattle.rtree.specs.Rooted.{treeLeaves, treeNodes, RootSound}
-use Rattle.rtree.specs.Change.{Ready, Became}
-use Rattle.rtree.proofs.Totals.{total-cons, leaves-at, nodes-at, leaves-under, nodes-under}
-use Rattle.rtree.proofs.Outside.{same-leaves, same-nodes, same-sound}
+use Rattle.tree_node.specs.declared.NodeEntry.{NodeEntry}
+use Rattle.tree_node.specs.declared.Root.{Root}
+use Rattle.tree_node.specs.Node.{entries, noEntry}
+use Rattle.tree_node.specs.Free.{Given}
+use Rattle.tree_node.specs.Tally.{total}
+use Rattle.tree_node.proofs.Reading.{eight}
+use Rattle.tree_node.proofs.Storing.{nodes-kept}
+use Rattle.tree_node.proofs.FreeStack.{low-in-tree}
+use Rattle.tree_rules.specs.Tree.{Store, joined, leaves, nodes, Each, Child, SoundUnder}
+use Rattle.tree_rules.specs.Rooted.{treeLeaves, treeNodes, RootSound}
+use Rattle.tree_rules.specs.Change.{Ready, Became}
+use Rattle.tree_rules.proofs.Totals.{total-cons, leaves-at, nodes-at, leaves-under, nodes-under}
+use Rattle.tree_rules.proofs.Outside.{same-leaves, same-nodes, same-sound}
 use Rattle.tree_repair.proofs.Joining.{no-entries}
 
-single : (l : List Entry) (f : Entry) → length l ≡ 1 → f ≡ getD l 0 noEntry → l ≡ f ∷ []
+single : (l : List NodeEntry) (f : NodeEntry) → length l ≡ 1 → f ≡ getD l 0 noEntry → l ≡ f ∷ []
 single [] f p q = absurd (omega arith)
 single (e ∷ l) f p q = rw (q, no-entries l (omega arith))
 
@@ -56,13 +56,13 @@ module _ (g n : ℕ) (b : List ℕ) (rd : Ready g n b) where
       }
 
   -- its one child is the root
-  module _ (k : ℕ) (f : Entry) (here : entries b n ≡ f ∷ []) (up : suc k ≡ g) where
+  module _ (k : ℕ) (f : NodeEntry) (here : entries b n ≡ f ∷ []) (up : suc k ≡ g) where
     abbrev E : Store
     E = entries b
 
-    child : Child E (Sound E k) f
-    unfolding Each Sound
-    child = let s : Each (Sound E (suc k)) (f ∷ []) = rw (here, ← up) at (rd .sound) in s .0
+    child : Child E (SoundUnder E k) f
+    unfolding Each SoundUnder
+    child = let s : Each (SoundUnder E (suc k)) (f ∷ []) = rw (here, ← up) at (rd .sound) in s .0
 
     top : RootSound E (Root.Top k (f .reference))
     unfolding RootSound
@@ -75,7 +75,7 @@ module _ (g n : ℕ) (b : List ℕ) (rd : Ready g n b) where
           below = child .below;
         }
 
-    leaf-totals : (w : Entry → ℕ) → total w (treeLeaves E (Root.Top k (f .reference))) ≡ total w (treeLeaves E (Root.Top g n))
+    leaf-totals : (w : NodeEntry → ℕ) → total w (treeLeaves E (Root.Top k (f .reference))) ≡ total w (treeLeaves E (Root.Top g n))
     unfolding treeLeaves joined total
     leaf-totals w =
         rw (← up)
@@ -109,7 +109,7 @@ module _ (g n : ℕ) (b : List ℕ) (rd : Ready g n b) where
           only = low-in-tree (gv .only);
         }
 
-  pub shrink-child : (m : ℕ) (f : Entry) (b₁ : List ℕ) → m ≡ length (entries b n) → ((g ≡ 0 → ⊥) → 1 ≤ length (entries b n)) → (g ≡ 0 → ⊥) → m ≤ 1 → f ≡ getD (entries b n) 0 noEntry → Given n b b₁
+  pub shrink-child : (m : ℕ) (f : NodeEntry) (b₁ : List ℕ) → m ≡ length (entries b n) → ((g ≡ 0 → ⊥) → 1 ≤ length (entries b n)) → (g ≡ 0 → ⊥) → m ≤ 1 → f ≡ getD (entries b n) 0 noEntry → Given n b b₁
       → Became (Root.Top g n) (Root.Top (g - 1) (f .reference)) b b₁
   shrink-child m f b₁ q some nz le qf gv =
       let one : 1 ≤ length (entries b n) = some nz in

@@ -7,25 +7,25 @@ use native.Mathlib.Omega.{arith}
 use lib.ListN.{length, length-append}
 use Rattle.limits.specs.Limits.{maxEntries, maxNodes, tableBytes}
 use Rattle.words.proofs.Frame.{only-trans}
-use Rattle.node.specs.declared.Entry.{Entry}
-use Rattle.node.specs.Node.{entries, Wrote}
-use Rattle.node.specs.Free.{free, Given}
-use Rattle.node.specs.Boxes.{hull}
-use Rattle.node.proofs.Reading.{eight}
-use Rattle.node.proofs.Storing.{others, nodes-kept, in-pool, in-tree}
-use Rattle.node.proofs.FreeStack.{free-kept, low-in-tree}
-use Rattle.rtree.specs.Perm.{Perm}
-use Rattle.rtree.specs.Perm.Perm.{trans}
-use Rattle.rtree.proofs.Perms.{perm-flip}
+use Rattle.tree_node.specs.declared.NodeEntry.{NodeEntry}
+use Rattle.tree_node.specs.Node.{entries, Wrote}
+use Rattle.tree_node.specs.Free.{free, Given}
+use Rattle.tree_node.specs.Boxes.{hull}
+use Rattle.tree_node.proofs.Reading.{eight}
+use Rattle.tree_node.proofs.Storing.{others, nodes-kept, in-pool, in-tree}
+use Rattle.tree_node.proofs.FreeStack.{free-kept, low-in-tree}
+use Rattle.permutation.specs.Perm.{Perm}
+use Rattle.permutation.specs.Perm.Perm.{trans}
+use Rattle.permutation.proofs.Perms.{perm-flip}
 use Rattle.tree_repair.specs.Moved.{Moved}
-use Rattle.tree_repair.specs.Repair.{Pair, Merged, Shared}
+use Rattle.tree_repair.specs.Repair.{SiblingPair, Merged, Shared}
 
-pub no-entries : (l : List Entry) → length l ≡ 0 → l ≡ []
+pub no-entries : (l : List NodeEntry) → length l ≡ 0 → l ≡ []
 no-entries [] p = refl
 no-entries (e ∷ l) p = absurd (omega arith)
 
 -- the steps of a merge
-module _ (n c d : ℕ) (b b₁ : List ℕ) (pr : Pair n c d b) (mv : Moved c d 2 b b₁) where
+module _ (n c d : ℕ) (b b₁ : List ℕ) (pr : SiblingPair n c d b) (mv : Moved c d 2 b b₁) where
   pub merge-len : length b₁ ≡ tableBytes
   merge-len = mv .rest .only .len ∙ pr .len
 
@@ -62,11 +62,11 @@ module _ (n c d : ℕ) (b b₁ : List ℕ) (pr : Pair n c d b) (mv : Moved c d 2
 pub share-some : (d m many : ℕ) (b : List ℕ) → many ≡ length (entries b d) → 2 + 2 * m ≤ many → m ≤ length (entries b d)
 share-some d m many b q le = omega arith
 
-pub share-fits : (n c d m many : ℕ) (b : List ℕ) → Pair n c d b → many ≡ length (entries b d) → 2 + 2 * m ≤ many → length (entries b c) + m ≤ maxEntries
+pub share-fits : (n c d m many : ℕ) (b : List ℕ) → SiblingPair n c d b → many ≡ length (entries b d) → 2 + 2 * m ≤ many → length (entries b c) + m ≤ maxEntries
 share-fits n c d m many b pr q le = omega (arith, pr .two, eight b d)
 
 -- the steps of sharing anew
-module _ (n c d m : ℕ) (b b₁ : List ℕ) (pr : Pair n c d b) (mv : Moved d c m b b₁) where
+module _ (n c d m : ℕ) (b b₁ : List ℕ) (pr : SiblingPair n c d b) (mv : Moved d c m b b₁) where
   parent-kept : entries b₁ n ≡ entries b n
   parent-kept = mv .rest .rest n (pr .sibling .under) (pr .under)
 

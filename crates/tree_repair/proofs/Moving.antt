@@ -7,31 +7,32 @@ use native.Mathlib.Omega.{arith}
 use lib.ListN.{length, getD, length-append}
 use Rattle.limits.specs.Limits.{maxEntries, maxNodes, tableBytes}
 use Rattle.words.proofs.Frame.{only-trans}
-use Rattle.node.specs.declared.Entry.{Entry}
-use Rattle.node.specs.Node.{entries, noEntry, swapOut, Wrote}
-use Rattle.node.proofs.Storing.{others, in-pool, only-two-refl, only-two-trans}
-use Rattle.rtree.specs.Perm.{Perm}
-use Rattle.rtree.specs.Perm.Perm.{same, trans}
-use Rattle.rtree.proofs.Perms.{perm-sym, perm-left, perm-snoc, swapOut-perm, length-swapOut}
+use Rattle.tree_node.specs.declared.NodeEntry.{NodeEntry}
+use Rattle.tree_node.specs.Node.{entries, noEntry, swapOut, Wrote}
+use Rattle.tree_node.proofs.Storing.{others, in-pool, only-two-refl, only-two-trans}
+use Rattle.permutation.specs.Perm.{Perm}
+use Rattle.permutation.specs.Perm.Perm.{same, trans}
+use Rattle.permutation.proofs.Perms.{perm-sym, perm-left, perm-snoc}
+use Rattle.tree_rules.proofs.Perms.{swapOut-perm, length-swapOut}
 use Rattle.tree_repair.specs.Moved.{Moved}
 
 -- the node that gets an entry has room for it still, when the other has lost it
-pub move-room : (c d : ℕ) (l : List Entry) (b b₁ : List ℕ) → (c ≡ d → ⊥) → Wrote c l b b₁ → length (entries b d) < maxEntries → length (entries b₁ d) < maxEntries
+pub move-room : (c d : ℕ) (l : List NodeEntry) (b b₁ : List ℕ) → (c ≡ d → ⊥) → Wrote c l b b₁ → length (entries b d) < maxEntries → length (entries b₁ d) < maxEntries
 move-room c d l b b₁ ne w lt = omega (arith, ap length (others (w .only) d (λ (q : d ≡ c). ne (sym q))))
 
 -- entry k of node c, which is e, has gone to node d
-module _ (c d k : ℕ) (e : Entry) (b b₁ b₂ : List ℕ) (ne : c ≡ d → ⊥) (lc : c < maxNodes) (ld : d < maxNodes) (lt : k < length (entries b c))
+module _ (c d k : ℕ) (e : NodeEntry) (b b₁ b₂ : List ℕ) (ne : c ≡ d → ⊥) (lc : c < maxNodes) (ld : d < maxNodes) (lt : k < length (entries b c))
     (qe : e ≡ getD (entries b c) k noEntry) (w₁ : Wrote c (swapOut (entries b c) k) b b₁) (w₂ : Wrote d (entries b₁ d ++ (e ∷ [])) b₁ b₂) where
   giver : entries b₂ c ≡ swapOut (entries b c) k
   giver = others (w₂ .only) c ne ∙ w₁ .here
 
   taker : entries b₂ d ≡ entries b d ++ (e ∷ [])
-  taker = w₂ .here ∙ ap (λ (l : List Entry). l ++ (e ∷ [])) (others (w₁ .only) d (λ (q : d ≡ c). ne (sym q)))
+  taker = w₂ .here ∙ ap (λ (l : List NodeEntry). l ++ (e ∷ [])) (others (w₁ .only) d (λ (q : d ≡ c). ne (sym q)))
 
   both : Perm (entries b c ++ entries b d) (entries b₂ c ++ entries b₂ d)
   both =
-      let S : List Entry = swapOut (entries b c) k in
-      let D : List Entry = entries b d in
+      let S : List NodeEntry = swapOut (entries b c) k in
+      let D : List NodeEntry = entries b d in
       let p : Perm (entries b c ++ D) (e ∷ (S ++ D)) = rw qe (perm-left D (swapOut-perm (entries b c) k lt)) in
       rw (giver, taker, ← append-assoc S D (e ∷ [])) (trans p (perm-sym (perm-snoc (S ++ D) e)))
 

@@ -8,23 +8,23 @@ use lib.ListN.{length, getD}
 use Rattle.limits.specs.Limits.{maxEntries, minEntries, maxNodes, tableBytes}
 use Rattle.words.specs.Words.{Only}
 use Rattle.words.proofs.Frame.{only-trans}
-use Rattle.node.specs.declared.Entry.{Entry}
-use Rattle.node.specs.Layout.{freeStart}
-use Rattle.node.specs.Node.{entries, noEntry, swapOut, Wrote}
-use Rattle.node.specs.Free.{free}
-use Rattle.node.specs.Boxes.{hull}
-use Rattle.node.proofs.Reading.{eight}
-use Rattle.node.proofs.Storing.{others, in-pool, in-tree}
-use Rattle.node.proofs.FreeStack.{free-kept}
-use Rattle.rtree.specs.Tree.{Each}
-use Rattle.rtree.proofs.Every.{each-at, each-map}
-use Rattle.rtree.proofs.Perms.{perm-each, swapOut-perm, length-swapOut}
-use Rattle.tree_repair.specs.Repair.{Sibling, Loose, Pair, Lifted, Joined, Repaired}
+use Rattle.tree_node.specs.declared.NodeEntry.{NodeEntry}
+use Rattle.tree_node.specs.Layout.{freeStart}
+use Rattle.tree_node.specs.Node.{entries, noEntry, swapOut, Wrote}
+use Rattle.tree_node.specs.Free.{free}
+use Rattle.tree_node.specs.Boxes.{hull}
+use Rattle.tree_node.proofs.Reading.{eight}
+use Rattle.tree_node.proofs.Storing.{others, in-pool, in-tree}
+use Rattle.tree_node.proofs.FreeStack.{free-kept}
+use Rattle.tree_rules.specs.Tree.{Each}
+use Rattle.tree_rules.proofs.Every.{each-at, each-map}
+use Rattle.tree_rules.proofs.Perms.{perm-each, swapOut-perm, length-swapOut}
+use Rattle.tree_repair.specs.Repair.{Sibling, Loose, SiblingPair, Lifted, Joined, Repaired}
 use Rattle.tree_repair.specs.Repair.Joined.{merged, shared}
 use Rattle.tree_repair.specs.Repair.Repaired.{lifted, joinedTo}
 
 -- node n alone has changed
-module _ (n c : ℕ) (r : List Entry) (b b₁ : List ℕ) (under : n ≡ c → ⊥) (parent : n < maxNodes) (w : Wrote n r b b₁) where
+module _ (n c : ℕ) (r : List NodeEntry) (b b₁ : List ℕ) (under : n ≡ c → ⊥) (parent : n < maxNodes) (w : Wrote n r b b₁) where
   child-same : entries b₁ c ≡ entries b c
   child-same = others (w .only) c (λ (q : c ≡ n). under (sym q))
 
@@ -43,7 +43,7 @@ module _ (n c : ℕ) (r : List Entry) (b b₁ : List ℕ) (under : n ≡ c → �
         least = rw (others (w .only) d (λ (q : d ≡ n). s .under (sym q))) (s .least);
       }
 
-  loose-same : (l : List Entry) → Loose n c l b → Loose n c l b₁
+  loose-same : (l : List NodeEntry) → Loose n c l b → Loose n c l b₁
   loose-same l ls =
       record {
         len = w .only .len ∙ ls .len;
@@ -56,7 +56,7 @@ module _ (n c : ℕ) (r : List Entry) (b b₁ : List ℕ) (under : n ≡ c → �
       }
 
   -- what is done after that is done of what stood before
-  lifted-back : (l : List Entry) (b₂ : List ℕ) → Lifted n c l b₁ b₂ → Lifted n c l b b₂
+  lifted-back : (l : List NodeEntry) (b₂ : List ℕ) → Lifted n c l b₁ b₂ → Lifted n c l b b₂
   lifted-back l b₂ x =
       record {
         least = rw (← child-same) (x .least);
@@ -70,7 +70,7 @@ module _ (n c : ℕ) (r : List Entry) (b b₁ : List ℕ) (under : n ≡ c → �
     sibling-kept : entries b₁ d ≡ entries b d
     sibling-kept = others (w .only) d (λ (q : d ≡ n). other (sym q))
 
-    joined-back : (l : List Entry) (b₂ : List ℕ) → Joined n c d l b₁ b₂ → Joined n c d l b b₂
+    joined-back : (l : List NodeEntry) (b₂ : List ℕ) → Joined n c d l b₁ b₂ → Joined n c d l b b₂
     joined-back l b₂ (merged x) =
         merged
         record {
@@ -94,12 +94,12 @@ module _ (n c : ℕ) (r : List Entry) (b b₁ : List ℕ) (under : n ≡ c → �
         }
 
 -- a sibling g is taken from n
-module _ (n c j : ℕ) (g : Entry) (b b₁ : List ℕ) (ls : Loose n c (entries b n) b) (lt : j < length (entries b n)) (qg : g ≡ getD (entries b n) j noEntry)
+module _ (n c j : ℕ) (g : NodeEntry) (b b₁ : List ℕ) (ls : Loose n c (entries b n) b) (lt : j < length (entries b n)) (qg : g ≡ getD (entries b n) j noEntry)
     (w : Wrote n (swapOut (entries b n) j) b b₁) where
   sibling : Sibling n c b (g .reference)
   sibling = rw qg (each-at (λ x. Sibling n c b (x .reference)) (entries b n) j noEntry (ls .siblings) lt)
 
-  pub nearest-pair : length (entries b c) ≡ 2 → length (entries b n) < maxEntries → Pair n c (g .reference) b₁
+  pub nearest-pair : length (entries b c) ≡ 2 → length (entries b n) < maxEntries → SiblingPair n c (g .reference) b₁
   nearest-pair two lt₈ =
       record {
         len = w .only .len ∙ ls .len;
@@ -131,10 +131,10 @@ module _ (n c j : ℕ) (g : Entry) (b b₁ : List ℕ) (ls : Loose n c (entries 
       (sibling .under)
       (swapOut (entries b n) j)
       b₂
-      (subst (λ (l : List Entry). Joined n c (g .reference) l b₁ b₂) (w .here) x))
+      (subst (λ (l : List NodeEntry). Joined n c (g .reference) l b₁ b₂) (w .here) x))
 
 -- a child with entries enough
-pub lift-done : (n c k : ℕ) (g : Entry) (b b₁ : List ℕ) → Loose n c (entries b n) b → k ≡ length (entries b c) → minEntries ≤ k → g ≡ hull c (entries b c)
+pub lift-done : (n c k : ℕ) (g : NodeEntry) (b b₁ : List ℕ) → Loose n c (entries b n) b → k ≡ length (entries b c) → minEntries ≤ k → g ≡ hull c (entries b c)
     → Wrote n (entries b n ++ (g ∷ [])) b b₁ → Repaired n c (entries b n) b b₁
 lift-done n c k g b b₁ ls q le qg w =
     lifted
@@ -150,7 +150,7 @@ lift-done n c k g b b₁ ls q le qg w =
 module _ (n c k : ℕ) (b b₁ : List ℕ) (ls : Loose n c (swapOut (entries b n) k) b) (lt : k < length (entries b n)) (w : Wrote n (swapOut (entries b n) k) b b₁) where
   pub repair-loose : Loose n c (entries b₁ n) b₁
   repair-loose =
-      subst (λ (l : List Entry). Loose n c l b₁) (sym (w .here)) (loose-same n c _ b b₁ (ls .under) (ls .parent) w (swapOut (entries b n) k) ls)
+      subst (λ (l : List NodeEntry). Loose n c l b₁) (sym (w .here)) (loose-same n c _ b b₁ (ls .under) (ls .parent) w (swapOut (entries b n) k) ls)
 
   pub repair-some : 2 ≤ length (entries b n) → 0 < length (entries b₁ n)
   repair-some le = omega (arith, ap length (w .here), length-swapOut (entries b n) k lt)
@@ -159,7 +159,7 @@ module _ (n c k : ℕ) (b b₁ : List ℕ) (ls : Loose n c (swapOut (entries b n
   repair-room = omega (arith, ap length (w .here), length-swapOut (entries b n) k lt, eight b n)
 
   -- what stood in a list of siblings is a sibling
-  back : (l : List Entry) (b₂ : List ℕ) → Each (λ g. Sibling n c b (g .reference)) l → Repaired n c l b₁ b₂ → Repaired n c l b b₂
+  back : (l : List NodeEntry) (b₂ : List ℕ) → Each (λ g. Sibling n c b (g .reference)) l → Repaired n c l b₁ b₂ → Repaired n c l b b₂
   unfolding Each
   back l b₂ s (lifted x) = lifted (lifted-back n c _ b b₁ (ls .under) (ls .parent) w l b₂ x)
   back l b₂ s (joinedTo g stay p x) =
@@ -170,4 +170,4 @@ module _ (n c k : ℕ) (b b₁ : List ℕ) (ls : Loose n c (swapOut (entries b n
       (joined-back n c _ b b₁ (ls .under) (ls .parent) w (g .reference) (perm-each (λ y. Sibling n c b (y .reference)) p s .0 .under) stay b₂ x)
 
   pub repair-done : (b₂ : List ℕ) → Repaired n c (entries b₁ n) b₁ b₂ → Repaired n c (swapOut (entries b n) k) b b₂
-  repair-done b₂ x = back (swapOut (entries b n) k) b₂ (ls .siblings) (subst (λ (l : List Entry). Repaired n c l b₁ b₂) (w .here) x)
+  repair-done b₂ x = back (swapOut (entries b n) k) b₂ (ls .siblings) (subst (λ (l : List NodeEntry). Repaired n c l b₁ b₂) (w .here) x)

@@ -4,8 +4,8 @@ use mathlib.Core.Path.{_≡_}
 use mathlib.Core.List.{List, _++_}
 use Prim.Native.Nat.{ℕ, _+_}
 use lib.ListN.{length}
-use Rattle.node.specs.Node.{entries, OnlyTwo}
-use Rattle.rtree.specs.Perm.{Perm}
+use Rattle.tree_node.specs.Node.{entries, OnlyTwo}
+use Rattle.permutation.specs.Perm.{Perm}
 
 -- m entries have gone from node c to node d, and all else is as it was
 pub record Moved (c d m : ℕ) (b b′ : List ℕ) : Type 0 where

@@ -1,11 +1,11 @@
 // Entries moved from one node to another.
 use crate::near;
-use node::pool;
+use tree_node::pool;
 ghost use mathlib.Core.Path.{_≡_};
 ghost use Prim.Native.Nat.{_+_, _*_, _<_, _≤_};
 ghost use lib.ListN.{length};
 ghost use Rattle.limits.specs.Limits.{maxEntries, maxNodes, tableBytes};
-ghost use Rattle.node.specs.Node.{entries};
+ghost use Rattle.tree_node.specs.Node.{entries};
 ghost use Rattle.tree_repair.specs.Moved.{Moved};
 
 // Moves from node c to node d the entry that is nearest to d.

@@ -1,12 +1,13 @@
-// Which entry is nearest to a node. Only speed depends on it: any entry would do, so the contracts say no more than that there is one.
-use node::Entry;
-use node::boxes;
-use node::pool;
+// Which entry is nearest to a node. Only speed depends on it: any entry would do, so the contracts say no more than
+// that there is one.
+use tree_node::NodeEntry;
+use tree_node::boxes;
+use tree_node::pool;
 ghost use mathlib.Core.Path.{_≡_};
 ghost use Prim.Native.Nat.{_<_, _≤_};
 ghost use lib.ListN.{length};
 ghost use Rattle.limits.specs.Limits.{maxNodes, tableBytes};
-ghost use Rattle.node.specs.Node.{entries};
+ghost use Rattle.tree_node.specs.Node.{entries};
 
 // More than any half-perimeter.
 const WIDEST: u32 = 131071;
@@ -22,7 +23,7 @@ fn span(low: u16, high: u16) -> u32
 }
 
 // Half the perimeter of e's box.
-fn half_perimeter(e: Entry) -> u32
+fn half_perimeter(e: NodeEntry) -> u32
     ensures { λ r. ⌜ r ≤ 131070 ⌝ }
 {
     span(e.west, e.east) + span(e.south, e.north)
@@ -30,7 +31,8 @@ fn half_perimeter(e: Entry) -> u32
 
 // The entry of node n whose box and node c's have the smallest box around both, by its half-perimeter.
 pub fn nearest(table: &[u8], n: usize, c: usize) -> usize
-    requires { ⌜ (length (now table) ≡ tableBytes) × (n < maxNodes) × (c < maxNodes) × (0 < length (entries (now table) n)) ⌝ }
+    requires { ⌜ (length (now table) ≡ tableBytes) × (n < maxNodes) × (c < maxNodes)
+        × (0 < length (entries (now table) n)) ⌝ }
     ensures { λ r. ⌜ r < length (entries (now (table .entry)) n) ⌝ }
 {
     let f = boxes::hull_of(table, c);

@@ -12,30 +12,30 @@ use Rattle.grid.specs.declared.Leg.{Leg}
 use Rattle.grid.specs.declared.Area.{Area}
 use Rattle.grid.specs.Area.{AreaOnGrid, areaDistance}
 use Rattle.split.specs.Skip.{ShutOut}
-use Rattle.row.specs.Vertices.{stack}
-use Rattle.row_skip.specs.declared.Corner.{Corner}
-use Rattle.row_skip.specs.Skipping.{IsCorner}
-use Rattle.node.specs.declared.Entry.{Entry}
-use Rattle.node.specs.Node.{entries, noEntry}
-use Rattle.node.proofs.Counting.{le-or-lt}
-use Rattle.rtree.specs.Tree.{Each}
-use Rattle.rtree.proofs.Every.{each-at}
-use Rattle.tree_search.specs.Sites.{areaOf, Placed}
+use Rattle.list_row.specs.Vertices.{stack}
+use Rattle.grid.specs.declared.Corner.{Corner}
+use Rattle.list_skip.specs.Skipping.{IsCorner}
+use Rattle.tree_node.specs.declared.NodeEntry.{NodeEntry}
+use Rattle.tree_node.specs.Node.{entries, noEntry}
+use Rattle.tree_node.proofs.Counting.{le-or-lt}
+use Rattle.tree_rules.specs.Tree.{Each}
+use Rattle.tree_rules.proofs.Every.{each-at}
+use Rattle.tree_search.specs.Sites.{areaOf, BoxOnGrid}
 use Rattle.tree_search.specs.Searching.{entryOf, Measured, Skips}
 
 -- a is the box of e, which was read as d
-module _ (a : Area) (e d : Entry) (qa : a ≡ areaOf e) (qe : e ≡ d) where
-  pub area-placed : Placed d → AreaOnGrid a
+module _ (a : Area) (e d : NodeEntry) (qa : a ≡ areaOf e) (qe : e ≡ d) where
+  pub area-placed : BoxOnGrid d → AreaOnGrid a
   area-placed p = subst⁻¹ AreaOnGrid (qa ∙ ap areaOf qe) p
 
   pub area-far : (q : Position) {r : ℕ} → r ≡ areaDistance a q → r ≡ areaDistance (areaOf d) q
   area-far q h = h ∙ ap (λ (b : Area). areaDistance b q) (qa ∙ ap areaOf qe)
 
-pub placed-at : (t : List ℕ) (n i : ℕ) → Each Placed (entries t n) → i < length (entries t n) → Placed (entryOf t n i)
-placed-at t n i p lt = each-at Placed (entries t n) i noEntry p lt
+pub placed-at : (t : List ℕ) (n i : ℕ) → Each BoxOnGrid (entries t n) → i < length (entries t n) → BoxOnGrid (entryOf t n i)
+placed-at t n i p lt = each-at BoxOnGrid (entries t n) i noEntry p lt
 
 -- a list that shuts out the corner of e's box shuts out the box
-pub corner-skips : (l : Leg) (t r : List ℕ) (n : ℕ) (e : Entry) (k : Corner) → IsCorner l (areaOf e) k → ShutOut (stack l t r n) (k .a) (k .c) → Skips l t r n e
+pub corner-skips : (l : Leg) (t r : List ℕ) (n : ℕ) (e : NodeEntry) (k : Corner) → IsCorner l (areaOf e) k → ShutOut (stack l t r n) (k .a) (k .c) → Skips l t r n e
 corner-skips l t r n e k c w =
     subst
     (λ (x : ℕ). ShutOut (stack l t r n) (areaDistance (areaOf e) (l .s)) x)

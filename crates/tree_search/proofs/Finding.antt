@@ -2,7 +2,7 @@
 -- Assumes nothing.
 use mathlib.Core.Path.{_≡_, ap, subst, subst⁻¹}
 use mathlib.Core.List.{List, [], append-nil}
-use Prim.Native.Nat.{ℕ, _*_, _≤_, _<_}
+use Prim.Native.Nat.{ℕ, _≤_, _<_}
 use native.Mathlib.Omega.{arith}
 use lib.ListN.{length}
 use Rattle.limits.specs.Limits.{maxSites}
@@ -12,17 +12,17 @@ use Rattle.grid.specs.declared.Leg.{Leg}
 use Rattle.grid.specs.Position.{LegOnGrid}
 use Rattle.split.specs.SplitList.{Numbered, SameSites}
 use Rattle.split.specs.SplitOf.{splitOf}
-use Rattle.row.specs.Vertices.{rowBytes, Held, Lists, entriesIn}
-use Rattle.row.proofs.Listing.{lists-none, lists-is}
-use Rattle.node.specs.declared.Entry.{Entry}
-use Rattle.node.specs.declared.Root.{Root}
-use Rattle.node.specs.Node.{entries}
-use Rattle.node.specs.Header.{rootIn}
-use Rattle.rtree.specs.Tree.{leavesAt, Each}
-use Rattle.rtree.specs.Rooted.{treeLeaves, RootNode, Rooted, leavesIn}
-use Rattle.rtree.proofs.Roots.{root-node}
+use Rattle.list_row.specs.Vertices.{rowBytes, Held, Lists, entriesIn}
+use Rattle.list_row.proofs.Listing.{lists-none, lists-is}
+use Rattle.tree_node.specs.declared.NodeEntry.{NodeEntry}
+use Rattle.tree_node.specs.declared.Root.{Root}
+use Rattle.tree_node.specs.Node.{entries}
+use Rattle.tree_node.specs.Header.{rootIn}
+use Rattle.tree_rules.specs.Tree.{leavesAt, Each}
+use Rattle.tree_rules.specs.Rooted.{treeLeaves, RootNode, Rooted, leavesIn}
+use Rattle.tree_rules.proofs.Roots.{root-node}
 use Rattle.tree_search.specs.Sites.{LeafPoint, sites}
-use Rattle.tree_search.specs.Searching.{under, Readable, Ahead, Searched, Found}
+use Rattle.tree_search.specs.Searching.{under, Readable, Ahead, Searched, ListsTree}
 
 held-none : (l : Leg) (t r : List ℕ) → Held l t r 0
 held-none l t r = record { inside = omega arith; few = omega arith; sites = λ i h. absurd (omega arith); convex = tt }
@@ -37,7 +37,7 @@ module _ (t : List ℕ) (q : rootIn t ≡ Root.Empty) where
   unfolding sites
   no-sites = ap sites no-leaves
 
-  pub empty-found : (l : Leg) (r : List ℕ) → Found l t r r 0
+  pub empty-found : (l : Leg) (r : List ℕ) → ListsTree l t r r 0
   empty-found l r =
       record { within = omega arith; held = held-none l t r; lists = rw no-sites (lists-none l t r); only = only-refl }
 
@@ -57,7 +57,7 @@ module _ (t : List ℕ) (g n : ℕ) (rt : Rooted (rootIn t) t) (q : rootIn t ≡
   top-leaves = ap (treeLeaves (entries t)) q
 
   module _ (l : Leg) (r : List ℕ) where
-    pub top-ahead : Each LeafPoint (leavesIn t) → length (leavesIn t) ≤ maxSites → LegOnGrid l → 2 * rowBytes ≤ length r
+    pub top-ahead : Each LeafPoint (leavesIn t) → length (leavesIn t) ≤ maxSites → LegOnGrid l → rowBytes ≤ length r
         → Ahead l t r 0 (under t g (entries t n))
     top-ahead p few leg rows =
         subst
@@ -65,9 +65,9 @@ module _ (t : List ℕ) (g n : ℕ) (rt : Rooted (rootIn t) t) (q : rootIn t ≡
         top-leaves
         (record { leg = leg; held = held-none l t r; rows = rows; points = p; room = omega arith })
 
-    pub top-found : (r′ : List ℕ) (m : ℕ) → Searched l t r 0 (under t g (entries t n)) r′ m → Found l t r r′ m
+    pub top-found : (r′ : List ℕ) (m : ℕ) → Searched l t r 0 (under t g (entries t n)) r′ m → ListsTree l t r r′ m
     top-found r′ m h =
-        let s : Searched l t r 0 (leavesIn t) r′ m = subst⁻¹ (λ (q : List Entry). Searched l t r 0 q r′ m) top-leaves h in
+        let s : Searched l t r 0 (leavesIn t) r′ m = subst⁻¹ (λ (q : List NodeEntry). Searched l t r 0 q r′ m) top-leaves h in
         record {
           within = omega (arith, s .within);
           held = s .held;
@@ -81,6 +81,6 @@ numbered-same s u w n =
     record { small = λ p i. n .small p (w .back p i); one = λ p q i j. n .one p q (w .back p i) (w .back q j) }
 
 -- THE LIST FOUND is the split list of the tree's sites, in whatever order
-module _ {l : Leg} {t r r′ : List ℕ} {k : ℕ} (f : Found l t r r′ k) (u : List Site) (n : Numbered u) (w : SameSites u (sites (leavesIn t))) where
+module _ {l : Leg} {t r r′ : List ℕ} {k : ℕ} (f : ListsTree l t r r′ k) (u : List Site) (n : Numbered u) (w : SameSites u (sites (leavesIn t))) where
   pub found-is : entriesIn l t r′ k ≡ splitOf l u
   found-is = lists-is l t r′ k (sites (leavesIn t)) u (numbered-same (sites (leavesIn t)) u w n) n w (f .lists)

@@ -9,33 +9,33 @@ use Rattle.split.specs.SplitList.{SameSites}
 use Rattle.split.specs.Hull.{Point, points, In, Sub, IsHull}
 use Rattle.split.proofs.HullLaws.{grow, self}
 use Rattle.split.proofs.Exists.{of-points, to-points}
-use Rattle.node.specs.declared.Entry.{Entry}
-use Rattle.rtree.specs.Tree.{Each}
-use Rattle.rtree.specs.Perm.{Perm}
-use Rattle.rtree.specs.Perm.Perm.{same, next, swap, trans}
+use Rattle.tree_node.specs.declared.NodeEntry.{NodeEntry}
+use Rattle.tree_rules.specs.Tree.{Each}
+use Rattle.permutation.specs.Perm.{Perm}
+use Rattle.permutation.specs.Perm.Perm.{same, next, swap, trans}
 use Rattle.tree_search.specs.Sites.{siteOf, sites}
 
-pub sites-append : (a b : List Entry) → sites (a ++ b) ≡ sites a ++ sites b
+pub sites-append : (a b : List NodeEntry) → sites (a ++ b) ≡ sites a ++ sites b
 unfolding sites
 sites-append [] b = refl
 sites-append (e ∷ a) b = ap (λ (s : List Site). siteOf e ∷ s) (sites-append a b)
 
 -- what holds of each entry's site holds of each site
-pub sites-each : (P : Site → Type 0) (l : List Entry) → Each (λ e. P (siteOf e)) l → (p : Site) → List·Memᴰ p (sites l) → P p
+pub sites-each : (P : Site → Type 0) (l : List NodeEntry) → Each (λ e. P (siteOf e)) l → (p : Site) → List·Memᴰ p (sites l) → P p
 unfolding Each sites
 sites-each P [] h p m = absurd (List·Memᴰ·not-nil m)
 sites-each P (e ∷ l) h p m =
     ⊎-elim (λ (q : p ≡ siteOf e). subst⁻¹ P q (h .0)) (λ (i : List·Memᴰ p (sites l)). sites-each P l (h .1) p i) (List·Memᴰ·cases-cons m)
 
-pub sites-perm : {a b : List Entry} → Perm a b → (p : Site) → List·Memᴰ p (sites a) → List·Memᴰ p (sites b)
+pub sites-perm : {a b : List NodeEntry} → Perm a b → (p : Site) → List·Memᴰ p (sites a) → List·Memᴰ p (sites b)
 unfolding sites
 sites-perm same p m = m
-sites-perm (next {e = e} {l = l} q) p m =
+sites-perm (next {x = e} {l = l} q) p m =
     ⊎-elim
     (λ (z : p ≡ siteOf e). List·Memᴰ·head z)
     (λ (i : List·Memᴰ p (sites l)). List·Memᴰ·tail (sites-perm q p i))
     (List·Memᴰ·cases-cons m)
-sites-perm (swap {a = a} {b = b} {l = l}) p m =
+sites-perm (swap {x = a} {y = b} {l = l}) p m =
     ⊎-elim
     (λ (z : p ≡ siteOf a). List·Memᴰ·tail (List·Memᴰ·head z))
     (λ (i : List·Memᴰ p (siteOf b ∷ sites l)).

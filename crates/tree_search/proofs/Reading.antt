@@ -13,28 +13,27 @@ use Rattle.grid.specs.declared.Leg.{Leg}
 use Rattle.grid.specs.Position.{OnGrid, squaredDifference, distance}
 use Rattle.grid.specs.Area.{outside, areaDistance}
 use Rattle.grid.specs.Says.{If}
-use Rattle.split.specs.SplitList.{rank}
 use Rattle.split.specs.Skip.{ShutOut}
-use Rattle.row.specs.Vertices.{IsVertex, stack}
-use Rattle.row.specs.Places.{siteAtByte, siteAt, HasSite}
-use Rattle.row_skip.specs.declared.Corner.{Corner}
-use Rattle.row_skip.specs.declared.Edge.{Edge}
-use Rattle.row_skip.specs.declared.Seen.{Seen}
-use Rattle.row_skip.specs.Skipping.{EdgeShuts, Knows, Looked, IsCorner, Space, Dealt}
-use Rattle.row_skip.proofs.Witnesses.{if-true}
-use Rattle.row_skip.proofs.Knowing.{knows-kept}
-use Rattle.node.specs.declared.Entry.{Entry}
-use Rattle.node.specs.Layout.{place}
-use Rattle.node.specs.Node.{entryAt, entries, noEntry}
-use Rattle.node.proofs.Reading.{getD-entries, eight}
-use Rattle.rtree.specs.Tree.{joined, leaves, leavesAt, Each, Child, Sound}
-use Rattle.rtree.specs.Perm.{Perm}
-use Rattle.rtree.proofs.Every.{each-at}
-use Rattle.rtree.proofs.Totals.{leaves-under}
-use Rattle.rtree.proofs.Perms.{perm-sym}
-use Rattle.tree_search.specs.declared.descent.Step.{Step}
-use Rattle.tree_search.specs.Sites.{siteOf, LeafPoint, sites, areaOf, Placed}
-use Rattle.tree_search.specs.Searching.{entryOf, under, Follows, Readable, Ahead, Searched, Stepped}
+use Rattle.list_row.specs.Vertices.{IsVertex, stack}
+use Rattle.list_row.specs.Places.{siteAtByte, siteAt, HasSite}
+use Rattle.grid.specs.declared.Corner.{Corner}
+use Rattle.list_skip.specs.declared.Edge.{Edge}
+use Rattle.list_skip.specs.declared.Seen.{Seen}
+use Rattle.list_skip.specs.Skipping.{EdgeShuts, Knows, Looked, IsCorner, Space, Dealt}
+use Rattle.list_skip.proofs.Witnesses.{if-true}
+use Rattle.list_skip.proofs.Knowing.{knows-kept}
+use Rattle.tree_node.specs.declared.NodeEntry.{NodeEntry}
+use Rattle.tree_node.specs.Layout.{entryStart}
+use Rattle.tree_node.specs.Node.{entryAt, entries, noEntry}
+use Rattle.tree_node.proofs.Reading.{getD-entries, eight}
+use Rattle.tree_rules.specs.Tree.{joined, leaves, leavesAt, Each, Child, SoundUnder}
+use Rattle.permutation.specs.Perm.{Perm}
+use Rattle.tree_rules.proofs.Every.{each-at}
+use Rattle.tree_rules.proofs.Totals.{leaves-under}
+use Rattle.permutation.proofs.Perms.{perm-sym}
+use Rattle.tree_search.specs.declared.descent.Progress.{Progress}
+use Rattle.tree_search.specs.Sites.{siteOf, LeafPoint, sites, areaOf, BoxOnGrid}
+use Rattle.tree_search.specs.Searching.{entryOf, under, ComesNext, Readable, Ahead, Searched, Progressed}
 use Rattle.tree_search.proofs.Orders.{perm-joined}
 use Rattle.tree_search.proofs.OnGrid.{each-placed}
 use Rattle.tree_search.proofs.Corners.{corner-skips}
@@ -43,8 +42,8 @@ use Rattle.tree_search.proofs.Searching.{searched-none, searched-leaf, 
 
 -- entry i of node n, at height h
 module _ (t : List ℕ) (h n i : ℕ) (rd : Readable t h n) (lt : i < length (entries t n)) where
-  pub entry-sound : Sound (entries t) h (entryOf t n i)
-  entry-sound = each-at (Sound (entries t) h) (entries t n) i noEntry (rd .sound) lt
+  pub entry-sound : SoundUnder (entries t) h (entryOf t n i)
+  entry-sound = each-at (SoundUnder (entries t) h) (entries t n) i noEntry (rd .sound) lt
 
   module _ {l : Leg} {r : List ℕ} {k : ℕ} (ah : Ahead l t r k (leaves (entries t) h (entryOf t n i))) where
     pub entry-skipped : {w : Corner} → IsCorner l (areaOf (entryOf t n i)) w → (b : Bool) → b ≡ true → If b (ShutOut (stack l t r k) (w .a) (w .c))
@@ -53,12 +52,12 @@ module _ (t : List ℕ) (h n i : ℕ) (rd : Readable t h n) (lt : i < length (en
         searched-skip (entries t) h (entryOf t n i) entry-sound (ah .points) (ah .held) (corner-skips l t r k (entryOf t n i) w q (if-true b e f))
 
 -- The returns of `search_entry`: the list has sites more, and the edge that was looked at is still known.
-pub step-on : {l : Leg} {t r r′ : List ℕ} {k m : ℕ} {q : List Entry} {e : Edge} → Ahead l t r k q → Knows e (stack l t r k) → Searched l t r k q r′ m
-    → Stepped l t r k q r′ (record { k = m; edge = e })
+pub step-on : {l : Leg} {t r r′ : List ℕ} {k m : ℕ} {q : List NodeEntry} {e : Edge} → Ahead l t r k q → Knows e (stack l t r k) → Searched l t r k q r′ m
+    → Progressed l t r k q r′ (record { k = m; edge = e })
 step-on {r′ = r′} {m = m} {q = q} ah kn s = record { searched = s; knows = knows-kept r′ m (sites q) (ah .held) (s .lists) kn }
 
-pub step-leaf : {l : Leg} {t r r′ : List ℕ} {k m : ℕ} {e : Edge} (d : Entry) (h : ℕ) → h ≡ 0 → Ahead l t r k (leaves (entries t) h d) → Knows e (stack l t r k)
-    → Searched l t r k (leaves (entries t) 0 d) r′ m → Stepped l t r k (leaves (entries t) h d) r′ (record { k = m; edge = e })
+pub step-leaf : {l : Leg} {t r r′ : List ℕ} {k m : ℕ} {e : Edge} (d : NodeEntry) (h : ℕ) → h ≡ 0 → Ahead l t r k (leaves (entries t) h d) → Knows e (stack l t r k)
+    → Searched l t r k (leaves (entries t) 0 d) r′ m → Progressed l t r k (leaves (entries t) h d) r′ (record { k = m; edge = e })
 step-leaf {l} {t} {r} {r′} {k} {m} d h z ah kn s =
     let f : Searched l t r k (leaves (entries t) h d) r′ m = rw z s in
     step-on ah kn f
@@ -66,10 +65,10 @@ step-leaf {l} {t} {r} {r′} {k} {m} d h z ah kn s =
 module _ (t : List ℕ) (h n i : ℕ) (rd : Readable t h n) (lt : i < length (entries t n)) {l : Leg} {r : List ℕ} {k : ℕ} (ah : Ahead l t r k (leaves (entries t) h (entryOf t n i)))
     {w : Corner} (c : IsCorner l (areaOf (entryOf t n i)) w) where
   pub step-known : {e : Edge} → Knows e (stack l t r k) → (b : Bool) → b ≡ true → If b (EdgeShuts e (w .a) (w .c))
-      → Stepped l t r k (leaves (entries t) h (entryOf t n i)) r (record { k = k; edge = e })
+      → Progressed l t r k (leaves (entries t) h (entryOf t n i)) r (record { k = k; edge = e })
   step-known kn b q f = step-on ah kn (entry-skipped t h n i rd lt ah c true refl (kn .shuts w (c .small) (if-true b q f)))
 
-  pub step-shut : {s : Seen} → Looked l t r k w s → s .shut ≡ true → Stepped l t r k (leaves (entries t) h (entryOf t n i)) r (record { k = k; edge = s .edge })
+  pub step-shut : {s : Seen} → Looked l t r k w s → s .shut ≡ true → Progressed l t r k (leaves (entries t) h (entryOf t n i)) r (record { k = k; edge = s .edge })
   step-shut {s} o q = step-on ah (o .knows) (entry-skipped t h n i rd lt ah c (s .shut) q (o .shut))
 
 byte-site : (t : List ℕ) (x : ℕ) → siteAtByte t x ≡ siteOf (entryAt t x)
@@ -77,12 +76,12 @@ unfolding siteAtByte entryAt
 byte-site t x = refl
 
 -- the box of a leaf entry is a point
-point-distance : (e : Entry) (q : Position) → LeafPoint e → areaDistance (areaOf e) q ≡ distance (siteOf e .position) q
+point-distance : (e : NodeEntry) (q : Position) → LeafPoint e → areaDistance (areaOf e) q ≡ distance (siteOf e .position) q
 unfolding areaDistance distance outside squaredDifference
 point-distance e q p = rw (p .east, p .north)
 
 -- entry i of the leaf n begins with a site record, at the place p
-module _ (t : List ℕ) (n i p : ℕ) (lt : i < length (entries t n)) (at : 2 * p ≡ place n i) where
+module _ (t : List ℕ) (n i p : ℕ) (lt : i < length (entries t n)) (at : 2 * p ≡ entryStart n i) where
   leaf-site : siteAt t p ≡ siteOf (entryOf t n i)
   leaf-site = byte-site t (2 * p) ∙ ap (λ (x : ℕ). siteOf (entryAt t x)) at ∙ ap siteOf (sym (getD-entries t n i lt))
 
@@ -103,24 +102,18 @@ module _ (t : List ℕ) (n i p : ℕ) (lt : i < length (entries t n)) (at : 2 * 
           on-grid = subst⁻¹ (λ (s : Site). OnGrid (s .position)) leaf-site (leaf-point ah .on-grid);
         }
 
-    pub leaf-small : p < 65536
-    leaf-small = leaf-has .small
-
-    pub leaf-inside : 2 * p + 6 ≤ length t
-    leaf-inside = leaf-has .inside
-
     leaf-far : (q : Position) → areaDistance (areaOf (entryOf t n i)) q ≡ distance (siteAt t p .position) q
     leaf-far q =
         point-distance (entryOf t n i) q (leaf-point ah) ∙ ap (λ (s : Site). distance (s .position) q) (sym leaf-site)
 
     -- the corner of its box has the site's distances
-    pub leaf-vertex : {w : Corner} {s : Site} → IsCorner l (areaOf (entryOf t n i)) w → s ≡ siteAt t p
-        → IsVertex l t p (record { place = p; a = w .a; c = w .c; number = s .number })
-    unfolding rank
-    leaf-vertex k e =
+    pub leaf-vertex : {w : Corner} → IsCorner l (areaOf (entryOf t n i)) w
+        → IsVertex l t p (record { place = p; a = w .a; c = w .c })
+    leaf-vertex k =
         record {
           place-is = refl;
-          is = λ j. record { a = (k .a-is ∙ leaf-far (l .s)) j; c = (k .c-is ∙ leaf-far (l .e)) j; order = e j .number; site = siteAt t p };
+          a-is = k .a-is ∙ leaf-far (l .s);
+          c-is = k .c-is ∙ leaf-far (l .e);
           small = record { small-a = k .small .small-a; small-c = k .small .small-c };
         }
 
@@ -136,15 +129,15 @@ pub node-order : (t : List ℕ) (h n first all : ℕ) → first < length (entrie
 node-order t h n first all f q = rw q (perm-joined (leaves (entries t) h) (around-all (entries t n) first (omega arith)))
 
 -- e, which is entry i of node n above the leaves, is read by its child node
-module _ (t : List ℕ) (h n i : ℕ) (e : Entry) (rd : Readable t h n) (lt : i < length (entries t n)) (some : 0 < h) (qe : e ≡ entryOf t n i) where
+module _ (t : List ℕ) (h n i : ℕ) (e : NodeEntry) (rd : Readable t h n) (lt : i < length (entries t n)) (some : 0 < h) (qe : e ≡ entryOf t n i) where
   up : suc (h - 1) ≡ h
   up = omega arith
 
-  kid : Child (entries t) (Sound (entries t) (h - 1)) e
-  unfolding Sound
+  kid : Child (entries t) (SoundUnder (entries t) (h - 1)) e
+  unfolding SoundUnder
   kid =
-      subst⁻¹ (λ (d : Entry). Sound (entries t) (suc (h - 1)) d) qe
-      (subst⁻¹ (λ (x : ℕ). Sound (entries t) x (entryOf t n i)) up (entry-sound t h n i rd lt))
+      subst⁻¹ (λ (d : NodeEntry). SoundUnder (entries t) (suc (h - 1)) d) qe
+      (subst⁻¹ (λ (x : ℕ). SoundUnder (entries t) x (entryOf t n i)) up (entry-sound t h n i rd lt))
 
   pub child-readable : Readable t (h - 1) (e .reference)
   child-readable = record { len = rd .len; id = kid .id; sound = kid .below }
@@ -169,7 +162,7 @@ module _ (t : List ℕ) (h n i : ℕ) (e : Entry) (rd : Readable t h n) (lt : i 
 
   pub child-searched : {l : Leg} {r r′ : List ℕ} {k m : ℕ} → Searched l t r k (under t (h - 1) (entries t (e .reference))) r′ m
       → Searched l t r k (leaves (entries t) h (entryOf t n i)) r′ m
-  child-searched {l} {r} {r′} {k} {m} s = subst⁻¹ (λ (q : List Entry). Searched l t r k q r′ m) child-leaves s
+  child-searched {l} {r} {r′} {k} {m} s = subst⁻¹ (λ (q : List NodeEntry). Searched l t r k q r′ m) child-leaves s
 
 -- so many entries of node n from the ith on: none
 pub node-none : {l : Leg} {t r : List ℕ} {k : ℕ} (h n i left : ℕ) → left ≡ 0 → Ahead l t r k (under t h (around (entries t n) i left))
@@ -179,11 +172,11 @@ node-none {t = t} h n i left q ah =
     rw (q, around-none (entries t n) i) (searched-none (ah .held))
 
 -- entry i, then the others
-module _ (t : List ℕ) (h n i j left : ℕ) (lt : i < length (entries t n)) (some : 0 < left) (le : left ≤ length (entries t n)) (f : Follows (length (entries t n)) i j) where
-  abbrev first : List Entry
+module _ (t : List ℕ) (h n i j left : ℕ) (lt : i < length (entries t n)) (some : 0 < left) (le : left ≤ length (entries t n)) (f : ComesNext (length (entries t n)) i j) where
+  abbrev first : List NodeEntry
   first = leaves (entries t) h (entryOf t n i)
 
-  abbrev rest : List Entry
+  abbrev rest : List NodeEntry
   rest = under t h (around (entries t n) j (left - 1))
 
   parted : under t h (around (entries t n) i left) ≡ first ++ rest
@@ -202,10 +195,10 @@ module _ (t : List ℕ) (h n i j left : ℕ) (lt : i < length (entries t n)) (so
 
   pub node-searched : {l : Leg} {r r₁ r₂ : List ℕ} {k m₁ m₂ : ℕ} → Searched l t r k (leaves (entries t) h (entryOf t n i)) r₁ m₁
       → Searched l t r₁ m₁ (under t h (around (entries t n) j (left - 1))) r₂ m₂ → Searched l t r k (under t h (around (entries t n) i left)) r₂ m₂
-  node-searched {l} {r} {r₁} {r₂} {k} {m₁} {m₂} a b = subst⁻¹ (λ (q : List Entry). Searched l t r k q r₂ m₂) parted (searched-then first rest a b)
+  node-searched {l} {r} {r₁} {r₂} {k} {m₁} {m₂} a b = subst⁻¹ (λ (q : List NodeEntry). Searched l t r k q r₂ m₂) parted (searched-then first rest a b)
 
 -- the boxes of a node under which all is on the grid
-pub node-placed : {l : Leg} {t r : List ℕ} {k h n : ℕ} → Readable t h n → Ahead l t r k (under t h (entries t n)) → Each Placed (entries t n)
+pub node-placed : {l : Leg} {t r : List ℕ} {k h n : ℕ} → Readable t h n → Ahead l t r k (under t h (entries t n)) → Each BoxOnGrid (entries t n)
 node-placed {t = t} {h = h} {n = n} rd ah = each-placed (entries t) h (entries t n) (rd .sound) (ah .points)
 
 -- The loop over a node's entries: so many are left from the ith on, and whoever deals with them has dealt with the node.
@@ -228,10 +221,10 @@ module _ {l : Leg} {t r₀ : List ℕ} {k₀ h n : ℕ} where
     pub left-first : Ahead l t r k (leaves (entries t) h (entryOf t n i))
     left-first = let (j, f) = follow (length (entries t n)) i in node-first t h n i j left (w .here) some (w .few) f (w .ahead)
 
-    pub left-next : (all j : ℕ) (r₁ : List ℕ) (s : Step) → all ≡ length (entries t n) → Follows all i j → Stepped l t r k (leaves (entries t) h (entryOf t n i)) r₁ s
+    pub left-next : (all j : ℕ) (r₁ : List ℕ) (s : Progress) → all ≡ length (entries t n) → ComesNext all i j → Progressed l t r k (leaves (entries t) h (entryOf t n i)) r₁ s
         → Left l t r₀ k₀ h n j (left - 1) r₁ (s .k) (s .edge)
     left-next all j r₁ s q f′ d =
-        let f : Follows (length (entries t n)) i j = subst (λ (x : ℕ). Follows x i j) q f′ in
+        let f : ComesNext (length (entries t n)) i j = subst (λ (x : ℕ). ComesNext x i j) q f′ in
         record {
           here = follows-in (w .here) f;
           few = omega (arith, w .few);

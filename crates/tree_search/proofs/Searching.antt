@@ -12,21 +12,22 @@ use Rattle.grid.specs.declared.Leg.{Leg}
 use Rattle.grid.specs.Area.{areaDistance}
 use Rattle.grid.proofs.Nearest.{no-nearer}
 use Rattle.split.specs.Hull.{pointOf}
-use Rattle.row.specs.Places.{siteAt}
-use Rattle.row.specs.Vertices.{Held, Lists}
-use Rattle.row.proofs.Listing.{lists-skipped}
-use Rattle.row_skip.specs.Skipping.{Dealt}
-use Rattle.node.specs.declared.Entry.{Entry}
-use Rattle.rtree.specs.Tree.{Store, leaves, Each, Sound}
-use Rattle.rtree.specs.Perm.{Perm}
-use Rattle.rtree.proofs.Every.{each-left, each-right}
-use Rattle.rtree.proofs.Perms.{perm-sym, perm-each, perm-length, perm-flip}
+use Rattle.list_row.specs.Places.{siteAt}
+use Rattle.list_row.specs.Vertices.{Held, Lists}
+use Rattle.list_row.proofs.Listing.{lists-skipped}
+use Rattle.list_skip.specs.Skipping.{Dealt}
+use Rattle.tree_node.specs.declared.NodeEntry.{NodeEntry}
+use Rattle.tree_rules.specs.Tree.{Store, leaves, Each, SoundUnder}
+use Rattle.permutation.specs.Perm.{Perm}
+use Rattle.tree_rules.proofs.Every.{each-left, each-right}
+use Rattle.permutation.proofs.Perms.{perm-sym, perm-length, perm-flip}
+use Rattle.tree_rules.proofs.Perms.{perm-each}
 use Rattle.tree_search.specs.Sites.{siteOf, LeafPoint, sites, areaOf}
 use Rattle.tree_search.specs.Searching.{Skips, Ahead, Searched}
 use Rattle.tree_search.proofs.Members.{sites-append, sites-perm, hull-same}
 use Rattle.tree_search.proofs.OnGrid.{site-inside}
 
-sites-more : (a b : List Entry) (s : List Site) → Perm a b → (p : Site) → List·Memᴰ p (sites a ++ s) → List·Memᴰ p (sites b ++ s)
+sites-more : (a b : List NodeEntry) (s : List Site) → Perm a b → (p : Site) → List·Memᴰ p (sites a ++ s) → List·Memᴰ p (sites b ++ s)
 sites-more a b s q p m =
     ⊎-elim
     (λ (i : List·Memᴰ p (sites a)). Memᴰ·append-left s (sites-perm q p i))
@@ -39,7 +40,7 @@ module _ {l : Leg} {t : List ℕ} where
   searched-none hd = record { within = omega arith; held = hd; lists = λ s d. d; only = only-refl }
 
   -- the site of a leaf entry is dealt with
-  pub searched-leaf : {r r′ : List ℕ} {k p n : ℕ} (E : Store) (e : Entry) → siteAt t p ≡ siteOf e → Dealt l t r k p r′ n → Searched l t r k (leaves E 0 e) r′ n
+  pub searched-leaf : {r r′ : List ℕ} {k p n : ℕ} (E : Store) (e : NodeEntry) → siteAt t p ≡ siteOf e → Dealt l t r k p r′ n → Searched l t r k (leaves E 0 e) r′ n
   unfolding sites leaves
   searched-leaf {r} {r′} {k} {p} {n} E e q d =
       record {
@@ -50,7 +51,7 @@ module _ {l : Leg} {t : List ℕ} where
       }
 
   -- SKIPPED: the list shuts out the box
-  pub searched-skip : {r : List ℕ} {k : ℕ} (E : Store) (h : ℕ) (e : Entry) → Sound E h e → Each LeafPoint (leaves E h e) → Held l t r k → Skips l t r k e
+  pub searched-skip : {r : List ℕ} {k : ℕ} (E : Store) (h : ℕ) (e : NodeEntry) → SoundUnder E h e → Each LeafPoint (leaves E h e) → Held l t r k → Skips l t r k e
       → Searched l t r k (leaves E h e) r k
   searched-skip {r} {k} E h e so q hd w =
       record {
@@ -66,7 +67,7 @@ module _ {l : Leg} {t : List ℕ} where
           (no-nearer (areaOf e) (p .position) (l .s) i, no-nearer (areaOf e) (p .position) (l .e) i)
 
   -- in another order
-  pub searched-perm : {r r′ : List ℕ} {k n : ℕ} {a b : List Entry} → Perm a b → Searched l t r k a r′ n → Searched l t r k b r′ n
+  pub searched-perm : {r r′ : List ℕ} {k n : ℕ} {a b : List NodeEntry} → Perm a b → Searched l t r k a r′ n → Searched l t r k b r′ n
   searched-perm {a = a} {b = b} q f =
       record {
         within = omega (arith, f .within, perm-length q);
@@ -76,7 +77,7 @@ module _ {l : Leg} {t : List ℕ} where
       }
 
   -- one after the other
-  pub searched-then : {r r₁ r₂ : List ℕ} {k n₁ n₂ : ℕ} (a b : List Entry) → Searched l t r k a r₁ n₁ → Searched l t r₁ n₁ b r₂ n₂ → Searched l t r k (a ++ b) r₂ n₂
+  pub searched-then : {r r₁ r₂ : List ℕ} {k n₁ n₂ : ℕ} (a b : List NodeEntry) → Searched l t r k a r₁ n₁ → Searched l t r₁ n₁ b r₂ n₂ → Searched l t r k (a ++ b) r₂ n₂
   searched-then {r} {r₁} {r₂} {k} {n₁} {n₂} a b f g =
       searched-perm
       (perm-flip b a)
@@ -88,7 +89,7 @@ module _ {l : Leg} {t : List ℕ} where
       })
 
   -- what is still to be read
-  pub ahead-first : {r : List ℕ} {k : ℕ} (a b : List Entry) → Ahead l t r k (a ++ b) → Ahead l t r k a
+  pub ahead-first : {r : List ℕ} {k : ℕ} (a b : List NodeEntry) → Ahead l t r k (a ++ b) → Ahead l t r k a
   ahead-first a b h =
       record {
         leg = h .leg;
@@ -98,7 +99,7 @@ module _ {l : Leg} {t : List ℕ} where
         room = omega (arith, h .room, length-append a b);
       }
 
-  pub ahead-rest : {r r₁ : List ℕ} {k n : ℕ} (a b : List Entry) → Ahead l t r k (a ++ b) → Searched l t r k a r₁ n → Ahead l t r₁ n b
+  pub ahead-rest : {r r₁ : List ℕ} {k n : ℕ} (a b : List NodeEntry) → Ahead l t r k (a ++ b) → Searched l t r k a r₁ n → Ahead l t r₁ n b
   ahead-rest a b h f =
       record {
         leg = h .leg;
@@ -108,7 +109,7 @@ module _ {l : Leg} {t : List ℕ} where
         room = omega (arith, h .room, f .within, length-append a b);
       }
 
-  pub ahead-perm : {r : List ℕ} {k : ℕ} {a b : List Entry} → Perm a b → Ahead l t r k a → Ahead l t r k b
+  pub ahead-perm : {r : List ℕ} {k : ℕ} {a b : List NodeEntry} → Perm a b → Ahead l t r k a → Ahead l t r k b
   ahead-perm q h =
       record {
         leg = h .leg;

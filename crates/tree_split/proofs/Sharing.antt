@@ -8,29 +8,30 @@ use lib.ListN.{length, getD, length-append}
 use Rattle.limits.specs.Limits.{minEntries, maxEntries, maxNodes, tableBytes}
 use Rattle.words.specs.Words.{Only}
 use Rattle.words.proofs.Frame.{only-trans}
-use Rattle.node.specs.declared.Entry.{Entry}
-use Rattle.node.specs.Layout.{poolStart}
-use Rattle.node.specs.Node.{entries, noEntry, swapOut, Wrote, OnlyTwo}
-use Rattle.node.specs.Free.{free, Taken}
-use Rattle.node.specs.Tally.{tally}
-use Rattle.node.proofs.Counting.{taken-not}
-use Rattle.node.proofs.Storing.{others, in-pool, in-tree, only-two-refl, only-two-trans}
-use Rattle.node.proofs.FreeStack.{free-kept}
-use Rattle.rtree.specs.Perm.{Perm}
-use Rattle.rtree.specs.Perm.Perm.{same, next, trans}
-use Rattle.rtree.proofs.Perms.{perm-sym, perm-is, perm-length, perm-left, perm-snoc, swapOut-perm}
-use Rattle.tree_split.specs.Parted.{mostParted, Moved, Dealing, Ninth, Parted}
+use Rattle.tree_node.specs.declared.NodeEntry.{NodeEntry}
+use Rattle.tree_node.specs.Layout.{poolStart}
+use Rattle.tree_node.specs.Node.{entries, noEntry, swapOut, Wrote, OnlyTwo}
+use Rattle.tree_node.specs.Free.{free, Taken}
+use Rattle.tree_node.specs.Tally.{tally}
+use Rattle.tree_node.proofs.Counting.{taken-not}
+use Rattle.tree_node.proofs.Storing.{others, in-pool, in-tree, only-two-refl, only-two-trans}
+use Rattle.tree_node.proofs.FreeStack.{free-kept}
+use Rattle.permutation.specs.Perm.{Perm}
+use Rattle.permutation.specs.Perm.Perm.{same, next, trans}
+use Rattle.permutation.proofs.Perms.{perm-sym, perm-is, perm-length, perm-left, perm-snoc}
+use Rattle.tree_rules.proofs.Perms.{swapOut-perm}
+use Rattle.tree_split.specs.Parted.{mostParted, MovedOne, Dealing, Ninth, Parted}
 
 -- the same entries in two lists
-pub shared-length : (a z a′ z′ : List Entry) → Perm (a ++ z) (a′ ++ z′) → length a + length z ≡ length a′ + length z′
+pub shared-length : (a z a′ z′ : List NodeEntry) → Perm (a ++ z) (a′ ++ z′) → length a + length z ≡ length a′ + length z′
 shared-length a z a′ z′ p = omega (arith, perm-length p, length-append a z, length-append a′ z′)
 
 -- e put after the second of two lists
-perm-last : (a z : List Entry) (e : Entry) → Perm (a ++ (z ++ (e ∷ []))) (e ∷ (a ++ z))
+perm-last : (a z : List NodeEntry) (e : NodeEntry) → Perm (a ++ (z ++ (e ∷ []))) (e ∷ (a ++ z))
 perm-last a z e = trans (perm-is (sym (append-assoc a z (e ∷ [])))) (perm-snoc (a ++ z) e)
 
 -- a change of one of two nodes
-one-of-two : {c s n : ℕ} {l : List Entry} {b b′ : List ℕ} → n < maxNodes → Wrote n l b b′ → ((m : ℕ) → (m ≡ c → ⊥) → (m ≡ s → ⊥) → m ≡ n → ⊥) → OnlyTwo c s b b′
+one-of-two : {c s n : ℕ} {l : List NodeEntry} {b b′ : List ℕ} → n < maxNodes → Wrote n l b b′ → ((m : ℕ) → (m ≡ c → ⊥) → (m ≡ s → ⊥) → m ≡ n → ⊥) → OnlyTwo c s b b′
 one-of-two id w out = record { rest = λ m x y. others (w .only) m (out m x y); only = in-pool id (w .only) }
 
 -- node c and node s, which are two
@@ -43,13 +44,13 @@ module _ (c s : ℕ) (b : List ℕ) (hc : c < maxNodes) (hs : s < maxNodes) (ne 
     pub shift-room : length (entries b s) < maxEntries → length (entries b₁ s) < maxEntries
     shift-room lt = rw (others (w₁ .only) s s≢c) lt
 
-    pub shift-done : (e : Entry) (b₂ : List ℕ) → k < length (entries b c) → e ≡ getD (entries b c) k noEntry → Wrote s (entries b₁ s ++ (e ∷ [])) b₁ b₂ → Moved c s b b₂
+    pub shift-done : (e : NodeEntry) (b₂ : List ℕ) → k < length (entries b c) → e ≡ getD (entries b c) k noEntry → Wrote s (entries b₁ s ++ (e ∷ [])) b₁ b₂ → MovedOne c s b b₂
     shift-done e b₂ lt q w₂ =
-        let C : List Entry = entries b c in
-        let S : List Entry = entries b s in
-        let O : List Entry = swapOut C k in
+        let C : List NodeEntry = entries b c in
+        let S : List NodeEntry = entries b s in
+        let O : List NodeEntry = swapOut C k in
         let now-c : entries b₂ c ≡ O = others (w₂ .only) c ne ∙ w₁ .here in
-        let now-s : entries b₂ s ≡ S ++ (e ∷ []) = w₂ .here ∙ ap (λ (l : List Entry). l ++ (e ∷ [])) (others (w₁ .only) s s≢c) in
+        let now-s : entries b₂ s ≡ S ++ (e ∷ []) = w₂ .here ∙ ap (λ (l : List NodeEntry). l ++ (e ∷ [])) (others (w₁ .only) s s≢c) in
         let back : Perm (e ∷ O) C = rw q (perm-sym (swapOut-perm C k lt)) in
         record {
           whole = rw (now-c, now-s) (trans (perm-last O S e) (perm-left S back));
@@ -58,12 +59,12 @@ module _ (c s : ℕ) (b : List ℕ) (hc : c < maxNodes) (hs : s < maxNodes) (ne 
         }
 
   -- the ninth entry goes to c or to s
-  module _ (x : Entry) (m r : ℕ) (b′ : List ℕ) (qm : m ≡ length (entries b s)) (sum : length (entries b c) + length (entries b s) ≡ maxEntries)
+  module _ (x : NodeEntry) (m r : ℕ) (b′ : List ℕ) (qm : m ≡ length (entries b s)) (sum : length (entries b c) + length (entries b s) ≡ maxEntries)
       (most : m + r ≤ mostParted) (least : minEntries ≤ m + r + 0) where
     pub ninth-new : r ≡ 1 → Wrote s (entries b s ++ (x ∷ [])) b b′ → Ninth c s x b b′
     ninth-new one w =
-        let C : List Entry = entries b c in
-        let S : List Entry = entries b s in
+        let C : List NodeEntry = entries b c in
+        let S : List NodeEntry = entries b s in
         let now-c : entries b′ c ≡ C = others (w .only) c ne in
         let len-c : length (entries b′ c) ≡ length C = ap length now-c in
         let len-s : length (entries b′ s) ≡ length S + 1 = ap length (w .here) ∙ length-append S (x ∷ []) in
@@ -76,8 +77,8 @@ module _ (c s : ℕ) (b : List ℕ) (hc : c < maxNodes) (hs : s < maxNodes) (ne 
 
     pub ninth-old : r ≤ 1 → (r ≡ 1 → ⊥) → Wrote c (entries b c ++ (x ∷ [])) b b′ → Ninth c s x b b′
     ninth-old le none w =
-        let C : List Entry = entries b c in
-        let S : List Entry = entries b s in
+        let C : List NodeEntry = entries b c in
+        let S : List NodeEntry = entries b s in
         let now-s : entries b′ s ≡ S = others (w .only) s s≢c in
         let len-s : length (entries b′ s) ≡ length S = ap length now-s in
         let len-c : length (entries b′ c) ≡ length C + 1 = ap length (w .here) ∙ length-append C (x ∷ []) in
@@ -90,7 +91,7 @@ module _ (c s : ℕ) (b : List ℕ) (hc : c < maxNodes) (hs : s < maxNodes) (ne 
 
 -- entry k, which goes from c to s or stays
 module _ (c s k m r : ℕ) (b : List ℕ) (lt : k < length (entries b c)) (qm : m ≡ length (entries b s)) (most : m + r ≤ mostParted) (least : minEntries ≤ m + r + (k + 1)) where
-  pub offer-gone : (b′ : List ℕ) → r ≡ 1 → Moved c s b b′ → Dealing c s k b b′
+  pub offer-gone : (b′ : List ℕ) → r ≡ 1 → MovedOne c s b b′ → Dealing c s k b b′
   offer-gone b′ one mv =
       record {
         whole = mv .whole;
@@ -134,10 +135,10 @@ module _ (c s : ℕ) (b b₁ : List ℕ) (out : tally c (free b) ≡ 0) (tk : Ta
     pub part-sum : length (entries b c) ≡ maxEntries → length (entries b₂ c) + length (entries b₂ s) ≡ maxEntries
     part-sum q = omega (arith, shared-length (entries b₂ c) (entries b₂ s) (entries b₁ c) (entries b₁ s) (d .whole), part-eight q, part-none)
 
-    pub part-done : (x : Entry) (b₃ : List ℕ) → Ninth c s x b₂ b₃ → Parted c s x b b₃
+    pub part-done : (x : NodeEntry) (b₃ : List ℕ) → Ninth c s x b₂ b₃ → Parted c s x b b₃
     part-done x b₃ n =
         let o : Only poolStart tableBytes b₁ b₃ = only-trans (d .rest .only) (n .rest .only) in
-        let from : entries b₁ c ++ entries b₁ s ≡ entries b c = ap₂ (λ (p q : List Entry). p ++ q) part-c (tk .here) ∙ append-nil (entries b c) in
+        let from : entries b₁ c ++ entries b₁ s ≡ entries b c = ap₂ (λ (p q : List NodeEntry). p ++ q) part-c (tk .here) ∙ append-nil (entries b c) in
         record {
           taken = tk .taken ∙ ap (λ (f : List ℕ). s ∷ f) (sym (free-kept o));
           id = tk .id;

@@ -1,5 +1,5 @@
 // How long boxes are. Coordinates may be any numbers of 16 bits, also the wrong way round.
-use node::Entry;
+use tree_node::NodeEntry;
 ghost use mathlib.Core.Path.{_≡_};
 ghost use Prim.Native.Nat.{_<_};
 
@@ -21,7 +21,7 @@ pub fn span(low: u16, high: u16) -> u32
 }
 
 // Half the perimeter of e's box.
-pub fn half(e: Entry) -> u32
+pub fn half(e: NodeEntry) -> u32
     ensures { λ r. ⌜ r < 131072 ⌝ }
 {
     span(e.west, e.east) + span(e.south, e.north)

@@ -3,8 +3,8 @@ use Rattle.list_probe.proofs.Writing.{ready-true, probed-good, probed-r
 use Rattle.list_probe.proofs.probe_list.Statement.{statement}
 use Rattle.list_probe.proofs.probe_list.Tie as tie
 
-ready-requires : tie.Need-ready-requires
-ready-requires c κs = search needs
+buildable-requires : tie.Need-buildable-requires
+buildable-requires c κs = search needs
 
 written-requires : tie.Need-written-requires
 written-requires c κs = search (needs, ready-true)
@@ -24,4 +24,4 @@ returns-2 c = search (needs, probed-refused)
 pub probe-list-spec : {M : Type 1} → statement M
 probe-list-spec =
     tie.close
-    (tie.spec ready-requires written-requires same-length same-length-2 returns returns-2)
+    (tie.spec buildable-requires written-requires same-length same-length-2 returns returns-2)

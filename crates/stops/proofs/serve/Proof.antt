@@ -17,13 +17,13 @@ slice-reshare-prefix-write-all : tie.Need-slice-reshare-prefix-write-all
 slice-reshare-prefix-write-all c =
     let p = c .before .before .before .before .before .before .before .before .before .before .before .before .before .before .before .pre in
     let k = c .before .before .before .before .before .before .batch in
-    omega (arith, written-inside _ _ _ _ (k .result) _ _ _ (p .0) (p .1) (k .ensures), k .kept .1 .1 .1 .0)
+    omega (arith, written-inside _ _ _ _ (k .result) _ _ _ (p .0) (p .1 .work) (k .ensures), k .kept .1 .1 .1 .0)
 
 slice-aggregate-write-all : tie.Need-slice-aggregate-write-all
 slice-aggregate-write-all c =
     let p = c .before .before .before .before .before .before .before .before .before .before .before .before .before .before .before .before .pre in
     let k = c .before .before .before .before .before .before .before .batch in
-    counts-front _ _ (omega (arith, written-inside _ _ _ _ (k .result) _ _ _ (p .0) (p .1) (k .ensures), k .kept .1 .1 .1 .0))
+    counts-front _ _ (omega (arith, written-inside _ _ _ _ (k .result) _ _ _ (p .0) (p .1 .work) (k .ensures), k .kept .1 .1 .1 .0))
 
 write-all-requires : tie.Need-write-all-requires
 write-all-requires c κs = search needs
@@ -32,7 +32,7 @@ keep-requires : tie.Need-keep-requires
 keep-requires c κs =
     let p = c .before .before .before .before .before .before .before .before .before .before .before .before .before .before .before .before .before .before .pre in
     let k = c .before .before .before .before .before .before .before .before .before .batch in
-    (omega (arith, used-inside _ _ _ _ (k .result) _ _ _ (p .0) (p .1) (k .ensures), counts-front (c .before .before .before .before .before .before .before .before .before .before .before .before .before .before .before .before .before .before .args .held) (c .before .before .before .before .before .before .before .before .before .before .before .before .before .before .before .before .before .before .args .input .now) (p .2)), search needs)
+    (omega (arith, used-inside _ _ _ _ (k .result) _ _ _ (p .0) (p .1 .work) (k .ensures), counts-front (c .before .before .before .before .before .before .before .before .before .before .before .before .before .before .before .before .before .before .args .held) (c .before .before .before .before .before .before .before .before .before .before .before .before .before .before .before .before .before .before .args .input .now) (p .2)), search needs)
 
 same-length : tie.Need-same-length
 same-length c = search needs

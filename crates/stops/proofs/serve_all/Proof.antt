@@ -7,7 +7,7 @@ lay-out-requires : tie.Need-lay-out-requires
 lay-out-requires c κs = search needs
 
 run-requires : tie.Need-run-requires
-run-requires c κs = (search (needs, laid-sound), search needs, search needs, search needs)
+run-requires c κs = (search (needs, laid-sound), search needs)
 
 same-length : tie.Need-same-length
 same-length c = search needs

@@ -1,7 +1,7 @@
 use borrow.Author.Needs.{needs}
 use native.Mathlib.Omega.{arith}
 use Prim.Native.Nat.{_-_}
-use Rattle.table_check.proofs.Matching.{Matched, matched-none, row-inside, place-inside, list-inside, matched-one, matched-all, other-length, other-number}
+use Rattle.table_check.proofs.Matching.{Matched, matched-none, row-inside, site-there, matched-one, matched-all, other-length, other-number}
 use Rattle.table_check.proofs.list_matches.Statement.{statement}
 use Rattle.table_check.proofs.list_matches.Tie as tie
 
@@ -11,11 +11,8 @@ Inv-loop t work k n i₀ i = Matched t work k i
 abbrev μ-loop : tie.MeasureT-loop
 μ-loop t work k n i₀ i = k - i
 
-word-requires : tie.Need-word-requires Inv-loop μ-loop
-word-requires c κs = search needs
-
-cast-n : tie.Need-cast-n Inv-loop μ-loop
-cast-n c = search needs
+length-requires : tie.Need-length-requires Inv-loop μ-loop
+length-requires c κs = search needs
 
 returns : tie.Need-returns Inv-loop μ-loop
 returns c = search (needs, other-length)
@@ -23,29 +20,11 @@ returns c = search (needs, other-length)
 loop-holds : tie.Need-loop-holds Inv-loop μ-loop
 loop-holds c = search (needs, matched-none)
 
-mul-word : tie.Need-mul-word Inv-loop μ-loop
-mul-word c = omega arith
+number-in-requires : tie.Need-number-in-requires Inv-loop μ-loop
+number-in-requires c κs = (search (needs, row-inside), search (needs, site-there))
 
-word-requires-2 : tie.Need-word-requires-2 Inv-loop μ-loop
-word-requires-2 c κs = search (needs, row-inside)
-
-cast-p : tie.Need-cast-p Inv-loop μ-loop
-cast-p c = search needs
-
-mul-word-2 : tie.Need-mul-word-2 Inv-loop μ-loop
-mul-word-2 c = omega arith
-
-word-requires-3 : tie.Need-word-requires-3 Inv-loop μ-loop
-word-requires-3 c κs = search (needs, place-inside)
-
-mul-word-3 : tie.Need-mul-word-3 Inv-loop μ-loop
-mul-word-3 c = omega arith
-
-add-word : tie.Need-add-word Inv-loop μ-loop
-add-word c = omega arith
-
-word-requires-4 : tie.Need-word-requires-4 Inv-loop μ-loop
-word-requires-4 c κs = search (needs, list-inside)
+number-requires : tie.Need-number-requires Inv-loop μ-loop
+number-requires c κs = search needs
 
 returns-2 : tie.Need-returns-2 Inv-loop μ-loop
 returns-2 c = search (needs, other-number)
@@ -68,18 +47,11 @@ list-matches-spec =
     (tie.spec
     Inv-loop
     μ-loop
-    word-requires
-    cast-n
+    length-requires
     returns
     loop-holds
-    mul-word
-    word-requires-2
-    cast-p
-    mul-word-2
-    word-requires-3
-    mul-word-3
-    add-word
-    word-requires-4
+    number-in-requires
+    number-requires
     returns-2
     add-i
     loop-less

@@ -9,8 +9,8 @@ leg-requires c κs = search needs
 enum-told : tie.Need-enum-told
 enum-told c = search needs
 
-word-requires : tie.Need-word-requires
-word-requires c κs = search needs
+length-requires : tie.Need-length-requires
+length-requires c κs = search needs
 
 enum-known-s : tie.Need-enum-known-s
 enum-known-s c = search needs
@@ -42,7 +42,7 @@ standing-ok-spec =
     (tie.spec
     leg-requires
     enum-told
-    word-requires
+    length-requires
     enum-known-s
     leg-on-grid-requires
     search-requires

@@ -3,7 +3,7 @@ use mathlib.Core.Logic.{⊎-elim}
 use Prim.Native.Nat.{_≤_, _<_, _-_}
 use native.Mathlib.Omega.{arith}
 use lib.ListN.{length}
-use Rattle.node.specs.Node.{entries}
+use Rattle.tree_node.specs.Node.{entries}
 use Rattle.tree_add.proofs.choose.choose.Statement.{statement}
 use Rattle.tree_add.proofs.choose.choose.Tie as tie
 

@@ -10,9 +10,9 @@ use Rattle.tree_add.proofs.insert.+insert+insert_under.Lts-insert as in
 use Rattle.tree_add.proofs.insert.insert_under.Reads as insert-under
 use Rattle.tree_add.proofs.insert.insert_under.Kinds as insert-under-kinds
 use Rattle.tree_add.proofs.insert.+insert+insert_under.Lts-insert_under as insert-under-lts
-use Rattle.node.proofs.boxes.grown.Reads as grown-reads
-use Rattle.node.proofs.pool.entry_at.Reads as entry-at-reads
-use Rattle.node.proofs.pool.put.Reads as put-reads
+use Rattle.tree_node.proofs.boxes.grown.Reads as grown-reads
+use Rattle.tree_node.proofs.pool.entry_at.Reads as entry-at-reads
+use Rattle.tree_node.proofs.pool.put.Reads as put-reads
 use Rattle.tree_add.proofs.choose.choose.Reads as choose-reads
 use Rattle.tree_add.proofs.insert.halve.Reads as halve-reads
 use Rattle.tree_add.proofs.insert.put_in.Reads as put-in-reads

@@ -1,4 +1,4 @@
-use Rattle.rtree.proofs.Roots.{root-ready}
+use Rattle.tree_rules.proofs.Roots.{root-ready}
 use Rattle.tree_add.proofs.Raising.{root-some, root-enough, plant-kept, plant-open, plant-full, plant-free, plant-low, plant-rise}
 use borrow.Author.Needs.{needs}
 use Rattle.tree_add.proofs.root.add_root.Statement.{statement}

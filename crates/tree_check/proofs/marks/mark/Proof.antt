@@ -1,5 +1,5 @@
 use mathlib.Core.Path.{refl}
-use Rattle.node.proofs.Telling.{told-yes, told-no}
+use Rattle.tree_node.proofs.Telling.{told-yes, told-no}
 use borrow.Author.Needs.{needs}
 use Rattle.tree_check.proofs.marks.mark.Statement.{statement}
 use Rattle.tree_check.proofs.marks.mark.Tie as tie

@@ -10,8 +10,8 @@ use Rattle.tree_check.proofs.walk.+check_entry+check_node.Lts-check_ent
 use Rattle.tree_check.proofs.walk.check_node.Reads as check-node
 use Rattle.tree_check.proofs.walk.check_node.Kinds as check-node-kinds
 use Rattle.tree_check.proofs.walk.+check_entry+check_node.Lts-check_node as check-node-lts
-use Rattle.node.proofs.pool.count.Reads as count-reads
-use Rattle.node.proofs.pool.entry_at.Reads as entry-at-reads
+use Rattle.tree_node.proofs.pool.count.Reads as count-reads
+use Rattle.tree_node.proofs.pool.entry_at.Reads as entry-at-reads
 use Rattle.tree_check.proofs.marks.mark.Reads as mark-reads
 use Rattle.tree_check.proofs.walk.check_leaves.Reads as check-leaves-reads
 use Rattle.tree_check.proofs.walk.fits.Reads as fits-reads

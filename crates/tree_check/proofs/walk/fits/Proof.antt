@@ -10,7 +10,7 @@ count-requires : tie.Need-count-requires
 count-requires c κs = search needs
 
 returns : tie.Need-returns
-returns c = search fits-few
+returns c = search (needs, fits-few)
 
 hull-of-requires : tie.Need-hull-of-requires
 hull-of-requires c κs = search needs

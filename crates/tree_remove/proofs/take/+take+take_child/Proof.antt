@@ -10,8 +10,8 @@ use Rattle.tree_remove.proofs.take.+take+take_child.Lts-take as take-lt
 use Rattle.tree_remove.proofs.take.take_child.Reads as take-child
 use Rattle.tree_remove.proofs.take.take_child.Kinds as take-child-kinds
 use Rattle.tree_remove.proofs.take.+take+take_child.Lts-take_child as take-child-lts
-use Rattle.node.proofs.pool.count.Reads as count-reads
-use Rattle.node.proofs.pool.entry_at.Reads as entry-at-reads
+use Rattle.tree_node.proofs.pool.count.Reads as count-reads
+use Rattle.tree_node.proofs.pool.entry_at.Reads as entry-at-reads
 use Rattle.tree_remove.proofs.take.next_holding.Reads as next-holding-reads
 use Rattle.tree_remove.proofs.take.take_from_leaf.Reads as take-from-leaf-reads
 use Rattle.tree_repair.proofs.repair.repair.Reads as repair-reads

@@ -2,7 +2,7 @@ use Prim.Native.Nat.{_-_}
 use native.Mathlib.Omega.{arith}
 use borrow.Author.Needs.{needs}
 use mathlib.Core.Path.{_≡_}
-use Rattle.node.specs.Node.{entries}
+use Rattle.tree_node.specs.Node.{entries}
 use Rattle.tree_remove.specs.Take.{Passed}
 use Rattle.tree_remove.proofs.Finding.{passed-none, passed-one, first-here, first-none}
 use Rattle.tree_remove.proofs.take.next_equal.Statement.{statement}

@@ -1,15 +1,15 @@
 use Prim.Native.Nat.{_-_}
 use native.Mathlib.Omega.{arith}
 use borrow.Author.Needs.{needs}
-use Rattle.node.specs.Boxes.{In}
-use Rattle.node.specs.Node.{entries}
+use Rattle.tree_node.specs.Boxes.{InBox}
+use Rattle.tree_node.specs.Node.{entries}
 use Rattle.tree_remove.specs.Take.{Passed}
 use Rattle.tree_remove.proofs.Finding.{passed-none, passed-one, first-here, first-none}
 use Rattle.tree_remove.proofs.take.next_holding.Statement.{statement}
 use Rattle.tree_remove.proofs.take.next_holding.Tie as tie
 
 abbrev Inv-loop : tie.InvT-loop
-Inv-loop table n k e m i₀ i = Passed (λ f. In e f) (entries table n) k i
+Inv-loop table n k e m i₀ i = Passed (λ f. InBox e f) (entries table n) k i
 
 abbrev μ-loop : tie.MeasureT-loop
 μ-loop table n k e m i₀ i = m - i

@@ -2,7 +2,7 @@ use mathlib.Core.Logic.{⊎-elim}
 use Prim.Native.Nat.{_-_, _<_, _≤_}
 use lib.ListN.{length}
 use borrow.Author.Needs.{needs}
-use Rattle.node.specs.Node.{entries}
+use Rattle.tree_node.specs.Node.{entries}
 use Rattle.tree_repair.proofs.near.nearest.Statement.{statement}
 use Rattle.tree_repair.proofs.near.nearest.Tie as tie
 

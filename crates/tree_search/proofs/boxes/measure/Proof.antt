@@ -4,7 +4,7 @@ use mathlib.Core.Logic.{⊎-elim}
 use Prim.Native.Nat.{_-_, _≤_, _<_}
 use native.Mathlib.Omega.{arith}
 use lib.ListN.{length}
-use Rattle.node.specs.Node.{entries}
+use Rattle.tree_node.specs.Node.{entries}
 use Rattle.tree_search.specs.Searching.{Measured}
 use Rattle.tree_search.proofs.Corners.{measured-none, measured-next, measured-all}
 use Rattle.tree_search.proofs.boxes.measure.Statement.{statement}

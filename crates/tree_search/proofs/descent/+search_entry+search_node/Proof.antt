@@ -2,7 +2,7 @@ use borrow.Author.Needs.{needs}
 use mathlib.Core.Path.{_≡_}
 use Prim.Native.Nat.{ℕ, _+_, _*_, _<_}
 use native.Mathlib.Omega.{arith}
-use Rattle.node.proofs.Reading.{below-eight}
+use Rattle.tree_node.proofs.Reading.{below-eight}
 use Rattle.tree_search.proofs.Corners.{corner-is}
 use Rattle.tree_search.proofs.Reading.{Left, step-on, step-leaf, step-known, step-shut, child-readable, child-some, child-ahead, child-searched, node-placed, left-all, left-first, left-next, left-none}
 use borrow.Fn.Kinds.{In}
@@ -13,10 +13,10 @@ use Rattle.tree_search.proofs.descent.+search_entry+search_node.Lts-sea
 use Rattle.tree_search.proofs.descent.search_node.Reads as search-node
 use Rattle.tree_search.proofs.descent.search_node.Kinds as search-node-kinds
 use Rattle.tree_search.proofs.descent.+search_entry+search_node.Lts-search_node as search-node-lts
-use Rattle.node.proofs.pool.count.Reads as count-reads
-use Rattle.node.proofs.pool.entry_at.Reads as entry-at-reads
-use Rattle.row_skip.proofs.covers.Reads as covers-reads
-use Rattle.row_skip.proofs.shuts.Reads as shuts-reads
+use Rattle.tree_node.proofs.pool.count.Reads as count-reads
+use Rattle.tree_node.proofs.pool.entry_at.Reads as entry-at-reads
+use Rattle.list_skip.proofs.covers.Reads as covers-reads
+use Rattle.list_skip.proofs.shuts.Reads as shuts-reads
 use Rattle.tree_search.proofs.boxes.measure.Reads as measure-reads
 use Rattle.tree_search.proofs.descent.after.Reads as after-reads
 use Rattle.tree_search.proofs.descent.search_leaf.Reads as search-leaf-reads

@@ -1,13 +1,17 @@
 use borrow.Author.Needs.{needs}
-use Prim.Native.Nat.{_≤_}
+use Prim.Native.Nat.{_+_, _≤_}
+use Rattle.tree_split.specs.Parted.{mostParted}
 use Rattle.tree_split.proofs.mask.best_cut.Statement.{statement}
 use Rattle.tree_split.proofs.mask.best_cut.Tie as tie
 
 abbrev Inv-loop : tie.InvT-loop
-Inv-loop before after best₀ cut₀ best cut = cut ≤ 7
+Inv-loop before after best₀ cut₀ best cut = cut ≤ mostParted + 1
 
 abbrev μ-loop : tie.MeasureT-loop
 μ-loop before after best₀ cut₀ best cut = cut
+
+add-cut : tie.Need-add-cut Inv-loop μ-loop
+add-cut c = search needs
 
 loop-holds : tie.Need-loop-holds Inv-loop μ-loop
 loop-holds c = search needs
@@ -54,6 +58,7 @@ best-cut-spec =
     (tie.spec
     Inv-loop
     μ-loop
+    add-cut
     loop-holds
     sub-cut
     sub-cost

@@ -1,13 +1,14 @@
 use borrow.Author.Needs.{needs}
 use Prim.Native.Nat.{_≤_, _-_}
+use Rattle.tree_split.specs.Parted.{overfull}
 use Rattle.tree_split.proofs.mask.halves_before.Statement.{statement}
 use Rattle.tree_split.proofs.mask.halves_before.Tie as tie
 
 abbrev Inv-loop : tie.InvT-loop
-Inv-loop west south east north out₀ w₀ s₀ e₀ n₀ i₀ out w s e n i = i ≤ 9
+Inv-loop west south east north out₀ w₀ s₀ e₀ n₀ i₀ out w s e n i = i ≤ overfull
 
 abbrev μ-loop : tie.MeasureT-loop
-μ-loop west south east north out₀ w₀ s₀ e₀ n₀ i₀ out w s e n i = 9 - i
+μ-loop west south east north out₀ w₀ s₀ e₀ n₀ i₀ out w s e n i = overfull - i
 
 loop-holds : tie.Need-loop-holds Inv-loop μ-loop
 loop-holds c = search needs

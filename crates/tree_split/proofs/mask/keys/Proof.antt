@@ -1,13 +1,14 @@
 use borrow.Author.Needs.{needs}
 use Prim.Native.Nat.{_≤_, _-_}
+use Rattle.tree_split.specs.Parted.{overfull}
 use Rattle.tree_split.proofs.mask.keys.Statement.{statement}
 use Rattle.tree_split.proofs.mask.keys.Tie as tie
 
 abbrev Inv-loop : tie.InvT-loop
-Inv-loop low high out₀ i₀ out i = i ≤ 9
+Inv-loop low high out₀ i₀ out i = i ≤ overfull
 
 abbrev μ-loop : tie.MeasureT-loop
-μ-loop low high out₀ i₀ out i = 9 - i
+μ-loop low high out₀ i₀ out i = overfull - i
 
 loop-holds : tie.Need-loop-holds Inv-loop μ-loop
 loop-holds c = search needs

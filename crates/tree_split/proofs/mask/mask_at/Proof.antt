@@ -1,13 +1,14 @@
 use borrow.Author.Needs.{needs}
 use Prim.Native.Nat.{_≤_, _-_}
+use Rattle.tree_split.specs.Parted.{overfull}
 use Rattle.tree_split.proofs.mask.mask_at.Statement.{statement}
 use Rattle.tree_split.proofs.mask.mask_at.Tie as tie
 
 abbrev Inv-loop : tie.InvT-loop
-Inv-loop places cut mask₀ i₀ mask i = i ≤ 9
+Inv-loop places cut mask₀ i₀ mask i = i ≤ overfull
 
 abbrev μ-loop : tie.MeasureT-loop
-μ-loop places cut mask₀ i₀ mask i = 9 - i
+μ-loop places cut mask₀ i₀ mask i = overfull - i
 
 loop-holds : tie.Need-loop-holds Inv-loop μ-loop
 loop-holds c = search needs

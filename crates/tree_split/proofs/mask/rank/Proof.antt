@@ -1,13 +1,14 @@
 use borrow.Author.Needs.{needs}
 use Prim.Native.Nat.{_≤_, _-_}
+use Rattle.tree_split.specs.Parted.{overfull}
 use Rattle.tree_split.proofs.mask.rank.Statement.{statement}
 use Rattle.tree_split.proofs.mask.rank.Tie as tie
 
 abbrev Inv-loop : tie.InvT-loop
-Inv-loop keys key r₀ j₀ r j = (j ≤ 9) × (r ≤ j)
+Inv-loop keys key r₀ j₀ r j = (j ≤ overfull) × (r ≤ j)
 
 abbrev μ-loop : tie.MeasureT-loop
-μ-loop keys key r₀ j₀ r j = 9 - j
+μ-loop keys key r₀ j₀ r j = overfull - j
 
 loop-holds : tie.Need-loop-holds Inv-loop μ-loop
 loop-holds c = search needs

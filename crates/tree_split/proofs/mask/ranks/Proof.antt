@@ -1,13 +1,14 @@
 use borrow.Author.Needs.{needs}
 use Prim.Native.Nat.{_≤_, _-_}
+use Rattle.tree_split.specs.Parted.{overfull}
 use Rattle.tree_split.proofs.mask.ranks.Statement.{statement}
 use Rattle.tree_split.proofs.mask.ranks.Tie as tie
 
 abbrev Inv-loop : tie.InvT-loop
-Inv-loop low high places₀ keyed i₀ places i = i ≤ 9
+Inv-loop low high places₀ keyed i₀ places i = i ≤ overfull
 
 abbrev μ-loop : tie.MeasureT-loop
-μ-loop low high places₀ keyed i₀ places i = 9 - i
+μ-loop low high places₀ keyed i₀ places i = overfull - i
 
 keys-requires : tie.Need-keys-requires Inv-loop μ-loop
 keys-requires c κs = search needs

@@ -1,13 +1,14 @@
 use borrow.Author.Needs.{needs}
 use Prim.Native.Nat.{_≤_, _-_}
+use Rattle.limits.specs.Limits.{maxEntries}
 use Rattle.tree_split.proofs.mask.split_mask.Statement.{statement}
 use Rattle.tree_split.proofs.mask.split_mask.Tie as tie
 
 abbrev Inv-loop : tie.InvT-loop
-Inv-loop table c west₀ south₀ east₀ north₀ k₀ west south east north k = k ≤ 8
+Inv-loop table c west₀ south₀ east₀ north₀ k₀ west south east north k = k ≤ maxEntries
 
 abbrev μ-loop : tie.MeasureT-loop
-μ-loop table c west₀ south₀ east₀ north₀ k₀ west south east north k = 8 - k
+μ-loop table c west₀ south₀ east₀ north₀ k₀ west south east north k = maxEntries - k
 
 loop-holds : tie.Need-loop-holds Inv-loop μ-loop
 loop-holds c = search needs

@@ -1,0 +1,84 @@
+-- What is to be done for a command, with what was found in the table. Document 01, "Tests in order" and "The site
+-- book".
+-- Assumes nothing.
+use mathlib.Core.Path.{_≡_}
+use mathlib.Core.Logic.{_≢_}
+use mathlib.Core.Bool.{true}
+use mathlib.Core.List.{List}
+use Prim.Native.Nat.{ℕ, _<_}
+use lib.ListN.{length}
+use Rattle.limits.specs.Limits.{maxSites}
+use Rattle.grid.specs.declared.Position.{Position}
+use Rattle.grid.specs.declared.Site.{Site}
+use Rattle.grid.specs.Position.{OnGrid, LegOnGrid}
+use Rattle.book.specs.declared.Command.{Command}
+use Rattle.book.specs.declared.Command.the-variants.{Add, Remove, Move, Stand}
+use Rattle.book.specs.declared.Cause.{Cause}
+use Rattle.book.specs.declared.Cause.the-variants.{NumberZero, OffGrid, Held, NotHeld, Full, NoSite, NoLeg}
+use Rattle.book.specs.Proper.{NumberOk}
+use Rattle.book.specs.Answer.{reads}
+use Rattle.table_sites.specs.Lines.{linesIn, StandsAt, StandsNowhere}
+use Rattle.call_judge.specs.declared.Answer.{Answer}
+use Rattle.call_judge.specs.declared.Verdict.{Verdict}
+use Rattle.call_judge.specs.declared.change.Tested.{Tested}
+use Rattle.call_judge.specs.Judged.{Judged}
+
+-- what a verdict is answered
+abbrev pub answerOf : Verdict → Answer
+answerOf (Verdict.Refuse x) = Answer.Refused x
+answerOf (Verdict.Show l k) = Answer.Listed l k
+answerOf (Verdict.Insert k p) = Answer.Done
+answerOf (Verdict.Delete k n) = Answer.Done
+answerOf (Verdict.Place k p) = Answer.Done
+answerOf (Verdict.Stand l) = Answer.Done
+
+-- a site may be inserted before record k
+pub record Insertable (k : ℕ) (p : Site) (t : List ℕ) : Type 0 where
+  pub nowhere : StandsNowhere k (p .number) (linesIn t)
+  pub room : length (linesIn t) < maxSites
+  pub number : NumberOk p
+  pub onGrid : OnGrid (p .position)
+
+-- what was found in the table
+abbrev pub Findings : Verdict → List ℕ → Type 0
+Findings (Verdict.Refuse x) t = Unit {0}
+Findings (Verdict.Show l k) t = Unit {0}
+Findings (Verdict.Insert k p) t = Insertable k p t
+Findings (Verdict.Delete k n) t = StandsAt k n (linesIn t)
+Findings (Verdict.Place k p) t = StandsAt k (p .number) (linesIn t) × OnGrid (p .position)
+Findings (Verdict.Stand l) t = LegOnGrid l
+
+-- the command that a verdict is on: any that is refused; one that changes nothing, where a list is shown; else the
+-- command itself
+abbrev pub IsOn : Verdict → Command → Type 0
+IsOn (Verdict.Refuse x) c = Unit {0}
+IsOn (Verdict.Show l k) c = reads c ≡ true
+IsOn (Verdict.Insert k p) c = c ≡ Add (p .number) (p .position)
+IsOn (Verdict.Delete k n) c = c ≡ Remove n
+IsOn (Verdict.Place k p) c = c ≡ Move (p .number) (p .position)
+IsOn (Verdict.Stand l) c = c ≡ Stand l
+
+-- the verdict on the command c: its answer is the book's, and what it says of the table is so
+pub record Decided (v : Verdict) (c : Command) (t w : List ℕ) : Type 0 where
+  pub judged : Judged (answerOf v) c t w
+  pub found : Findings v t
+  pub command : IsOn v c
+
+-- the same, whatever stands in the row
+pub record Settled (v : Verdict) (c : Command) (t : List ℕ) : Type 0 where
+  pub decided : (w : List ℕ) → Decided v c t w
+
+-- "site number 0", then "a coordinate outside -8,000 to 8,000": what the first tests of an addition and a move refuse
+abbrev pub BadFor : Cause → ℕ → Position → Type 0
+BadFor NumberZero n p = n ≡ 0
+BadFor OffGrid n p = (n ≢ 0) × ¬ OnGrid p
+BadFor Held n p = ⊥
+BadFor NotHeld n p = ⊥
+BadFor Full n p = ⊥
+BadFor NoSite n p = ⊥
+BadFor NoLeg n p = ⊥
+
+-- and what they find
+abbrev pub TestedAs : Tested → ℕ → Position → Type 0
+TestedAs (Tested.Bad x) n p = BadFor x n p
+TestedAs (Tested.Good s) n p = (s ≡ record { number = n; position = p }) × NumberOk s × OnGrid (s .position)

@@ -1,0 +1,63 @@
+// What each command is to be answered and done: the tests of its row in order, the list that it asks for, and where
+// in the table its site stands or goes. Document 01, the column "Tests in order".
+pub mod change;
+pub mod list;
+
+use book::Cause;
+use book::Command;
+use grid::Leg;
+use grid::Site;
+ghost use mathlib.Core.Path.{_≡_};
+ghost use Prim.Native.Nat.{_≤_};
+ghost use lib.ListN.{length};
+ghost use Rattle.list_row.specs.Vertices.{rowBytes};
+ghost use Rattle.table_rules.specs.Table.{Sound};
+ghost use Rattle.call_judge.specs.Verdict.{answerOf, Decided};
+
+// What the record of a command says: accepted, refused for a cause, or answered by a list, that of the leg in the
+// first so many of the row that begins the work buffer.
+pub enum Answer {
+    Done,
+    Refused(Cause),
+    Listed(Leg, usize),
+}
+
+// What is to be done, with what was found: nothing but a refusal; nothing but a list; a site inserted before a
+// record; the record of a number deleted; a record given a new position; a standing leg set.
+pub enum Verdict {
+    Refuse(Cause),
+    Show(Leg, usize),
+    Insert(u16, Site),
+    Delete(u16, u16),
+    Place(u16, Site),
+    Stand(Leg),
+}
+
+// What a verdict is answered.
+pub fn reply(v: Verdict) -> Answer
+    ensures { λ r. ⌜ r ≡ answerOf v ⌝ }
+{
+    match v {
+        Verdict::Refuse(cause) => Answer::Refused(cause),
+        Verdict::Show(leg, k) => Answer::Listed(leg, k),
+        Verdict::Insert(_, _) => Answer::Done,
+        Verdict::Delete(_, _) => Answer::Done,
+        Verdict::Place(_, _) => Answer::Done,
+        Verdict::Stand(_) => Answer::Done,
+    }
+}
+
+// The verdict on a command.
+pub fn judge(t: &[u8], work: &mut [u8], c: Command) -> Verdict
+    requires { ⌜ Sound (now t) × (rowBytes ≤ length (now work)) ⌝ }
+    ensures { λ r. ⌜ Decided r c (now (t .entry)) (now (work .exit)) ⌝ }
+{
+    match c {
+        Command::Add(n, p) => change::add(t, n, p),
+        Command::Remove(n) => change::remove(t, n),
+        Command::Move(n, p) => change::place(t, n, p),
+        Command::List(leg) => list::list(t, work, leg),
+        Command::Stand(leg) => list::stand(t, leg),
+        Command::Print => list::print(t, work),
+    }
+}

@@ -1,0 +1,31 @@
+use Rattle.call_parse.proofs.Finding.{print-made}
+use borrow.Author.Needs.{needs}
+use Rattle.book.specs.Command.{formOf}
+use Rattle.call_parse.proofs.command.Statement.{statement}
+use Rattle.call_parse.proofs.command.Tie as tie
+
+returns : tie.Need-returns
+unfolding formOf
+returns c = rw (c .match .keys1)
+
+returns-2 : tie.Need-returns-2
+unfolding formOf
+returns-2 c = rw (c .match .keys2)
+
+returns-3 : tie.Need-returns-3
+unfolding formOf
+returns-3 c = rw (c .match .keys3)
+
+returns-4 : tie.Need-returns-4
+unfolding formOf
+returns-4 c = rw (c .match .keys4)
+
+returns-5 : tie.Need-returns-5
+unfolding formOf
+returns-5 c = rw (c .match .keys5)
+
+returns-6 : tie.Need-returns-6
+returns-6 c = search (needs, print-made)
+
+pub command-spec : {M : Type 1} → statement M
+command-spec = tie.close (tie.spec returns returns-2 returns-3 returns-4 returns-5 returns-6)

@@ -1,0 +1,36 @@
+use Rattle.call_parse.proofs.Finding.{unlisted}
+use borrow.Author.Needs.{needs}
+use Rattle.book.specs.Command.{formOf}
+use Rattle.call_parse.proofs.mark_of.Statement.{statement}
+use Rattle.call_parse.proofs.mark_of.Tie as tie
+
+returns : tie.Need-returns
+unfolding formOf
+returns c = rw (c .match .keys1)
+
+returns-2 : tie.Need-returns-2
+unfolding formOf
+returns-2 c = rw (c .match .keys2)
+
+returns-3 : tie.Need-returns-3
+unfolding formOf
+returns-3 c = rw (c .match .keys3)
+
+returns-4 : tie.Need-returns-4
+unfolding formOf
+returns-4 c = rw (c .match .keys4)
+
+returns-5 : tie.Need-returns-5
+unfolding formOf
+returns-5 c = rw (c .match .keys5)
+
+returns-6 : tie.Need-returns-6
+unfolding formOf
+returns-6 c = rw (c .match .keys6)
+
+returns-7 : tie.Need-returns-7
+returns-7 c = search (needs, unlisted)
+
+pub mark-of-spec : {M : Type 1} → statement M
+mark-of-spec =
+    tie.close (tie.spec returns returns-2 returns-3 returns-4 returns-5 returns-6 returns-7)

@@ -1,0 +1,6 @@
+pub mod Products
+pub mod Reading
+pub mod Stacks
+pub mod Bisection
+pub mod Listing
+pub mod Entries

@@ -1,0 +1,4 @@
+pub mod Places
+pub mod Vertices
+pub mod Gaps
+pub mod Entries

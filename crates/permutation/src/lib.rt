@@ -1,0 +1,1 @@
+// Definitions and laws alone: a list in another order.

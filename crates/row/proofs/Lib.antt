@@ -1,5 +1,0 @@
-pub mod Products
-pub mod Reading
-pub mod Stacks
-pub mod Bisection
-pub mod Listing

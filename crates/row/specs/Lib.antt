@@ -1,3 +1,0 @@
-pub mod Places
-pub mod Vertices
-pub mod Gaps

@@ -1,4 +1,0 @@
-pub mod Tree
-pub mod Rooted
-pub mod Change
-pub mod Perm

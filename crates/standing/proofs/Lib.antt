@@ -1,4 +1,0 @@
-pub mod Legs
-pub mod Zeros
-pub mod Numbers
-pub mod Stored

@@ -1,0 +1,40 @@
+-- The table's first 64 bytes (docs/LAYOUT.md, "Header"). Each number stands here for the definitions and in src/ for
+-- the code.
+-- Assumes nothing.
+use Prim.Native.Nat.{ℕ, _+_}
+
+-- the number of sites
+abbrev pub countStart : ℕ
+countStart = 0
+
+-- what follows the number of sites
+abbrev pub afterCount : ℕ
+afterCount = 2
+
+-- 1 where a standing leg is set, else 0
+abbrev pub flagStart : ℕ
+flagStart = 2
+
+-- the leg: S east, S north, E east, E north, 16 bits each
+abbrev pub legStart : ℕ
+legStart = 4
+
+-- the number of entries of the standing list
+abbrev pub lengthStart : ℕ
+lengthStart = 12
+
+-- the number of the layout: its place is the same in every layout
+abbrev pub layoutStart : ℕ
+layoutStart = 14
+
+-- the number of this layout: "its layout is the team's and stands in docs/"
+abbrev pub layoutNumber : ℕ
+layoutNumber = 1
+
+-- the bytes that are kept for later: from behind the last field
+abbrev pub keptStart : ℕ
+keptStart = layoutStart + 2
+
+-- up to the header's end
+abbrev pub keptEnd : ℕ
+keptEnd = 64

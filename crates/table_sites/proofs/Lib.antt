@@ -1,0 +1,10 @@
+pub mod Reading
+pub mod Order
+pub mod Finding
+pub mod Insertion
+pub mod Deletion
+pub mod Placement
+pub mod Stores
+pub mod Changing
+pub mod Checking
+pub mod Kept
