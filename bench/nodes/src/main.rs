@@ -13,7 +13,7 @@ mod row;
 mod search;
 
 use plain::legs::Length;
-use plain::tables::{Kind, Lie, serve};
+use plain::tables::{Kind, Lie, Numbering, serve};
 use reference::command;
 use reference::grid::{Leg, MOST_SITES};
 use reference::random::Random;
@@ -55,7 +55,7 @@ const fn full(lie: Lie, rounds: usize) -> Kind {
     Kind {
         lie,
         sites: MOST_SITES,
-        apart: 1,
+        numbering: Numbering::FOLLOWING,
         rounds,
     }
 }

@@ -1,4 +1,4 @@
-//! The proved list in plain Rust (crates row, row_skip and row_insert): a row of vertices, each
+//! The proved list in plain Rust (crates list_row, list_skip and list_insert): a row of vertices, each
 //! site skipped or inserted in turn.
 
 use reference::fraction::Fraction;

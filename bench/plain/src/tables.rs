@@ -48,13 +48,40 @@ impl Ground {
     }
 }
 
+/// Which numbers the sites have.
+#[derive(Clone, Copy, PartialEq)]
+pub enum Numbering {
+    /// This number, twice it, and so on.
+    Apart(u16),
+    /// Any numbers, the same ones in every table.
+    Scattered,
+}
+
+impl Numbering {
+    /// One after the other, from 1.
+    pub const FOLLOWING: Numbering = Numbering::Apart(1);
+
+    /// So many numbers, rising.
+    fn numbers(self, count: usize) -> Vec<u16> {
+        match self {
+            Numbering::Apart(step) => (1..).map(|i| i * step).take(count).collect(),
+            Numbering::Scattered => {
+                let mut numbers: Vec<u16> = (1..=u16::MAX).collect();
+                Random::new(1).shuffle(&mut numbers);
+                numbers.truncate(count);
+                numbers.sort_unstable();
+                numbers
+            }
+        }
+    }
+}
+
 /// What a table has to be like.
 #[derive(Clone, Copy)]
 pub struct Kind {
     pub lie: Lie,
     pub sites: usize,
-    /// The sites have this number, twice it, and so on.
-    pub apart: u16,
+    pub numbering: Numbering,
     /// In each round of the table's history a random half of the sites is removed, and as many
     /// are added elsewhere.
     pub rounds: usize,
@@ -66,14 +93,14 @@ impl Kind {
         Kind {
             lie: Lie::Anywhere,
             sites,
-            apart: 1,
+            numbering: Numbering::FOLLOWING,
             rounds: 0,
         }
     }
 
     /// The sites' numbers, rising.
     pub fn numbers(self) -> Vec<u16> {
-        (1..).map(|i| i * self.apart).take(self.sites).collect()
+        self.numbering.numbers(self.sites)
     }
 
     pub fn table(self, service: &impl Service, random: &mut Random) -> Vec<u8> {

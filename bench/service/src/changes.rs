@@ -6,7 +6,7 @@ use crate::contenders::{Hull, Kept, Lister, Wrap};
 use crate::sites::{held, plain, words};
 use crate::times::Times;
 use plain::legs::{Length, anywhere};
-use plain::tables::{Kind, change};
+use plain::tables::{Kind, Numbering, change};
 use plain::turns::{Program, take};
 use plain::vertex::{Leg, Site};
 use reference::command::{self, Command};
@@ -63,17 +63,16 @@ impl AsRef<Calls> for Task {
 }
 
 impl Task {
-    /// So many changes at 512 sites, whose numbers are `apart` from each other; additions end there,
-    /// and removals begin there.
+    /// So many changes at 512 sites, numbered so; additions end there, and removals begin there.
     pub fn new(
         random: &mut Random,
         kind: Change,
         leg: Option<Length>,
-        apart: u16,
+        numbering: Numbering,
         count: usize,
     ) -> Self {
         let fresh = Kind {
-            apart,
+            numbering,
             ..Kind::fresh(MOST_SITES)
         };
         let mut table = fresh.table(&Proved, random);

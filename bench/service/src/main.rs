@@ -19,6 +19,7 @@ mod times;
 use changes::Change;
 use fixed::Fixed;
 use plain::legs::Length;
+use plain::tables::Numbering;
 use plain::verdict::Bound;
 use reference::grid::MOST_SITES;
 use reference::random::Random;
@@ -34,6 +35,12 @@ const WORST_LEGS: usize = 10;
 const CHANGES: usize = 100;
 /// Numbers with gaps: the 512th is the last that 16 bits hold.
 const FAR_APART: u16 = 127;
+/// How the sites are numbered in a row of changes, and what the row says of it.
+const NUMBERINGS: [(Numbering, &str); 3] = [
+    (Numbering::FOLLOWING, ""),
+    (Numbering::Apart(FAR_APART), ", gaps"),
+    (Numbering::Scattered, ", scattered"),
+];
 /// Up to here a leg is short.
 const SHORT: i64 = 2_000;
 
@@ -57,7 +64,7 @@ fn print_head() {
     println!("  kept    the same, the distances computed once a leg and kept");
     println!("  hull    a scan, a sort and a hull in plain Rust");
     println!(
-        "  gaps    the sites' numbers are {FAR_APART} apart, else they follow each other from 1"
+        "  gaps    the sites' numbers are {FAR_APART} apart; scattered: any; else they follow each other from 1"
     );
     println!("Then how many times faster the service is: many a call, and one a call.");
 }
@@ -112,18 +119,20 @@ fn changes(random: &mut Random, targets: &mut Targets) {
     Times::print_head("a change, no record of the list", CHANGES);
     let leg = Some(Length::Of(SHORT));
     for kind in [Change::Add, Change::Remove, Change::Move] {
-        for (leg, apart) in [(None, 1), (leg, 1), (leg, FAR_APART)] {
-            let task = |_| changes::Task::new(random, kind, leg, apart, CHANGES);
+        let mut row = |leg: Option<Length>, (numbering, told): (Numbering, &str)| {
+            let task = |_| changes::Task::new(random, kind, leg, numbering, CHANGES);
             let tasks: Vec<_> = (0..TABLES).map(task).collect();
             let times = changes::measure(&tasks, REPEATS);
-            let gaps = if apart == 1 { "" } else { ", gaps" };
-            let what = format!("{}, {}{gaps}", kind.name(), standing(leg));
+            let what = format!("{}, {}{told}", kind.name(), standing(leg));
             times.print(&what);
-            let what = format!("512 sites, {what}");
-            match (leg, apart) {
-                (None, _) => {}
-                (_, 1) => targets.faster(&what, &times, 8.0, 25.0),
-                _ => targets.beside(&what, &times),
+            (format!("512 sites, {what}"), times)
+        };
+        row(None, NUMBERINGS[0]);
+        for numbered in NUMBERINGS {
+            let (what, times) = row(leg, numbered);
+            match numbered.0 {
+                Numbering::Scattered => targets.beside(&what, &times),
+                Numbering::Apart(_) => targets.faster(&what, &times, 8.0, 25.0),
             }
         }
     }

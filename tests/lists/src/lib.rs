@@ -5,8 +5,8 @@ use reference::grid::{HALF_WIDTH, Leg, Site};
 
 /// Number, easting and northing, and two bytes that are not read.
 pub const SITE_LEN: usize = 8;
-/// The work buffer has to have two rows of 512 places.
-pub const WORK_NEEDED: usize = 2_048;
+/// The work buffer has to have a row of 512 places.
+pub const WORK_NEEDED: usize = 1_024;
 
 /// Counted from the grid's south-west corner.
 fn steps(coordinate: i64) -> u16 {
