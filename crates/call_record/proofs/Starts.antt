@@ -1,26 +1,20 @@
--- Numbers and starts as they are read from a row.
+-- Starts as they are computed from a row.
 -- Assumes nothing.
 use mathlib.Core.Path.{_≡_, refl, sym, _∙_}
 use mathlib.Core.List.{List}
-use Prim.Native.Nat.{ℕ, zero, suc, _+_, _*_, _-_, _^_, _≤_, _<_}
+use Prim.Native.Nat.{ℕ, zero, suc, _+_, _-_, _^_, _<_}
 use native.Mathlib.Omega.{arith}
-use lib.ListN.{length}
 use Rattle.grid.specs.declared.Fraction.{Fraction}
 use Rattle.grid.specs.declared.Leg.{Leg}
 use Rattle.grid.specs.Fraction.{gcdBy, gcdOf, lowest}
 use Rattle.split.specs.SplitOf.{changeover}
 use Rattle.list_row.specs.declared.Vertex.{Vertex}
-use Rattle.list_row.specs.Places.{HasSite}
 use Rattle.list_row.specs.Vertices.{IsVertex, placeAt, vertexIn, Held}
 use Rattle.list_row.proofs.Stacks.{edge}
 use Rattle.list_row.specs.Entries.{startAt}
 use Rattle.call_record.specs.Starts.{RatioAt}
 
 module _ (l : Leg) (t r : List ℕ) where
-  -- what a row of k asks for, to read the number of one of them
-  pub number-there : (k i : ℕ) → Held l t r k → i < k → (2 * i + 2 ≤ length r) × HasSite t (placeAt r i)
-  number-there k i hd h = (omega (arith, hd .inside), hd .sites i h)
-
   start-at : (j : ℕ) → 0 < j → startAt l t r j ≡ changeover (vertexIn l t r (j - 1)) (vertexIn l t r j)
   start-at zero h = absurd (omega arith)
   start-at (suc j) h = let e : suc j - 1 ≡ j = omega arith in rw e

@@ -61,3 +61,14 @@ module _ (t r : List ℕ) (i p : ℕ) (e : p ≡ wordAt r (2 * i)) where
   pub number-is : (n : ℕ) → n ≡ wordAt t (2 * p) → n ≡ siteAt t (placeAt r i) .number
   unfolding placeAt siteAtByte
   number-is n f = subst (λ (q : ℕ). n ≡ wordAt t (2 * q)) e f
+
+-- What reading one of a row of k asks for.
+module _ (l : Leg) (t r : List ℕ) (k i : ℕ) (h : Held l t r k) (g : i < k) where
+  pub row-there : 2 * i + 2 ≤ length r
+  row-there = omega (arith, h .inside)
+
+  pub row-has : HasSite t (placeAt r i)
+  row-has = h .sites i g
+
+  pub number-there : (2 * i + 2 ≤ length r) × HasSite t (placeAt r i)
+  number-there = (row-there, row-has)

@@ -1,6 +1,6 @@
 -- The witnesses of a skip, in hand.
 -- Assumes nothing.
-use mathlib.Core.Path.{_≡_, subst, subst⁻¹}
+use mathlib.Core.Path.{_≡_, subst⁻¹}
 use mathlib.Core.Logic.{inl, inr}
 use mathlib.Core.Bool.{Bool, true, false}
 use mathlib.Core.List.{List}

@@ -11,7 +11,7 @@ use Rattle.limits.specs.Limits.{tableBytes}
 use Rattle.words.specs.Words.{wordAt}
 use Rattle.grid.specs.declared.Leg.{Leg}
 use Rattle.split.specs.SplitList.{Entry}
-use Rattle.list_row.specs.Places.{siteAt, HasSite}
+use Rattle.list_row.specs.Places.{siteAt}
 use Rattle.list_row.specs.Vertices.{placeAt, Held, entriesIn}
 use Rattle.list_row.specs.Entries.{rowEntry}
 use Rattle.list_row.proofs.Entries.{entries-one, entries-length}
@@ -69,12 +69,6 @@ pub matched-none : (b r : List ℕ) (k : ℕ) → Matched b r k 0
 matched-none b r k = record { within = omega arith; same = λ j h. absurd (omega arith) }
 
 module _ (l : Leg) (b r : List ℕ) (k : ℕ) (len : length b ≡ tableBytes) (hd : Held l b r k) where
-  pub row-inside : (i : ℕ) → i < k → 2 * i + 2 ≤ length r
-  row-inside i h = omega (arith, hd .inside)
-
-  pub site-there : (i : ℕ) → i < k → HasSite b (placeAt r i)
-  site-there i h = hd .sites i h
-
   pub matched-one : (i n s : ℕ) → Matched b r k i → i < k → n ≡ siteAt b (placeAt r i) .number → s ≡ storedNumber b i → n ≡ s → Matched b r k (i + 1)
   matched-one i n s m h en es e = record { within = omega arith; same = λ j g. go j g (decLt j i) }
     where

@@ -171,13 +171,13 @@ fn a_folder_of_another_root() {
     let destination = format!("DESTDIR={}", root.display());
     make(
         &at_root("."),
-        &["install", &destination, "PREFIX=/opt/stops"],
+        &["install", &destination, "PREFIX=/elsewhere"],
     );
-    let pc = std::fs::read_to_string(root.join("opt/stops/lib/pkgconfig/stops.pc")).unwrap();
-    assert!(pc.starts_with("prefix=/opt/stops\n"), "{pc}");
+    let pc = std::fs::read_to_string(root.join("elsewhere/lib/pkgconfig/stops.pc")).unwrap();
+    assert!(pc.starts_with("prefix=/elsewhere\n"), "{pc}");
     make(
         &at_root("."),
-        &["uninstall", &destination, "PREFIX=/opt/stops"],
+        &["uninstall", &destination, "PREFIX=/elsewhere"],
     );
     assert_eq!(files(&root), [""; 0]);
 }

@@ -1,5 +1,5 @@
 use borrow.Author.Needs.{needs}
-use Rattle.call_record.proofs.Starts.{number-there}
+use Rattle.list_row.proofs.Reading.{number-there}
 use Rattle.call_record.proofs.Entries.{entry-is}
 use Rattle.call_record.proofs.put_entry.Statement.{statement}
 use Rattle.call_record.proofs.put_entry.Tie as tie

@@ -1,7 +1,7 @@
 use borrow.Author.Needs.{needs}
 use native.Mathlib.Omega.{arith}
 use Prim.Native.Nat.{_+_}
-use Rattle.call_record.proofs.Starts.{number-there}
+use Rattle.list_row.proofs.Reading.{number-there}
 use Rattle.call_record.proofs.Entries.{two-are}
 use Rattle.call_record.proofs.put_two.Statement.{statement}
 use Rattle.call_record.proofs.put_two.Tie as tie

@@ -1,7 +1,7 @@
 use borrow.Author.Needs.{needs}
-use native.Mathlib.Omega.{arith}
 use Prim.Native.Nat.{_-_}
-use Rattle.table_check.proofs.Matching.{Matched, matched-none, row-inside, site-there, matched-one, matched-all, other-length, other-number}
+use Rattle.list_row.proofs.Reading.{row-there, row-has}
+use Rattle.table_check.proofs.Matching.{Matched, matched-none, matched-one, matched-all, other-length, other-number}
 use Rattle.table_check.proofs.list_matches.Statement.{statement}
 use Rattle.table_check.proofs.list_matches.Tie as tie
 
@@ -21,7 +21,7 @@ loop-holds : tie.Need-loop-holds Inv-loop μ-loop
 loop-holds c = search (needs, matched-none)
 
 number-in-requires : tie.Need-number-in-requires Inv-loop μ-loop
-number-in-requires c κs = (search (needs, row-inside), search (needs, site-there))
+number-in-requires c κs = (search (needs, row-there), search (needs, row-has))
 
 number-requires : tie.Need-number-requires Inv-loop μ-loop
 number-requires c κs = search needs
