@@ -2,6 +2,7 @@
 
 use crate::row::{Corner, Leg, Row};
 use crate::search::{Nodes, count, root};
+use reference::area::outside;
 use reference::fraction::Fraction;
 use service::bytes::Entry;
 use std::cmp::Ordering;
@@ -73,13 +74,11 @@ impl Stretch {
 /// From the leg's point at t to the box, times the squared denominator.
 fn squared_distance([s_east, s_north, e_east, e_north]: Leg, t: Fraction, area: Entry) -> i128 {
     let (n, d) = (i128::from(t.numerator), i128::from(t.denominator));
-    let outside = |s: u16, e: u16, low: u16, high: u16| {
+    let axis = |s: u16, e: u16, low: u16, high: u16| {
         let x = d * i128::from(s) + n * (i128::from(e) - i128::from(s));
-        (d * i128::from(low) - x)
-            .max(x - d * i128::from(high))
-            .max(0)
+        outside(d * i128::from(low), d * i128::from(high), x)
     };
-    let across = outside(s_east, e_east, area.west, area.east);
-    let up = outside(s_north, e_north, area.south, area.north);
+    let across = axis(s_east, e_east, area.west, area.east);
+    let up = axis(s_north, e_north, area.south, area.north);
     across * across + up * up
 }

@@ -1,6 +1,7 @@
 //! The proved list in plain Rust (crates list_row, list_skip and list_insert): a row of vertices, each
 //! site skipped or inserted in turn.
 
+use reference::area::outside;
 use reference::fraction::Fraction;
 use service::bytes::Entry;
 
@@ -23,11 +24,6 @@ pub struct Vertex {
 
 fn squared(distance: u16) -> u32 {
     u32::from(distance) * u32::from(distance)
-}
-
-/// How far x is outside `low..=high`.
-fn outside(low: u16, high: u16, x: u16) -> u16 {
-    low.saturating_sub(x).max(x.saturating_sub(high))
 }
 
 fn from_area(area: Entry, east: u16, north: u16) -> u32 {

@@ -10,8 +10,9 @@ use Rattle.limits.specs.Limits.{maxSites}
 use Rattle.grid.specs.declared.Position.{Position}
 use Rattle.grid.specs.declared.Site.{Site}
 use Rattle.grid.specs.declared.Leg.{Leg}
-use Rattle.grid.specs.Position.{OnGrid, squaredDifference, distance}
-use Rattle.grid.specs.Area.{outside, areaDistance}
+use Rattle.grid.specs.Position.{OnGrid, distance}
+use Rattle.grid.specs.Area.{areaDistance}
+use Rattle.grid.proofs.Nearest.{point-far}
 use Rattle.grid.specs.Says.{If}
 use Rattle.split.specs.Skip.{ShutOut}
 use Rattle.list_row.specs.Vertices.{IsVertex, stack}
@@ -77,8 +78,9 @@ byte-site t x = refl
 
 -- the box of a leaf entry is a point
 point-distance : (e : NodeEntry) (q : Position) → LeafPoint e → areaDistance (areaOf e) q ≡ distance (siteOf e .position) q
-unfolding areaDistance distance outside squaredDifference
-point-distance e q p = rw (p .east, p .north)
+point-distance e q p =
+    let g : BoxOnGrid e = record { across = omega arith; up = omega arith; east = omega arith; north = omega arith } in
+    point-far (areaOf e) q g (p .east) (p .north)
 
 -- entry i of the leaf n begins with a site record, at the place p
 module _ (t : List ℕ) (n i p : ℕ) (lt : i < length (entries t n)) (at : 2 * p ≡ entryStart n i) where

@@ -1,6 +1,7 @@
 //! The second program of document 01: the same rules written again, plainly, so that the
 //! proved service has something independent to be compared with.
 
+pub mod area;
 pub mod batch_program;
 pub mod book;
 pub mod command;
