@@ -78,9 +78,7 @@ byte-site t x = refl
 
 -- the box of a leaf entry is a point
 point-distance : (e : NodeEntry) (q : Position) → LeafPoint e → areaDistance (areaOf e) q ≡ distance (siteOf e .position) q
-point-distance e q p =
-    let g : BoxOnGrid e = record { across = omega arith; up = omega arith; east = omega arith; north = omega arith } in
-    point-far (areaOf e) q g (p .east) (p .north)
+point-distance e q p = point-far (areaOf e) q (p .east) (p .north)
 
 -- entry i of the leaf n begins with a site record, at the place p
 module _ (t : List ℕ) (n i p : ℕ) (lt : i < length (entries t n)) (at : 2 * p ≡ entryStart n i) where
