@@ -15,9 +15,10 @@ STOPS_TEXT = text/target/release/stops-text
 EXAMPLE = crates/stops/stdin
 ANSWERS = target/demo.answers
 
-# The library: one object, in which all but the exported calls is local.
+# The library: one object, in which all but the exported calls is local. The number of the shared one
+# goes up when a program that was linked against an earlier one no longer works.
 PACKAGE = target/package
-SONAME = libstops.so.0
+SONAME = libstops.so.1
 SHARED = $(PACKAGE)/libstops.so.$(VERSION)
 CALLS = stops_lay_out stops_batch
 

@@ -3,9 +3,9 @@
 #ifndef STOPS_H
 #define STOPS_H
 
-#define STOPS_VERSION "0.6.0"
+#define STOPS_VERSION "0.7.0"
 /* 10000 times the first number, 100 times the second, and the third. */
-#define STOPS_VERSION_NUMBER 600
+#define STOPS_VERSION_NUMBER 700
 
 #include <stddef.h>
 #include <stdint.h>
@@ -16,7 +16,7 @@ extern "C" {
 
 /* The exact lengths of the table and of the work buffer, in bytes. */
 #define STOPS_TABLE_BYTES 32768
-#define STOPS_WORK_BYTES 8192
+#define STOPS_WORK_BYTES 2048
 
 #define STOPS_MOST_SITES 512
 /* No command has more bytes. */

@@ -10,7 +10,8 @@ pub use record::Record;
 use std::ops::Range;
 
 pub const TABLE_LEN: usize = 32_768;
-pub const WORK_LEN: usize = 8_192;
+/// Not a length of the layout's: what include/stops.h says.
+pub const WORK_LEN: usize = of_header(env!("STOPS_WORK_BYTES"));
 pub const MOST_SITES: usize = 512;
 
 /// The layout's own number: a table with another one is of another layout.
@@ -50,6 +51,13 @@ pub const MOST_LEVELS: usize = 6;
 
 /// A coordinate at the grid's far edge, counted from the south-west corner.
 pub const FAR_EDGE: u16 = 16_000;
+
+const fn of_header(digits: &str) -> usize {
+    match usize::from_str_radix(digits, 10) {
+        Ok(number) => number,
+        Err(_) => panic!("the header defines a plain number"),
+    }
+}
 
 pub fn word(table: &[u8], at: usize) -> u16 {
     u16::from_le_bytes([table[at], table[at + 1]])

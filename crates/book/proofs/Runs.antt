@@ -7,9 +7,8 @@ use mathlib.Core.List.{List, [], _∷_, _++_, append-assoc, append-nil}
 use Prim.Native.Nat.{ℕ, zero, suc, _+_, _-_, _≤_, _<_}
 use native.Mathlib.Omega.{arith}
 use lib.ListN.{length, length-append}
-use lib.Dec.{leb}
+use lib.Dec.{eqb, leb}
 use borrow.Author.Tests.{le-leb, lt-leb, leb-true, leb-false, eq-eqb, ne-eqb}
-use Rattle.limits.specs.Limits.{workBytes}
 use Rattle.book.specs.declared.Command.{Command}
 use Rattle.book.specs.declared.Parsed.{Parsed}
 use Rattle.book.specs.declared.Parsed.the-variants.{End, Unknown, Cut, Whole}
@@ -162,13 +161,18 @@ module _ (cs : List ℕ) (room : ℕ) (b₀ : Book) where
 
 -- ---- the work buffer
 
+-- document 02, C-21: "All answers, records and report bytes are those of the larger buffer." Whatever lengths n and m
+-- are asked for, a call has one outcome where both work buffers are right, and one where both are wrong
+pub either-length : (n m work work′ : ℕ) → eqb work n ≡ eqb work′ m → (cs : List ℕ) (room : ℕ) (b : Book) → call n work cs room b ≡ call m work′ cs room b
+either-length n m work work′ e cs room b = rw e refl
+
 -- of the right length: the commands run
-pub call-right : (work : ℕ) (cs : List ℕ) (room : ℕ) (b : Book) → work ≡ workBytes → call work cs room b ≡ run cs room b
-call-right work cs room b e = rw (eq-eqb work workBytes e) refl
+pub call-right : {n : ℕ} (work : ℕ) (cs : List ℕ) (room : ℕ) (b : Book) → work ≡ n → call n work cs room b ≡ run cs room b
+call-right {n} work cs room b e = rw (eq-eqb work n e) refl
 
 -- of a wrong one: 64, and no step
-pub call-wrong : (work : ℕ) (cs : List ℕ) (room : ℕ) (b : Book) → work ≢ workBytes → call work cs room b ≡ ends WrongLength 0 [] b
-call-wrong work cs room b e = rw (ne-eqb work workBytes e) refl
+pub call-wrong : {n : ℕ} (work : ℕ) (cs : List ℕ) (room : ℕ) (b : Book) → work ≢ n → call n work cs room b ≡ ends WrongLength 0 [] b
+call-wrong {n} work cs room b e = rw (ne-eqb work n e) refl
 
 -- ---- a loop that takes the turns one by one
 

@@ -6,7 +6,6 @@ use mathlib.Core.Bool.{cond}
 use Prim.Native.Nat.{ℕ, zero, suc, _+_, _<_}
 use lib.ListN.{length}
 use lib.Dec.{eqb, leb}
-use Rattle.limits.specs.Limits.{workBytes}
 use Rattle.book.specs.declared.Command.{Command}
 use Rattle.book.specs.declared.Parsed.{Parsed}
 use Rattle.book.specs.declared.Parsed.the-variants.{End, Unknown, Cut, Whole}
@@ -58,9 +57,10 @@ runFrom (suc k) cs room at past b = turn (runFrom k cs room) (parseAt cs at) roo
 abbrev pub run : List ℕ → ℕ → Book → Outcome
 run cs room b = runFrom (suc (length cs)) cs room 0 [] b
 
--- a batch call: "A work buffer of wrong length gives 64 and no step."
-abbrev pub call : ℕ → List ℕ → ℕ → Book → Outcome
-call work cs room b = cond (eqb work workBytes) (run cs room b) (ends WrongLength 0 [] b)
+-- a batch call where a work buffer of n bytes is asked for: "A work buffer of wrong length gives 64 and no step." The
+-- book has no other use for n, and does not know the number.
+abbrev pub call : ℕ → ℕ → List ℕ → ℕ → Book → Outcome
+call n work cs room b = cond (eqb work n) (run cs room b) (ends WrongLength 0 [] b)
 
 -- the book after turns
 abbrev pub afterAll : Book → List Turn → Book

@@ -8,4 +8,5 @@ pub mod Demand1
 pub mod Demand2
 pub mod Demand3
 pub mod Demands
+pub mod WorkBuffer
 pub mod Starred

@@ -22,7 +22,7 @@ use Rattle.demands.specs.Step.{Holds}
 use Rattle.demands.specs.Batch.{Return, lengthsOk, Refused, Served, Batch, LaidOut}
 use Rattle.demands.specs.Batch.Batch.{wrong, broken, served}
 use Rattle.demands.specs.Batch.LaidOut.{wrong as not-laid, laid}
-use Rattle.demands.specs.Whole.{Call, MadeOn, Made, Ran, said, asked, taken, saidBy, replies, bookAfter, bookOfRun}
+use Rattle.demands.specs.Whole.{Call, MadeOn, Made, Ran, said, asked, taken, saidBy, replies, repliesAsking, bookAfter, bookOfRun}
 use Rattle.demands.specs.Whole.Made.{none, next}
 use Rattle.demands.specs.Demands.{AskedAlike, Alike}
 use Rattle.demands.proofs.Chains.{chain-holds}
@@ -98,7 +98,7 @@ one-on t b h c t′ m = subst (λ (x : Book). Answered x c t′) (h .book) (one-
 -- ALL CALLS answer as the book does
 pub all-calls : (t : List ℕ) (b : Book) → Holds t b → (cs : List Call) (t′ : List ℕ) → Made t cs t′
     → (map said cs ≡ replies b (map asked cs)) × Holds t′ (bookAfter b (map asked cs))
-unfolding replies bookAfter
+unfolding repliesAsking bookAfter
 all-calls t b h cs t′ none = (refl, h)
 all-calls t b h (c ∷ cs) t′ (next {t₁ = t₁} m more) =
     let a = one-on t b h c t₁ m in

@@ -30,7 +30,7 @@ returns reason used written = record { reason = reason; used = used; written = w
 abbrev pub returnOf : BatchResult → Return
 returnOf r = returns (reasonNumber (r .reason)) (r .used) (r .written)
 
--- "The table is exactly 32,768 lent bytes"; "The work buffer is exactly 8,192 lent bytes."
+-- "The table is exactly 32,768 lent bytes"; the work buffer is as long as document 02, C-21, has it
 abbrev pub lengthsOk : List ℕ → List ℕ → Bool
 lengthsOk t w = eqb (length t) tableBytes && eqb (length w) workBytes
 

@@ -2,4 +2,5 @@ pub mod Step
 pub mod Batch
 pub mod Whole
 pub mod Demands
+pub mod WorkBuffer
 pub mod Starred

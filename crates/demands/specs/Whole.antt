@@ -65,9 +65,13 @@ pub record Ask : Type 0 where
 abbrev pub asked : Call → Ask
 asked c = record { work = length (c .work); commands = c .commands; room = length (c .report) }
 
--- how the book takes a call
+-- how the book takes a call where a work buffer of n bytes is asked for
+abbrev pub takenAsking : ℕ → Ask → Book → Outcome
+takenAsking n a b = call n (a .work) (a .commands) (a .room) b
+
+-- how it takes a call. Document 02, C-21: "with 64 tested against that"
 abbrev pub taken : Ask → Book → Outcome
-taken a b = call (a .work) (a .commands) (a .room) b
+taken a b = takenAsking workBytes a b
 
 -- what the book says
 abbrev pub saidBy : Outcome → Said
@@ -79,10 +83,14 @@ saidBy o =
       bytes = records (o .turns);
     }
 
--- what the book says to a list of calls
-unfoldable pub replies : Book → List Ask → List Said
-replies b [] = []
-replies b (a ∷ more) = saidBy (taken a b) ∷ replies (taken a b .book) more
+-- what the book says to a list of calls where a work buffer of n bytes is asked for
+unfoldable pub repliesAsking : ℕ → Book → List Ask → List Said
+repliesAsking n b [] = []
+repliesAsking n b (a ∷ more) = saidBy (takenAsking n a b) ∷ repliesAsking n (takenAsking n a b .book) more
+
+-- what it says to a list of calls
+abbrev pub replies : Book → List Ask → List Said
+replies b asks = repliesAsking workBytes b asks
 
 -- the book after a list of calls
 unfoldable pub bookAfter : Book → List Ask → Book

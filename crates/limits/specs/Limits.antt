@@ -1,5 +1,5 @@
--- The numbers that document 01 fixes, and how many nodes the pool has. Each stands here for the definitions and in
--- src/ for the code, and nowhere else.
+-- The numbers that document 01 fixes, with what document 02 changes of them, and how many nodes the pool has. Each
+-- stands here for the definitions and in src/ for the code, and nowhere else.
 -- Assumes nothing.
 use Prim.Native.Nat.{ℕ, _*_}
 
@@ -51,6 +51,6 @@ maxNodes = 264
 abbrev pub tableBytes : ℕ
 tableBytes = 32768
 
--- "The work buffer is exactly 8,192 lent bytes"
+-- document 02, C-21: "The work buffer becomes exactly 2,048 bytes"
 abbrev pub workBytes : ℕ
-workBytes = 8192
+workBytes = 2048

@@ -1,5 +1,5 @@
-// The numbers that document 01 fixes, and how many nodes the pool has, as the code uses them. specs/Limits.antt has the
-// same for the definitions.
+// The numbers that document 01 fixes, the work buffer's length as C-21 of document 02 has it, and how many nodes the
+// pool has, as the code uses them. specs/Limits.antt has the same for the definitions.
 
 // The largest coordinate on either side of the grid's middle, in steps of 100 m.
 pub const HALF_WIDTH: u16 = 8000;
@@ -21,4 +21,4 @@ pub const MAX_NODES: usize = 264;
 
 pub const TABLE_BYTES: usize = 32768;
 
-pub const WORK_BYTES: usize = 8192;
+pub const WORK_BYTES: usize = 2048;

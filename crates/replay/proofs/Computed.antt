@@ -16,17 +16,17 @@ use Rattle.book.specs.Book.{emptyBook, writeLine, strikeLine, holds, change}
 use Rattle.book.specs.Command.{formOf, parseAt}
 use Rattle.book.specs.Answer.{answer}
 use Rattle.book.specs.Run.{records, turn, runFrom}
-use Rattle.demands.specs.Whole.{replies, bookAfter}
+use Rattle.demands.specs.Whole.{replies, repliesAsking, bookAfter}
 use Rattle.replay.specs.Replayed.{siteOne, siteTwo, endAsks, endReplies, tenBytes}
 
 -- 64, 0, 66, 67 and 68
 pub end-replies : replies emptyBook endAsks ≡ endReplies
-unfolding replies bookAfter records turn runFrom parseAt formOf wordAt fromWord toWord answer holds change writeLine strikeLine splitOf build insert push hides? under? rightBelow? decLe decLt distance squaredDifference rank lowest gcdOf gcdBy entryBytes listBytes recordBytes
+unfolding repliesAsking bookAfter records turn runFrom parseAt formOf wordAt fromWord toWord answer holds change writeLine strikeLine splitOf build insert push hides? under? rightBelow? decLe decLt distance squaredDifference rank lowest gcdOf gcdBy entryBytes listBytes recordBytes
 end-replies = refl
 
 -- site 3 has come and gone
 pub end-lines : bookAfter emptyBook endAsks .lines ≡ siteOne ∷ siteTwo ∷ []
-unfolding replies bookAfter records turn runFrom parseAt formOf wordAt fromWord toWord answer holds change writeLine strikeLine splitOf build insert push hides? under? rightBelow? decLe decLt distance squaredDifference rank lowest gcdOf gcdBy entryBytes listBytes recordBytes
+unfolding repliesAsking bookAfter records turn runFrom parseAt formOf wordAt fromWord toWord answer holds change writeLine strikeLine splitOf build insert push hides? under? rightBelow? decLe decLt distance squaredDifference rank lowest gcdOf gcdBy entryBytes listBytes recordBytes
 end-lines = refl
 
 -- "1 from 0/1, 2 from 37/100"

@@ -1,13 +1,14 @@
 -- The promises of the two calls, one law for each return.
 -- Assumes nothing.
-use mathlib.Core.Path.{_≡_, refl, ap, subst, _∙_}
+use mathlib.Core.Path.{_≡_, refl, sym, ap, subst, _∙_}
 use mathlib.Core.Logic.{_≢_}
-use mathlib.Core.Bool.{Bool, true, false, _&&_}
+use mathlib.Core.Bool.{Bool, true, false, _&&_, true≢false}
 use mathlib.Core.List.{List}
 use Prim.Native.Nat.{ℕ}
+use native.Mathlib.Omega.{arith}
 use lib.ListN.{length}
 use lib.Dec.{eqb}
-use borrow.Author.Tests.{eq-eqb, ne-eqb}
+use borrow.Author.Tests.{eq-eqb, ne-eqb, eqb-true}
 use Rattle.limits.specs.Limits.{tableBytes, workBytes}
 use Rattle.grid.specs.Says.{Says}
 use Rattle.grid.proofs.Says.{says-yes, says-no}
@@ -16,6 +17,7 @@ use Rattle.book.specs.declared.Reason.the-variants.{AllUsed, WrongLength, Broke
 use Rattle.book.specs.declared.BatchResult.{BatchResult}
 use Rattle.book.specs.Numbers.{reasonNumber}
 use Rattle.book.specs.Run.{run}
+use Rattle.table_check.specs.Room.{TestRoom}
 use Rattle.table_empty.specs.EmptyTable.{zeros, emptyTable}
 use Rattle.table_rules.specs.Table.{bookOf, Sound}
 use Rattle.demands.specs.Batch.{returns, returnOf, lengthsOk, Refused, Served, Batch, LaidOut}
@@ -36,25 +38,39 @@ laid-right t t′ n h = laid (eq-eqb (length t) tableBytes n) refl h
 -- ---- the lent table
 
 module _ (t w : List ℕ) where
-  and-false : (q : Bool) → (q && false) ≡ false
-  and-false true = refl
-  and-false false = refl
+  pub wrong-table : length t ≢ tableBytes → false ≡ lengthsOk t w
+  wrong-table n = rw (ne-eqb (length t) tableBytes n) refl
 
-  pub wrong-table : length t ≢ tableBytes → AdmittedAs (Admission.Refused WrongLength) t w w
-  wrong-table n = (ap (λ (q : Bool). q && eqb (length w) workBytes) (ne-eqb (length t) tableBytes n), refl)
+  pub by-work : length t ≡ tableBytes → eqb (length w) workBytes ≡ lengthsOk t w
+  by-work e = rw (eq-eqb (length t) tableBytes e) refl
 
-  pub wrong-work : length w ≢ workBytes → AdmittedAs (Admission.Refused WrongLength) t w w
-  wrong-work n = (ap (λ (q : Bool). eqb (length t) tableBytes && q) (ne-eqb (length w) workBytes n) ∙ and-false (eqb (length t) tableBytes), refl)
+  pub wrong-lengths : (p : Bool) → p ≡ lengthsOk t w → p ≡ false → AdmittedAs (Admission.Refused WrongLength) t w w
+  wrong-lengths p h e = (sym h ∙ e, refl)
 
-  module _ (lt : length t ≡ tableBytes) (lw : length w ≡ workBytes) (q : Bool) (s : Says q (Sound t)) (w₁ : List ℕ) (kept : length w₁ ≡ length w) where
+  module _ (p : Bool) (h : p ≡ lengthsOk t w) (right : p ≡ true) where
     ok : lengthsOk t w ≡ true
-    ok = (λ i. eq-eqb (length t) tableBytes lt i && eq-eqb (length w) workBytes lw i)
+    ok = sym h ∙ right
 
-    pub table-taken : q ≡ true → AdmittedAs Admission.Taken t w w₁
-    table-taken e = (ok, says-yes q s e, kept ∙ lw)
+    both : (d : Bool) → d && eqb (length w) workBytes ≡ true → (d ≡ true) × (eqb (length w) workBytes ≡ true)
+    both true e = (refl, e)
+    both false e = absurd (true≢false (sym e))
 
-    pub broken-table : (w′ : List ℕ) → w′ ≡ zeros (length w₁) → q ≡ false → AdmittedAs (Admission.Refused Broken) t w w′
-    broken-table w′ z e = (ok, says-no q s e, z ∙ ap zeros (kept ∙ lw))
+    pub right-table : length t ≡ tableBytes
+    right-table = eqb-true (length t) tableBytes (both (eqb (length t) tableBytes) ok .0)
+
+    pub right-work : length w ≡ workBytes
+    right-work = eqb-true (length w) workBytes (both (eqb (length t) tableBytes) ok .1)
+
+    -- what the test uses is inside the work buffer
+    pub test-fits : TestRoom w
+    test-fits = record { marks = omega (arith, right-work); row = omega (arith, right-work) }
+
+    module _ (q : Bool) (s : Says q (Sound t)) (w₁ : List ℕ) (kept : length w₁ ≡ length w) where
+      pub table-taken : q ≡ true → AdmittedAs Admission.Taken t w w₁
+      table-taken e = (ok, says-yes q s e, kept ∙ right-work)
+
+      pub broken-table : (w′ : List ℕ) → w′ ≡ zeros (length w₁) → q ≡ false → AdmittedAs (Admission.Refused Broken) t w w′
+      broken-table w′ z e = (ok, says-no q s e, z ∙ ap zeros (kept ∙ right-work))
 
 -- ---- a batch
 

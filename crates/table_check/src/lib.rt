@@ -10,6 +10,7 @@ ghost use Rattle.list_row.specs.Vertices.{rowBytes, Held, entriesIn};
 ghost use Rattle.table_standing.specs.Standing.{standingIn, numbersOf};
 ghost use Rattle.tree_check.specs.Marks.{seenBytes};
 ghost use Rattle.table_rules.specs.Table.{Whole, StandingOk, Sound};
+ghost use Rattle.table_check.specs.Room.{TestRoom};
 
 // Whether the stored standing list has the numbers of the list in the first k of the row.
 fn list_matches(t: &[u8], work: &[u8], leg: Leg, k: usize) -> bool
@@ -69,7 +70,7 @@ fn whole_ok(t: &[u8], work: &mut [u8]) -> bool
 
 // Whether the table is sound.
 pub fn check(t: &[u8], work: &mut [u8]) -> bool
-    requires { ⌜ (length (now t) ≡ tableBytes) × (seenBytes ≤ length (now work)) ⌝ }
+    requires { ⌜ (length (now t) ≡ tableBytes) × TestRoom (now work) ⌝ }
     ensures { λ r. ⌜ Says r (Sound (now (t .entry))) ⌝ }
 {
     if whole_ok(t, work) {

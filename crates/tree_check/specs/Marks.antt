@@ -14,9 +14,13 @@ use Rattle.tree_node.specs.Tally.{tally, Within}
 abbrev pub markBytes : ℕ
 markBytes = maxNodes + maxSites
 
--- the lent bytes: the marks, and from byte 1,024 on the hints
+-- the hints: a byte for each remainder of a number by so many
+abbrev pub hintBytes : ℕ
+hintBytes = 1024
+
+-- the lent bytes: the marks, and behind them the hints
 abbrev pub seenBytes : ℕ
-seenBytes = 2048
+seenBytes = markBytes + hintBytes
 
 -- the mark of record k
 abbrev pub recordMark : ℕ → ℕ

@@ -1,16 +1,15 @@
 // Hints for the search of the site array, in lent bytes behind the marks: for a number modulo so many, half the index
 // of a record that has such a number. A hint only saves time: what stands there is tested.
+use crate::marks;
 use table_sites::Found;
 ghost use mathlib.Core.Path.{_≡_};
 ghost use Prim.Native.Nat.{_≤_, _<_};
 ghost use lib.ListN.{length};
 ghost use Rattle.limits.specs.Limits.{maxSites, tableBytes};
 ghost use Rattle.table_sites.specs.Lines.{linesIn, Array, FoundAs};
-ghost use Rattle.tree_check.specs.Marks.{seenBytes};
+ghost use Rattle.tree_check.specs.Marks.{markBytes, seenBytes};
 
-const HINT_START: usize = 1024;
-
-const HINTS: u16 = 1024;
+pub const HINT_BYTES: usize = 1024;
 
 // A byte as a wider number.
 fn wide(x: u8) -> usize
@@ -21,9 +20,9 @@ fn wide(x: u8) -> usize
 
 // Where the hint for the number x stands.
 fn hint_at(x: u16) -> usize
-    ensures { λ r. ⌜ r < seenBytes ⌝ }
+    ensures { λ r. ⌜ (markBytes ≤ r) × (r < seenBytes) ⌝ }
 {
-    HINT_START + (x % HINTS) as usize
+    marks::MARK_BYTES + x as usize % HINT_BYTES
 }
 
 // Stores a hint for each of the first n records.

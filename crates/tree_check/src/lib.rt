@@ -17,8 +17,8 @@ ghost use Rattle.tree_check.specs.Leaves.{leafEntry};
 ghost use Rattle.tree_check.specs.Marks.{seenBytes};
 ghost use Rattle.tree_check.specs.Tied.{Tied};
 
-// What has to be lent beside the table.
-pub const SEEN_BYTES: usize = 2048;
+// What has to be lent beside the table: the marks, and behind them the hints.
+pub const SEEN_BYTES: usize = marks::MARK_BYTES + hints::HINT_BYTES;
 
 // The leaf entry of a site.
 pub fn leaf_entry(p: Site) -> NodeEntry

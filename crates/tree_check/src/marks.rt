@@ -7,7 +7,7 @@ ghost use Rattle.tree_node.specs.Told.{Told};
 ghost use Rattle.tree_check.specs.Marks.{markBytes, seenBytes, Blank, Full};
 
 // A byte for each node and for each record.
-const MARK_BYTES: usize = limits::MAX_NODES + limits::MAX_SITES;
+pub const MARK_BYTES: usize = limits::MAX_NODES + limits::MAX_SITES;
 
 // Takes every mark away.
 pub fn clear(seen: &mut [u8])

@@ -2,7 +2,7 @@
 //! each limit is taken.
 
 use lists::{SITE_LEN, WORK_NEEDED, leg_words, probe_list, site_record, table};
-use reference::grid::{Leg, MOST_SITES, Site};
+use reference::grid::{Leg, MOST_SITES, Site, WORK_LEN};
 use reference::hull;
 use reference::layout::{Case, small_cases};
 use reference::record::Record;
@@ -124,7 +124,7 @@ fn a_work_buffer_too_short() {
     for length in [WORK_NEEDED - 1, WORK_NEEDED / 2, 0] {
         assert_refused("short work", |c| c.work.truncate(length));
     }
-    assert_taken("the work buffer of a batch", |c| c.work.resize(8_192, 0));
+    assert_taken("the work buffer of a batch", |c| c.work.resize(WORK_LEN, 0));
 }
 
 #[test]

@@ -1,10 +1,23 @@
-//! Positions, sites and legs of document 01 ("Grid and sites"), and each of its limits once.
+//! Positions, sites and legs of document 01 ("Grid and sites"), and each of its limits once, as
+//! the requests of document 02 that have landed changed them.
 
 /// Coordinates run from `-HALF_WIDTH` to `HALF_WIDTH`.
 pub const HALF_WIDTH: i64 = 8_000;
 pub const MOST_SITES: usize = 512;
 pub const TABLE_LEN: usize = 32_768;
-pub const WORK_LEN: usize = 8_192;
+/// Document 02, C-21.
+pub const WORK_LEN: usize = 2_048;
+/// Lengths that a work buffer must not have; that of document 01, before C-21, is the last but one.
+pub const WRONG_WORK: [usize; 8] = [
+    0,
+    1,
+    WORK_LEN / 2,
+    WORK_LEN - 1,
+    WORK_LEN + 1,
+    2 * WORK_LEN,
+    4 * WORK_LEN,
+    TABLE_LEN,
+];
 /// No start in a split list has a larger denominator.
 pub const LARGEST_DENOMINATOR: u64 = 1_024_000_000;
 /// The batch program's two buffers.

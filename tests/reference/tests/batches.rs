@@ -2,7 +2,7 @@
 
 use reference::book::{ALL_USED, Book, CUT_COMMAND, NO_ROOM, Reply, UNKNOWN_COMMAND, WRONG_LENGTH};
 use reference::command::{add, list, move_site, print, remove, stand};
-use reference::grid::{Leg, REPORT_LEN, Site, WORK_LEN};
+use reference::grid::{Leg, REPORT_LEN, Site, WORK_LEN, WRONG_WORK};
 
 const LEG: Leg = Leg::new((0, 0), (10, 0));
 const OTHER_LEG: Leg = Leg::new((5, 5), (6, 6));
@@ -42,7 +42,7 @@ fn no_commands_give_0_and_both_counts_0() {
 #[test]
 fn a_work_buffer_of_wrong_length_gives_64_before_all_else() {
     let commands = [vec![], add(Site::new(2, 0, 0)), vec![0xFF], vec![0x41]];
-    for work_len in [0, 1, 8191, 8193, 32768] {
+    for work_len in WRONG_WORK {
         for (commands, report_len) in commands.iter().zip([REPORT_LEN, 0, 1, 2]) {
             let mut book = one_site();
             let answer = book.call(commands, work_len, report_len);
@@ -50,7 +50,7 @@ fn a_work_buffer_of_wrong_length_gives_64_before_all_else() {
             assert_eq!(book, one_site());
         }
     }
-    let answer = one_site().call(&remove(1), 8192, REPORT_LEN);
+    let answer = one_site().call(&remove(1), WORK_LEN, REPORT_LEN);
     assert_eq!(answer, reply(ALL_USED, 3, &[0x2B]));
 }
 

@@ -37,7 +37,7 @@ pub fn leaf_entry(site: &Site) -> Entry {
     Entry::of_site(site.number, east, north)
 }
 
-/// The table of document 01 is the layout's.
+/// The lengths of documents 01 and 02 are those of the layout and the header.
 const _: () = {
     assert!(TABLE_LEN == reference::grid::TABLE_LEN);
     assert!(WORK_LEN == reference::grid::WORK_LEN);

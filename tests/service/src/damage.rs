@@ -40,7 +40,11 @@ pub fn assert_wrong_length_first(service: &impl Service, table: &[u8], work_len:
     let mut after = table.to_vec();
     let mut lent = Lent::new(work_len, work_len, 10);
     let answer = lent.batch(service, &mut after, &[0x50]);
-    assert_eq!(answer, (u32::from(WRONG_LENGTH), 0, 0));
+    assert_eq!(
+        answer,
+        (u32::from(WRONG_LENGTH), 0, 0),
+        "reason, used and written with {work_len} bytes of work"
+    );
     lent.assert_after(&answer, &[]);
     assert!(after == table, "64 leaves the table");
 }

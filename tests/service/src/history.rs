@@ -5,11 +5,10 @@ use crate::desk::Desk;
 use crate::draw::{Pool, broken_off};
 use reference::book::ALL_USED;
 use reference::command::{add, list, print, stand};
-use reference::grid::{MOST_SITES, Site, WORK_LEN};
+use reference::grid::{MOST_SITES, Site, WORK_LEN, WRONG_WORK};
 use reference::random::Random;
 use reference::record::ACCEPTED;
 
-const WRONG_WORK: [usize; 7] = [0, 1, 2_048, 8_191, 8_193, 16_384, 32_768];
 const LITTLE_ROOM: [usize; 12] = [0, 1, 2, 3, 4, 12, 13, 14, 22, 23, 33, 60];
 
 /// How many site numbers a run's commands are drawn from.

@@ -16,6 +16,7 @@ use service::{Service, on_each_service};
 on_each_service!(
     laying_out_writes_the_empty_table_over_anything,
     no_commands_give_0_and_both_counts_0,
+    one_length_of_the_work_buffer_is_taken,
     every_record_needs_just_its_own_length,
     every_report_length_up_to_all_records,
     all_512_sites_are_listed,
@@ -47,6 +48,16 @@ fn no_commands_give_0_and_both_counts_0(service: &impl Service) {
     for report_len in [0, 1, LONGEST_RECORD, TABLE_LEN] {
         let reply = one_site(service).call(&[], WORK_LEN, report_len);
         assert_eq!((reply.reason, reply.used, reply.written), (ALL_USED, 0, 0));
+    }
+}
+
+/// Every length up to the one of document 01, before C-21, and a byte more.
+fn one_length_of_the_work_buffer_is_taken(service: &impl Service) {
+    let mut desk = one_site(service);
+    let commands = [print(), remove(2)].concat();
+    for work_len in 0..=4 * WORK_LEN + 1 {
+        let reply = desk.call(&commands, work_len, LONGEST_RECORD);
+        assert_eq!(reply.reason == ALL_USED, work_len == WORK_LEN, "{work_len}");
     }
 }
 

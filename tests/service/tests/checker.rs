@@ -2,7 +2,7 @@
 
 use reference::book::Book;
 use reference::command::{add, stand};
-use reference::grid::{Leg, MOST_SITES, Site};
+use reference::grid::{Leg, MOST_SITES, Site, WORK_LEN};
 use reference::random::Random;
 use service::bytes::{
     ENTRIES_LISTED, FAR_EDGE, FREE_NODES, HEADER_KEPT, LAYOUT, LAYOUT_NUMBER, LEG_FLAG, LEG_WORDS,
@@ -71,7 +71,7 @@ fn one_site_and_a_leg_stand_where_the_layout_says() {
     Model.lay_out(&mut table);
     let leg = Leg::new((0, 0), (10, -10));
     let commands = [add(Site::new(513, 2, -3)), stand(leg)].concat();
-    let answer = Model.batch(&mut table, &mut [1; 8_192], &commands, &mut [0; 2]);
+    let answer = Model.batch(&mut table, &mut [1; WORK_LEN], &commands, &mut [0; 2]);
     assert_eq!(answer, (0, 16, 2));
     // 1 site, a leg, (8000,8000) to (8010,7990), 1 entry, layout 1.
     let header = [

@@ -1,4 +1,5 @@
-//! A copied checkout links its own library, also with the build script that the first one compiled.
+//! A copied checkout links its own library and has its own header's number, also with the build
+//! script that the first one compiled.
 
 use std::path::Path;
 use std::process::Command;
@@ -9,10 +10,13 @@ fn the_build_script_reads_where_it_is_at_run_time() {
     let folder = Path::new(env!("CARGO_TARGET_TMPDIR")).join("copied checkout");
     let (copy, out) = (folder.join("binding"), folder.join("out"));
     let libraries = folder.join("target/staticlib");
-    for made in [&copy, &out, &libraries] {
+    let include = folder.join("include");
+    for made in [&copy, &out, &libraries, &include] {
         std::fs::create_dir_all(made).unwrap();
     }
     std::fs::write(libraries.join("libhost.a"), "of the copy").unwrap();
+    let header = "#define STOPS_TABLE_BYTES 5\n#define STOPS_WORK_BYTES 7\n";
+    std::fs::write(include.join("stops.h"), header).unwrap();
     let script = folder.join("script");
     let rustc = std::env::var_os("RUSTC").unwrap_or("rustc".into());
     let compiled = Command::new(rustc)
@@ -39,6 +43,8 @@ fn the_build_script_reads_where_it_is_at_run_time() {
     let said = String::from_utf8(ran.stdout).unwrap();
     let searched = format!("cargo::rustc-link-search=native={}", out.display());
     assert!(said.lines().any(|line| line == searched), "{said}");
+    let handed_on = "cargo::rustc-env=STOPS_WORK_BYTES=7";
+    assert!(said.lines().any(|line| line == handed_on), "{said}");
     assert!(!said.contains(&first.display().to_string()), "{said}");
     assert!(!said.contains("list_probe"), "{said}");
 }

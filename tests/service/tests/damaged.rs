@@ -3,7 +3,7 @@
 
 use reference::book::Book;
 use reference::command::{add, list, print, remove, stand};
-use reference::grid::{Leg, MOST_SITES, Site, TABLE_LEN};
+use reference::grid::{Leg, MOST_SITES, Site, TABLE_LEN, WRONG_WORK};
 use reference::random::Random;
 use service::bytes::{
     ENTRY_LEN, FREE_NODES, LEVELS, NODE_POOL, ROOT, SITE_ARRAY, STACK_END, STANDING_LIST,
@@ -230,7 +230,7 @@ fn free_bytes_do_not_count(service: &impl Service) {
 
 fn wrong_lengths_come_before_a_broken_table(service: &impl Service) {
     let broken = vec![0xFF; TABLE_LEN];
-    for work_len in [0, 1, 8_191, 8_193, TABLE_LEN] {
+    for work_len in WRONG_WORK {
         assert_wrong_length_first(service, &broken, work_len);
     }
     // Without commands too the table is tested.

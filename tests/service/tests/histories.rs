@@ -2,7 +2,7 @@
 
 use reference::book::Book;
 use reference::command::{add, list, move_site, remove, stand};
-use reference::grid::{Leg, Site, TABLE_LEN, WORK_LEN};
+use reference::grid::{Leg, Site, TABLE_LEN, WORK_LEN, WRONG_WORK};
 use reference::random::Random;
 use reference::record::Record::Accepted;
 use service::desk::{Desk, Lent, Tally};
@@ -70,13 +70,13 @@ fn a_table_of_wrong_length_gives_64(service: &impl Service) {
         1,
         2,
         63,
-        8_192,
+        WORK_LEN,
         TABLE_LEN - 1,
         TABLE_LEN + 1,
         2 * TABLE_LEN,
     ];
     for table_len in lengths {
-        for work_len in [0, WORK_LEN - 1, WORK_LEN, WORK_LEN + 1, TABLE_LEN] {
+        for work_len in WRONG_WORK.into_iter().chain([WORK_LEN]) {
             let pool = Pool::new(&mut random, 9);
             let commands = pool.commands(&mut random, 6);
             let commands = broken_off(&mut random, commands);

@@ -1,24 +1,45 @@
-//! docs/LAYOUT.md and the crate that reads tables have the same numbers.
+//! docs/LAYOUT.md and the crate that reads tables have the same numbers, and the work buffer is as
+//! long there, and in docs/PROTOCOL.md, as in the header.
 
 use service::bytes::{
     ENTRIES_LISTED, FREE_NODES, HEADER_KEPT, LAYOUT, LAYOUT_NUMBER, LEG_FLAG, LEG_WORDS, LEVELS,
-    NODE_LEN, NODE_POOL, RECORD_LEN, ROOT, SITE_ARRAY, SITES_HELD, STACK, STACK_END, STANDING_LIST,
-    TABLE_LEN,
+    MOST_NODES, MOST_SITES, NODE_LEN, NODE_POOL, RECORD_LEN, ROOT, SITE_ARRAY, SITES_HELD, STACK,
+    STACK_END, STANDING_LIST, TABLE_LEN, WORK_LEN,
 };
 use std::path::Path;
 
-fn text() -> String {
-    let file = Path::new(env!("CARGO_MANIFEST_DIR")).join("../../docs/LAYOUT.md");
+fn read(name: &str) -> String {
+    let file = Path::new(env!("CARGO_MANIFEST_DIR"))
+        .join("../../docs")
+        .join(name);
     std::fs::read_to_string(file).unwrap()
+}
+
+/// What docs/LAYOUT.md says of the table, and of the work buffer.
+fn parts() -> [String; 2] {
+    let text = read("LAYOUT.md");
+    let (table, work) = text.split_once("## The work buffer, by phase").unwrap();
+    [table, work].map(String::from)
+}
+
+fn text() -> String {
+    let [table, _] = parts();
+    table
 }
 
 fn number(text: &str) -> Option<usize> {
     text.trim().replace(',', "").parse().ok()
 }
 
+/// The first and the last byte.
+fn span(cell: &str) -> Option<(usize, usize)> {
+    let (from, to) = cell.split_once(" to ")?;
+    Some((number(from)?, number(to)?))
+}
+
 /// The cells of each row whose first cell this takes.
 fn rows<T>(text: &str, first: impl Fn(&str) -> Option<T>) -> Vec<(T, Vec<&str>)> {
-    let cells = |line: &str| -> Option<T> { first(line.split('|').nth(1)?) };
+    let cells = |line: &str| -> Option<T> { first(line.split('|').nth(1)?.trim()) };
     let row = |line| Some((cells(line)?, str::split(line, '|').map(str::trim).collect()));
     text.lines().filter_map(row).collect()
 }
@@ -26,10 +47,6 @@ fn rows<T>(text: &str, first: impl Fn(&str) -> Option<T>) -> Vec<(T, Vec<&str>)>
 #[test]
 fn the_regions_follow_each_other_and_begin_where_the_code_reads() {
     let text = text();
-    let span = |cell: &str| {
-        let (from, to) = cell.split_once(" to ")?;
-        Some((number(from)?, number(to)?))
-    };
     let regions = rows(&text, span);
     let mut next = 0;
     for ((from, to), cells) in &regions {
@@ -95,4 +112,41 @@ fn the_last_layout_listed_is_the_one_that_the_code_writes() {
     assert!(text.contains(&format!(
         "then {last} to the word at {LAYOUT}, 264 to the word at 5,188"
     )));
+}
+
+/// Behind the marks.
+const HINTS: usize = 1_024;
+
+#[test]
+fn each_phase_fills_the_work_buffer() {
+    let [_, text] = parts();
+    let (mut phases, mut next): (Vec<Vec<usize>>, usize) = (Vec::new(), 0);
+    for (phase, cells) in rows(&text, |cell| Some(cell.to_string())) {
+        let Some((from, to)) = span(cells[2]) else {
+            continue;
+        };
+        if !phase.is_empty() {
+            phases.push(Vec::new());
+            next = 0;
+        }
+        assert_eq!((from, to + 1 - from), (next, number(cells[3]).unwrap()));
+        next = to + 1;
+        let phase = phases.last_mut().unwrap();
+        phase.push(next);
+    }
+    let marks = MOST_NODES + MOST_SITES;
+    let ends = [
+        vec![MOST_NODES, marks, marks + HINTS, WORK_LEN],
+        vec![2 * MOST_SITES, WORK_LEN],
+        vec![WORK_LEN],
+    ];
+    assert_eq!(phases, ends);
+}
+
+#[test]
+fn the_protocol_asks_for_the_same_work_buffer() {
+    let protocol = read("PROTOCOL.md");
+    let (_, asked) = protocol.split_once("a work buffer of ").unwrap();
+    let (asked, _) = asked.split_once(" bytes").unwrap();
+    assert_eq!(number(asked), Some(WORK_LEN));
 }

@@ -1,12 +1,14 @@
-//! What include/stops.h lets a caller do with the buffers: nothing lent, odd addresses, a table for
-//! each thread, and a table that can only be read.
+//! What include/stops.h lets a caller do with the buffers: nothing lent, odd addresses, a work buffer
+//! amid other bytes, a table for each thread, and a table that can only be read.
 #![cfg(feature = "proved")]
 
 use binding::call::{Answer, batch, lay_out, raw};
 use reference::book::{ALL_USED, CUT_COMMAND, NO_ROOM, UNKNOWN_COMMAND, WRONG_LENGTH};
 use reference::command::{add, list, move_site, print, remove, stand};
-use reference::grid::{Leg, Site, TABLE_LEN, WORK_LEN};
+use reference::grid::{HALF_WIDTH, Leg, Site, TABLE_LEN, WORK_LEN};
 use reference::random::{self, Random};
+use reference::record::ENTRY_LEN;
+use service::bytes::{ENTRIES_LISTED, empty_table};
 use service::desk::{Desk, LONGEST_RECORD};
 use service::{BROKEN_TABLE, Proved};
 use std::ffi::c_void;
@@ -136,6 +138,35 @@ fn buffers_at_any_address() {
         assert_eq!(given, answer(ALL_USED, expected.used, expected.written));
         assert!(report[..given.written] == expected.report);
     }
+}
+
+/// The test of the contents, changes and the longest lists.
+#[test]
+fn the_bytes_beside_the_work_buffer_are_left() {
+    let leg = Leg::new((-HALF_WIDTH, 0), (HALF_WIDTH, 0));
+    let sites = (1..=512).map(|number| Site::new(number, i64::from(number) * 31 - 7_950, 0));
+    let mut commands = stand(leg);
+    commands.extend(sites.flat_map(add));
+    commands.extend([list(leg), remove(256), print()].concat());
+    let (mut table, mut report) = (empty_table(), vec![0; 3 * LONGEST_RECORD]);
+    let mut given = |table: &mut [u8]| {
+        let mut memory = vec![0x5A; 3 * WORK_LEN];
+        let answer = batch(
+            table,
+            &mut memory[WORK_LEN..2 * WORK_LEN],
+            &commands,
+            &mut report,
+        );
+        let all = |bytes: &[u8], value: u8| bytes.iter().all(|byte| *byte == value);
+        assert!(all(&memory[..WORK_LEN], 0x5A) && all(&memory[2 * WORK_LEN..], 0x5A));
+        assert!(all(&memory[WORK_LEN..2 * WORK_LEN], 0));
+        answer
+    };
+    let taken = given(&mut table);
+    let records = 514 + LONGEST_RECORD + (LONGEST_RECORD - ENTRY_LEN);
+    assert_eq!(taken, answer(ALL_USED, commands.len(), records));
+    table[ENTRIES_LISTED] ^= 1;
+    assert_eq!(given(&mut table).reason, BROKEN_TABLE);
 }
 
 #[test]

@@ -2,19 +2,24 @@
 //! and for the reason that it is wrong. Each is the model with one fault.
 
 use reference::command::{Command, LIST, list};
-use reference::grid::{Leg, WORK_LEN};
+use reference::grid::{Leg, WORK_LEN, WRONG_WORK};
 use reference::random::Random;
 use reference::record::{ACCEPTED, LISTED, REFUSED};
-use service::bytes::{ENTRIES_LISTED, HEADER_KEPT, LEVELS, ROOT, STACK_END, entry_at, number};
+use service::bytes::{
+    ENTRIES_LISTED, HEADER_KEPT, LEVELS, ROOT, STACK_END, empty_table, entry_at, number,
+};
 use service::damage::{assert_wrong_length_first, flipped, offer, regions};
 use service::history::{Size, compare_with_fresh, run};
 use service::shape::{self, Dealing};
 use service::table::meaning;
 use service::wrong::Wrong;
-use service::{BROKEN_TABLE, Model, Service};
+use service::{Answer, BROKEN_TABLE, Model, Service};
 
 /// A little of what the other tests do.
 fn trial(service: &impl Service) {
+    for work_len in WRONG_WORK {
+        assert_wrong_length_first(service, &empty_table(), work_len);
+    }
     let mut random = Random::new(111);
     for size in [Size::Few, Size::Some].repeat(20) {
         let mut run = run(&mut random, service, size);
@@ -164,6 +169,39 @@ fn clears_a_work_buffer_of_wrong_length() {
     trial(&Wrong(|t, w, c, r| {
         let answer = Model.batch(t, w, c, r);
         w.fill(0);
+        answer
+    }));
+}
+
+/// As the model, but for a work buffer of this length.
+fn taking(work_len: usize, t: &mut [u8], w: &mut [u8], c: &[u8], r: &mut [u8]) -> Answer {
+    if w.len() != work_len {
+        return Model.batch(t, w, c, r);
+    }
+    w.fill(0);
+    Model.batch(t, &mut [0; WORK_LEN], c, r)
+}
+
+#[test]
+#[should_panic(expected = "bytes of work")]
+fn takes_a_work_buffer_one_byte_longer() {
+    trial(&Wrong(|t, w, c, r| taking(WORK_LEN + 1, t, w, c, r)));
+}
+
+#[test]
+#[should_panic(expected = "bytes of work")]
+fn takes_a_work_buffer_as_long_as_before() {
+    trial(&Wrong(|t, w, c, r| taking(4 * WORK_LEN, t, w, c, r)));
+}
+
+#[test]
+#[should_panic(expected = "the work buffer is 0")]
+fn leaves_a_mark_after_65() {
+    trial(&Wrong(|t, w, c, r| {
+        let answer = Model.batch(t, w, c, r);
+        if answer.0 == BROKEN_TABLE {
+            w[0] = 1;
+        }
         answer
     }));
 }
