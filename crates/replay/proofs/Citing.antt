@@ -1,10 +1,10 @@
 -- The theorem, cited for the calls.
 -- Assumes nothing.
-use mathlib.Core.Path.{_≡_, refl, sym, ap, subst, subst⁻¹, _∙_}
+use mathlib.Core.Path.{_≡_, refl, sym, ap, subst, _∙_}
 use mathlib.Core.Logic.{_≢_}
 use mathlib.Core.Bool.{true, _&&_}
 use mathlib.Core.List.{List, [], _∷_, _++_, map, append-nil}
-use Prim.Native.Nat.{ℕ, _*_}
+use Prim.Native.Nat.{ℕ}
 use native.Mathlib.Omega.{arith}
 use lib.ListN.{length, take, drop, take-append-drop}
 use lib.Seq.{drop-length}
@@ -28,8 +28,7 @@ use Rattle.demands.specs.Whole.{Call, Said, said, Ask, asked, Ran, replies, rep
 use Rattle.demands.specs.Whole.Made.{none as no-call, next}
 use Rattle.demands.specs.Whole.Filled.{none as no-ask, next as more-asks}
 use Rattle.demands.specs.Demands.{list4C, listRecord, FreshOf}
-use Rattle.demands.specs.WorkBuffer.{Resized}
-use Rattle.demands.specs.WorkBuffer.Resized.{none as no-more, next as same-call}
+use Rattle.demands.specs.WorkBuffer.{resized}
 use Rattle.demands.proofs.WholeRun.{ran-holds, laid-holds}
 use Rattle.demands.proofs.Legs.{list-answer}
 use Rattle.demands.proofs.Demand1.{demand1, demand1-laid}
@@ -37,7 +36,7 @@ use Rattle.demands.proofs.Demand3.{demand3}
 use Rattle.demands.proofs.WorkBuffer.{any-length}
 use Rattle.replay.specs.declared.Heard.{Heard}
 use Rattle.replay.specs.declared.Row.{Row}
-use Rattle.replay.specs.Replayed.{ask, Called, addBoth, addUnknown, removeCut, listTen, addTwo, addOne, siteTwo, siteOne, asksOf, endAsks, endReplies, tenBytes, saidIn, saidOf, Opened, Closed, Refilled, AskedTen, Replayed}
+use Rattle.replay.specs.Replayed.{ask, Called, addBoth, addUnknown, removeCut, listTen, addTwo, addOne, siteTwo, siteOne, endAsks, endReplies, tenBytes, saidIn, saidOf, Opened, Closed, Refilled, AskedTen, Replayed}
 use Rattle.replay.proofs.Computed.{end-replies, end-lines, ten-list, ten-on}
 
 -- ---- one call
@@ -145,18 +144,12 @@ module _ (r : Row) (t₁ t₂ t₃ u₁ u₂ : List ℕ) (o : Opened (r .opening
   replies-are : saidOf (r .opening) (r .closing) ≡ endReplies
   replies-are = sym told ∙ demand3 calls t₂ ran .answers ∙ ap (replies emptyBook) asks ∙ end-replies
 
-  -- and those of the larger buffer
-  resized : Resized (4 * workBytes) workBytes (asksOf (4 * workBytes)) (map asked calls)
-  resized =
-      subst⁻¹ (λ (a : List Ask). Resized (4 * workBytes) workBytes (asksOf (4 * workBytes)) a) asks
-      (same-call refl refl refl
-      (same-call refl refl refl (same-call refl refl refl (same-call refl refl refl (same-call refl refl refl no-more)))))
-
-  larger-are : saidOf (r .opening) (r .closing) ≡ repliesAsking (4 * workBytes) emptyBook (asksOf (4 * workBytes))
-  larger-are =
+  -- and those of any other work buffer
+  any-length-are : (n : ℕ) → saidOf (r .opening) (r .closing) ≡ repliesAsking n emptyBook (map (resized n) endAsks)
+  any-length-are n =
       sym told
-      ∙ any-length (ran .laid-table) emptyBook (laid-holds (ran .before) (ran .laid-table) (ran .laid)) calls t₂ (ran .made)
-      (4 * workBytes) (asksOf (4 * workBytes)) resized
+      ∙ any-length (ran .laid-table) emptyBook (laid-holds (ran .before) (ran .laid-table) (ran .laid)) calls t₂ (ran .made) n
+      ∙ ap (λ (a : List Ask). repliesAsking n emptyBook (map (resized n) a)) asks
 
   two-lines : bookOfRun calls .lines ≡ siteOne ∷ siteTwo ∷ []
   two-lines = ap (λ (a : List Ask). bookAfter emptyBook a .lines) asks ∙ end-lines
@@ -191,4 +184,4 @@ module _ (r : Row) (t₁ t₂ t₃ u₁ u₂ : List ℕ) (o : Opened (r .opening
   replayed =
       let x : r .ours ≡ tenBytes = sym (c .report) ∙ report-is t₂ (ran-holds calls t₂ ran .sound) (c .call) t₃ tenBytes (c .asks) (c .room) wrote-ours in
       let y : r .theirs ≡ tenBytes = sym (d .report) ∙ report-is u₁ (ran-holds (f .calls) u₁ (f .ran) .sound) (d .call) u₂ tenBytes (d .asks) (d .room) wrote-theirs in
-      record { replies = replies-are; larger = larger-are; ours = x; theirs = y ∙ sym x }
+      record { replies = replies-are; any-length = any-length-are; ours = x; theirs = y ∙ sym x }

@@ -3,7 +3,7 @@
 -- Assumes nothing.
 use mathlib.Core.Path.{_≡_}
 use mathlib.Core.List.{List, [], _∷_, map}
-use Prim.Native.Nat.{ℕ, _*_}
+use Prim.Native.Nat.{ℕ}
 use lib.ListN.{length, take}
 use Rattle.limits.specs.Limits.{workBytes}
 use Rattle.grid.specs.declared.Site.{Site}
@@ -14,6 +14,7 @@ use Rattle.book.specs.Book.{emptyBook}
 use Rattle.demands.specs.Batch.{returnOf, LaidOut}
 use Rattle.demands.specs.Whole.{Call, MadeOn, Ran, Said, Ask, asked, repliesAsking, Filled, Asks}
 use Rattle.demands.specs.Demands.{list4C}
+use Rattle.demands.specs.WorkBuffer.{resized}
 use Rattle.replay.specs.declared.Heard.{Heard}
 use Rattle.replay.specs.declared.Opening.{Opening}
 use Rattle.replay.specs.declared.Closing.{Closing}
@@ -47,13 +48,11 @@ removeCut = 0x44 ∷ 3 ∷ 0 ∷ 0x41 ∷ 1 ∷ 0 ∷ []
 abbrev pub listTen : List ℕ
 listTen = 0x4C ∷ 0 ∷ 0 ∷ 0 ∷ 0 ∷ 10 ∷ 0 ∷ 0 ∷ 0 ∷ []
 
--- the five calls, where n bytes of work are asked for
-abbrev pub asksOf : ℕ → List Ask
-asksOf n = ask 1 addBoth 2 ∷ ask n addBoth 2 ∷ ask n addUnknown 2 ∷ ask n removeCut 2 ∷ ask n listTen 2 ∷ []
-
--- as they were made
+-- the five calls
 abbrev pub endAsks : List Ask
-endAsks = asksOf workBytes
+endAsks =
+    ask 1 addBoth 2 ∷ ask workBytes addBoth 2 ∷ ask workBytes addUnknown 2 ∷ ask workBytes removeCut 2
+    ∷ ask workBytes listTen 2 ∷ []
 
 -- a reply of the book
 abbrev pub reply : ℕ → ℕ → List ℕ → Said
@@ -133,7 +132,7 @@ pub record AskedTen (t rep t′ : List ℕ) : Type 0 where
 -- THE CALLS, as the theorem says of them: the book's replies, and on both tables the list that document 01 gives
 pub record Replayed (r : Row) : Type 0 where
   pub replies : saidOf (r .opening) (r .closing) ≡ endReplies
-  -- document 02, C-21: the replies "are those of the larger buffer", which had four times as many bytes
-  pub larger : saidOf (r .opening) (r .closing) ≡ repliesAsking (4 * workBytes) emptyBook (asksOf (4 * workBytes))
+  -- document 02, C-21: whatever length of the work buffer was asked for before, the replies are those of then
+  pub any-length : (n : ℕ) → saidOf (r .opening) (r .closing) ≡ repliesAsking n emptyBook (map (resized n) endAsks)
   pub ours : r .ours ≡ tenBytes
   pub theirs : r .theirs ≡ r .ours

@@ -10,5 +10,5 @@ use Rattle.tree_check.specs.Marks.{seenBytes}
 pub record TestRoom (w : List ℕ) : Type 0 where
   -- the marks and hints of the tree's
   pub marks : seenBytes ≤ length w
-  -- the row of the standing list's
+  -- the row of the standing list's, which is the shorter one today
   pub row : rowBytes ≤ length w
