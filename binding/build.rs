@@ -10,6 +10,7 @@ const HEADER: &str = "../include/stops.h";
 fn main() {
     println!("cargo::rerun-if-changed=build.rs");
     hand_on("STOPS_WORK_BYTES");
+    hand_on("STOPS_HALF_WIDTH");
     for library in ["host", "list_probe"] {
         let feature = format!("CARGO_FEATURE_{}", library.to_uppercase());
         if std::env::var_os(feature).is_some() {

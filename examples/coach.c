@@ -114,8 +114,9 @@ static void print(void)
 int main(void)
 {
     static const struct stop stops[] = {
-        {1, {2, 3}},   {2, {7, 1}},  {3, {9, -4}},   {4, {-60, 80}},    {5, {120, 50}},
-        {6, {300, 0}}, {2, {0, 0}},  {7, {8001, 0}}, {8, {-8000, 8000}},
+        {1, {2, 3}},   {2, {7, 1}}, {3, {9, -4}}, {4, {-60, 80}}, {5, {120, 50}},
+        {6, {300, 0}}, {2, {0, 0}}, {7, {STOPS_HALF_WIDTH + 1, 0}},
+        {8, {-STOPS_HALF_WIDTH, STOPS_HALF_WIDTH}},
     };
     const struct position origin = {0, 0}, ten = {10, 0}, west = {-100, 100}, east = {400, 0};
     if (stops_lay_out(table, sizeof table) != STOPS_ALL_USED)

@@ -3,9 +3,9 @@
 #ifndef STOPS_H
 #define STOPS_H
 
-#define STOPS_VERSION "0.7.0"
+#define STOPS_VERSION "0.8.0"
 /* 10000 times the first number, 100 times the second, and the third. */
-#define STOPS_VERSION_NUMBER 700
+#define STOPS_VERSION_NUMBER 800
 
 #include <stddef.h>
 #include <stdint.h>
@@ -18,6 +18,9 @@ extern "C" {
 #define STOPS_TABLE_BYTES 32768
 #define STOPS_WORK_BYTES 2048
 
+/* Eastings and northings on the grid run from -STOPS_HALF_WIDTH to STOPS_HALF_WIDTH, in steps of
+   100 m. */
+#define STOPS_HALF_WIDTH 12000
 #define STOPS_MOST_SITES 512
 /* No command has more bytes. */
 #define STOPS_LONGEST_COMMAND 9
@@ -35,7 +38,7 @@ enum stops_reason {
 };
 
 /* Command bytes and their operands. A number is an unsigned 16-bit word, a position two signed
-   ones, easting and northing, from -8000 to 8000; each word stands lowest byte first. */
+   ones, easting and northing; each word stands lowest byte first. */
 enum stops_command {
     STOPS_ADD = 0x41,    /* number, position */
     STOPS_REMOVE = 0x44, /* number */
@@ -50,7 +53,8 @@ enum stops_record {
     STOPS_ACCEPTED = 0x2B, /* nothing follows */
     STOPS_REFUSED = 0x21,  /* a byte follows: the refusal */
     STOPS_LISTED = 0x3D    /* a 16-bit count, then the entries: 16-bit number of the site,
-                              32-bit numerator and denominator of its start */
+                              32-bit numerator and denominator of its start, all unsigned:
+                              a denominator may pass 2,147,483,647 */
 };
 
 /* Why a command was refused; the table is left, and the batch goes on. */

@@ -15,9 +15,7 @@ pub const WORK_LEN: usize = of_header(env!("STOPS_WORK_BYTES"));
 pub const MOST_SITES: usize = 512;
 
 /// The layout's own number: a table with another one is of another layout.
-pub const LAYOUT_NUMBER: u16 = 1;
-/// What releases before 0.6.0 left there; all else stood where it stands now.
-pub const UNNUMBERED: u16 = 0;
+pub const LAYOUT_NUMBER: u16 = 2;
 
 /// The header's words.
 pub const SITES_HELD: usize = 0;
@@ -49,8 +47,12 @@ pub const FEWEST_ENTRIES: usize = 3;
 pub const FEWEST_IN_ROOT: usize = 2;
 pub const MOST_LEVELS: usize = 6;
 
+/// Coordinates of commands run from `-HALF_WIDTH` to `HALF_WIDTH`: what include/stops.h says.
+pub const HALF_WIDTH: u16 = of_header(env!("STOPS_HALF_WIDTH")) as u16;
 /// A coordinate at the grid's far edge, counted from the south-west corner.
-pub const FAR_EDGE: u16 = 16_000;
+pub const FAR_EDGE: u16 = 2 * HALF_WIDTH;
+/// The half-width of layouts 0 and 1, whose coordinates are counted from that grid's corner.
+pub const EARLIER_HALF_WIDTH: u16 = 8_000;
 
 const fn of_header(digits: &str) -> usize {
     match usize::from_str_radix(digits, 10) {
@@ -121,6 +123,25 @@ pub fn listed(table: &[u8]) -> Vec<u16> {
 pub fn entries(table: &[u8], node: usize) -> impl Iterator<Item = Entry> + '_ {
     let count = number(table, node_at(node)).min(MOST_ENTRIES);
     (0..count).map(move |i| Entry::read(table, node, i))
+}
+
+/// Whether the table's number is that of an earlier layout.
+pub fn is_earlier(table: &[u8]) -> bool {
+    word(table, LAYOUT) < LAYOUT_NUMBER
+}
+
+/// The half-width of the grid from whose corner the table's coordinates are counted.
+pub fn half_width(table: &[u8]) -> u16 {
+    if is_earlier(table) {
+        EARLIER_HALF_WIDTH
+    } else {
+        HALF_WIDTH
+    }
+}
+
+/// The largest coordinate that the table may have.
+pub fn far_edge(table: &[u8]) -> u16 {
+    2 * half_width(table)
 }
 
 /// The bytes that laying out writes.

@@ -5,19 +5,20 @@
 
 use crate::command::Command;
 use crate::desk::Desk;
+use crate::earlier::renewed;
 use crate::service::Service;
 use crate::status::{Failure, Met};
 use crate::{store, table};
-use binding::layout::{LAYOUT, LAYOUT_NUMBER, TABLE_LEN, UNNUMBERED, put_word, word};
+use binding::layout::TABLE_LEN;
 use std::ffi::OsStr;
 use std::io::Write;
 
-/// A service on a table that it takes, or took when layouts had no number yet.
-pub fn table_of(file: &OsStr, mut table: Vec<u8>) -> Result<Service, Failure> {
-    if table.len() == TABLE_LEN && word(&table, LAYOUT) == UNNUMBERED {
-        put_word(&mut table, LAYOUT, LAYOUT_NUMBER);
+/// A service on a table that it takes, or that the release of an earlier layout took.
+pub fn table_of(file: &OsStr, table: Vec<u8>) -> Result<Service, Failure> {
+    if table.len() != TABLE_LEN {
+        return store::table_of(file, table);
     }
-    store::table_of(file, table)
+    store::table_of(file, renewed(table))
 }
 
 pub fn dump<W: Write, E: Write>(service: &Service, desk: &mut Desk<W, E>) -> Result<Met, Failure> {

@@ -4,7 +4,7 @@
 use std::fmt;
 
 /// Coordinates on the grid run from `-HALF_WIDTH` to `HALF_WIDTH`.
-pub const HALF_WIDTH: i16 = 8_000;
+pub const HALF_WIDTH: i16 = binding::layout::HALF_WIDTH.cast_signed();
 
 #[derive(Clone, Copy, Debug, PartialEq, Eq)]
 pub struct Position {
@@ -35,4 +35,23 @@ impl fmt::Display for Leg {
     fn fmt(&self, f: &mut fmt::Formatter) -> fmt::Result {
         write!(f, "{} to {}", self.s, self.e)
     }
+}
+
+/// The coordinates of the grid: `-12,000 to 12,000`.
+pub fn span() -> String {
+    let most = grouped(HALF_WIDTH.unsigned_abs().into());
+    format!("-{most} to {most}")
+}
+
+/// `8,562`
+pub fn grouped(number: usize) -> String {
+    let digits = number.to_string();
+    let mut grouped = String::new();
+    for (i, digit) in digits.chars().enumerate() {
+        if i > 0 && (digits.len() - i).is_multiple_of(3) {
+            grouped.push(',');
+        }
+        grouped.push(digit);
+    }
+    grouped
 }

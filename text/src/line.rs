@@ -2,7 +2,7 @@
 
 use crate::act::Act;
 use crate::command::Command;
-use crate::grid::{Leg, Position, Site};
+use crate::grid::{self, Leg, Position, Site};
 use std::fmt;
 
 /// Why a line is bad.
@@ -164,7 +164,7 @@ impl fmt::Display for Complaint {
                 write!(f, "site number \"{word}\" is not within 1 to 65,535")
             }
             Complaint::Coordinate(word) => {
-                write!(f, "coordinate \"{word}\" is off the grid, -8,000 to 8,000")
+                write!(f, "coordinate \"{word}\" is off the grid, {}", grid::span())
             }
             Complaint::TooLong(most) => write!(f, "longer than {most} bytes"),
             Complaint::Words(words) => write!(f, "{words}"),
@@ -300,11 +300,11 @@ mod tests {
             ("remove -1", "site number \"-1\" is not within 1 to 65,535"),
             (
                 "stand 0 0 -32769 0",
-                "coordinate \"-32769\" is off the grid, -8,000 to 8,000",
+                "coordinate \"-32769\" is off the grid, -12,000 to 12,000",
             ),
             (
                 "move 1 32768 0",
-                "coordinate \"32768\" is off the grid, -8,000 to 8,000",
+                "coordinate \"32768\" is off the grid, -12,000 to 12,000",
             ),
         ] {
             assert_eq!(bad(line.as_bytes()), complaint);

@@ -10,6 +10,7 @@ mod console;
 mod decode;
 mod desk;
 mod dump;
+mod earlier;
 mod grid;
 mod help;
 mod input;

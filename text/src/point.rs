@@ -40,7 +40,7 @@ fn decimal(thousandths: i64) -> String {
 #[cfg(test)]
 mod tests {
     use super::*;
-    use crate::grid::Position;
+    use crate::grid::{HALF_WIDTH, Position};
 
     fn at(s: i16, e: i16, numerator: u32, denominator: u32) -> String {
         let entry = Entry {
@@ -55,8 +55,11 @@ mod tests {
     fn exact_ones() {
         assert_eq!(at(0, 10, 37, 100), "3.700");
         assert_eq!(at(0, 10, 0, 1), "0.000");
-        assert_eq!(at(-8000, 8000, 1, 2), "0.000");
-        assert_eq!(at(-8000, 8000, 0, 1), "-8000.000");
+        assert_eq!(at(-HALF_WIDTH, HALF_WIDTH, 1, 2), "0.000");
+        assert_eq!(
+            at(-HALF_WIDTH, HALF_WIDTH, 0, 1),
+            format!("-{HALF_WIDTH}.000")
+        );
         assert_eq!(at(3, 3, 5, 7), "3.000");
     }
 

@@ -1,7 +1,9 @@
 //! What a table's bytes say: the sites, the standing leg, and the boxes of the tree.
 
-use crate::grid::{HALF_WIDTH, Leg, Position, Site};
-use binding::layout::{self, Entry, LEVELS, MOST_LEVELS, MOST_NODES, ROOT, Record, number};
+use crate::grid::{Leg, Position, Site};
+use binding::layout::{
+    self, Entry, LEVELS, MOST_LEVELS, MOST_NODES, ROOT, Record, half_width, number,
+};
 
 /// A box of an entry above the leaves; its corners are positions.
 #[derive(Clone, Copy, Debug, PartialEq, Eq)]
@@ -12,9 +14,9 @@ pub struct Area {
     pub high: Position,
 }
 
-/// The table counts steps from the grid's south-west corner.
-fn position(east: u16, north: u16) -> Position {
-    let signed = |word: u16| word.cast_signed().wrapping_sub(HALF_WIDTH);
+/// The table counts steps from the south-west corner of its layout's grid.
+fn position(table: &[u8], east: u16, north: u16) -> Position {
+    let signed = |word: u16| word.wrapping_sub(half_width(table)).cast_signed();
     Position {
         east: signed(east),
         north: signed(north),
@@ -25,7 +27,7 @@ fn position(east: u16, north: u16) -> Position {
 pub fn sites(table: &[u8]) -> Vec<Site> {
     let site = |record: Record| Site {
         number: record.number,
-        at: position(record.east, record.north),
+        at: position(table, record.east, record.north),
     };
     layout::records(table).map(site).collect()
 }
@@ -33,8 +35,8 @@ pub fn sites(table: &[u8]) -> Vec<Site> {
 /// The standing leg.
 pub fn leg(table: &[u8]) -> Option<Leg> {
     let leg = |[s_east, s_north, e_east, e_north]: [u16; 4]| Leg {
-        s: position(s_east, s_north),
-        e: position(e_east, e_north),
+        s: position(table, s_east, s_north),
+        e: position(table, e_east, e_north),
     };
     layout::leg_words(table).map(leg)
 }
@@ -73,8 +75,8 @@ fn node(table: &[u8], level: usize, id: usize) -> Node {
         level,
         id,
         entries: layout::entries(table, id).count(),
-        low: position(least(|e| e.west), least(|e| e.south)),
-        high: position(most(|e| e.east), most(|e| e.north)),
+        low: position(table, least(|e| e.west), least(|e| e.south)),
+        high: position(table, most(|e| e.east), most(|e| e.north)),
     }
 }
 
@@ -93,8 +95,8 @@ fn collect(table: &[u8], node: usize, depth: usize, areas: &mut Vec<Area>) {
     for entry in layout::entries(table, node) {
         areas.push(Area {
             depth,
-            low: position(entry.west, entry.south),
-            high: position(entry.east, entry.north),
+            low: position(table, entry.west, entry.south),
+            high: position(table, entry.east, entry.north),
         });
         collect(table, usize::from(entry.reference), depth + 1, areas);
     }
@@ -105,6 +107,7 @@ mod tests {
     use super::*;
     use crate::service::Service;
     use reference::command::add;
+    use reference::grid::HALF_WIDTH;
     use reference::random::Random;
 
     fn table(count: u16, seed: u64) -> (Vec<u8>, Vec<Site>) {
@@ -112,7 +115,7 @@ mod tests {
         let mut service = Service::new().unwrap();
         let mut held = Vec::new();
         for number in 1..=count {
-            let mut coordinate = || random.between(-8000, 8000);
+            let mut coordinate = || random.between(-HALF_WIDTH, HALF_WIDTH);
             let (east, north) = (coordinate(), coordinate());
             let site = reference::grid::Site::new(number, east, north);
             service.serve(&add(site), |_| Ok(())).unwrap();

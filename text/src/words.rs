@@ -1,6 +1,6 @@
 //! Records, refusals and reasons in the words of document 01.
 
-use crate::grid::Leg;
+use crate::grid::{self, Leg};
 use crate::point;
 use crate::record::{Entry, Record};
 use std::fmt;
@@ -77,17 +77,18 @@ pub fn tell_end(number: u32, out: &mut impl Write) -> io::Result<()> {
     writeln!(out, "end {number}: {}", reason(number))
 }
 
-fn refusal(number: u8) -> &'static str {
-    match number {
+fn refusal(number: u8) -> String {
+    let words = match number {
         1 => "site number 0",
-        2 => "a coordinate outside -8,000 to 8,000",
+        2 => return format!("a coordinate outside {}", grid::span()),
         3 => "number already held",
         4 => "number not held",
         5 => "512 sites held",
         6 => "no site held",
         7 => "no standing leg",
         _ => "no such refusal",
-    }
+    };
+    words.into()
 }
 
 pub fn is_reason(number: u32) -> bool {
@@ -121,7 +122,7 @@ mod tests {
     fn every_refusal() {
         let expected = [
             "refused 1: site number 0\n",
-            "refused 2: a coordinate outside -8,000 to 8,000\n",
+            "refused 2: a coordinate outside -12,000 to 12,000\n",
             "refused 3: number already held\n",
             "refused 4: number not held\n",
             "refused 5: 512 sites held\n",

@@ -3,7 +3,7 @@
 
 mod common;
 
-use common::run;
+use common::{OFF_GRID, run, span};
 
 /// The answers to lines that are all good.
 fn answers(lines: &str) -> (i32, Vec<String>) {
@@ -17,22 +17,20 @@ fn answers(lines: &str) -> (i32, Vec<String>) {
 #[test]
 fn every_refusal() {
     let full: String = (1..=512).map(|n| format!("add {n} {n} 0\n")).collect();
+    let off_grid = format!("refused 2: a coordinate outside {}", span());
     let cases = [
-        ("add 0 9000 0\n", "refused 1: site number 0"),
+        (
+            &format!("add 0 {OFF_GRID} 0\n")[..],
+            "refused 1: site number 0",
+        ),
         ("remove 0\n", "refused 1: site number 0"),
         ("move 0 0 0\n", "refused 1: site number 0"),
-        (
-            "add 1 8001 0\n",
-            "refused 2: a coordinate outside -8,000 to 8,000",
-        ),
-        (
-            "stand 0 0 0 -32768\n",
-            "refused 2: a coordinate outside -8,000 to 8,000",
-        ),
-        (
-            "leg 0 32767 0 0\n",
-            "refused 2: a coordinate outside -8,000 to 8,000",
-        ),
+        (&format!("add 1 {OFF_GRID} 0\n"), &off_grid),
+        (&format!("move 1 0 -{OFF_GRID}\n"), &off_grid),
+        (&format!("stand 0 0 -{OFF_GRID} 0\n"), &off_grid),
+        (&format!("leg 0 {OFF_GRID} 0 0\n"), &off_grid),
+        ("stand 0 0 0 -32768\n", &off_grid),
+        ("leg 0 32767 0 0\n", &off_grid),
         ("add 7 0 0\nadd 7 1 1\n", "refused 3: number already held"),
         ("remove 7\n", "refused 4: number not held"),
         ("move 7 0 0\n", "refused 4: number not held"),
@@ -42,7 +40,7 @@ fn every_refusal() {
         ("print\n", "refused 7: no standing leg"),
     ];
     for (lines, last) in cases {
-        let (code, answers) = answers(lines);
+        let (code, answers) = answers(&lines);
         assert_eq!((code, answers.last().unwrap().as_str()), (1, last));
         assert!(
             answers
@@ -95,6 +93,12 @@ fn legs_to_try() {
             "leg -8000 -8000 8000 8000\n",
             "0/1 (-8000.000, -8000.000) site 1,1/2 (0.000, 0.000) site 2",
         ),
+        // C-12 of document 02: a denominator that is no signed word of 32 bits.
+        (
+            "add 1 -11999 -12000\nadd 2 12000 12000\n",
+            "leg -12000 -12000 12000 12000\n",
+            "0/1 (-12000.000, -12000.000) site 1,1151999999/2303952000 (0.250, 0.250) site 2",
+        ),
     ];
     for (sites, leg, list) in cases {
         let (code, answers) = answers(&format!("{sites}{leg}"));
@@ -108,8 +112,10 @@ fn legs_to_try() {
 
 #[test]
 fn the_standing_leg_is_the_last_accepted_one() {
-    let lines = "stand 0 0 10 0\nadd 1 0 0\nadd 2 4 0\nprint\nstand 0 0 9000 0\nprint\nstand 4 0 0 0\nprint\n";
-    let (code, answers) = answers(lines);
+    let lines = format!(
+        "stand 0 0 10 0\nadd 1 0 0\nadd 2 4 0\nprint\nstand 0 0 {OFF_GRID} 0\nprint\nstand 4 0 0 0\nprint\n"
+    );
+    let (code, answers) = answers(&lines);
     let entries: Vec<&str> = answers
         .iter()
         .filter_map(|line| line.strip_prefix("from "))

@@ -2,7 +2,7 @@
 
 mod common;
 
-use common::{lines, run, without_points};
+use common::{lines, run, span, without_points};
 use reference::book::Book;
 use reference::command::{self, Command};
 use reference::fraction::Fraction;
@@ -13,7 +13,7 @@ use reference::record::Record;
 
 const REFUSALS: [&str; 7] = [
     "site number 0",
-    "a coordinate outside -8,000 to 8,000",
+    "a coordinate outside ",
     "number already held",
     "number not held",
     "512 sites held",
@@ -25,7 +25,9 @@ fn in_words(record: &Record) -> String {
     match record {
         Record::Accepted => "accepted\n".into(),
         Record::Refused(number) => {
-            format!("refused {number}: {}\n", REFUSALS[usize::from(*number) - 1])
+            let range = if *number == 2 { span() } else { String::new() };
+            let refusal = REFUSALS[usize::from(*number) - 1];
+            format!("refused {number}: {refusal}{range}\n")
         }
         Record::List(list) => {
             let noun = if list.len() == 1 { "entry" } else { "entries" };

@@ -2,7 +2,7 @@
 
 mod common;
 
-use common::{batch_program, run, run_program, scratch};
+use common::{OFF_GRID, batch_program, run, run_program, scratch, span};
 use std::process::Command;
 
 const LINES: &str = "add 1 2 3\n\n# a stop\nadd 2 7 1\nstand 0 0 10 0\nadd 2 0 0\nleg 0 0 10 0\nleg 5 5 5 5\nprint\n";
@@ -76,18 +76,20 @@ fn a_byte_order_mark_is_skipped() {
 
 #[test]
 fn numbers_that_fit_no_word_are_told_with_their_range() {
-    let ran = run(
-        &[],
-        "add 65536 0 0\nadd 1 40000 0\nadd 1 8001 0\nremove 0\n",
+    let input = format!("add 65536 0 0\nadd 1 40000 0\nadd 1 {OFF_GRID} 0\nremove 0\n");
+    let (ran, span) = (run(&[], input), span());
+    let messages = format!(
+        "stops-text: line 1: site number \"65536\" is not within 1 to 65,535
+stops-text: line 2: coordinate \"40000\" is off the grid, {span}
+"
     );
-    let messages = "stops-text: line 1: site number \"65536\" is not within 1 to 65,535
-stops-text: line 2: coordinate \"40000\" is off the grid, -8,000 to 8,000
-";
-    assert_eq!((ran.code, ran.err.as_str()), (2, messages));
-    let refused = "line 3: refused 2: a coordinate outside -8,000 to 8,000
+    assert_eq!((ran.code, ran.err.as_str()), (2, messages.as_str()));
+    let refused = format!(
+        "line 3: refused 2: a coordinate outside {span}
 line 4: refused 1: site number 0, it is 1 to 65,535
-";
-    assert!(ran.text().starts_with(refused));
+"
+    );
+    assert!(ran.text().starts_with(&refused));
 }
 
 #[test]

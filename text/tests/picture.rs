@@ -4,7 +4,7 @@ mod common;
 #[path = "common/svg.rs"]
 mod svg;
 
-use common::{PROGRAM, at_root, lines, run_program, scratch};
+use common::{HALF_WIDTH, OFF_GRID, PROGRAM, at_root, lines, run_program, scratch};
 use reference::book::Book;
 use reference::command;
 use reference::grid::{Leg, Site};
@@ -181,7 +181,7 @@ fn which_leg() {
     assert_eq!(title(stand), "Leg (0, 0) to (5, 5): 1 stretch, 1 site");
     let asked = format!("leg 0 0 7 0\nleg 0 1 8 0\n{stand}");
     assert_eq!(title(&asked), "Leg (0, 1) to (8, 0): 1 stretch, 1 site");
-    let off = format!("{asked}leg 0 0 8001 0\nstand 9000 0 0 0\n");
+    let off = format!("{asked}leg 0 0 {OFF_GRID} 0\nstand {OFF_GRID} 0 0 0\n");
     assert_eq!(title(&off), "Leg (0, 1) to (8, 0): 1 stretch, 1 site");
     let emptied = format!("{asked}remove 1\n");
     assert_eq!(
@@ -204,15 +204,16 @@ fn a_leg_that_is_a_point_and_legs_along_the_edge() {
     assert_eq!(colours(&point).len(), 1);
     assert!(point.texts("labels").contains(&"S = E (4, 4)"));
     assert_eq!(noted(&point, "off the grid"), None);
+    let h = HALF_WIDTH;
     for ends in [
-        "-8000 8000 8000 8000",
-        "8000 -8000 8000 8000",
-        "-8000 -8000 -7990 -8000",
+        format!("-{h} {h} {h} {h}"),
+        format!("{h} -{h} {h} {h}"),
+        format!("-{h} -{h} {} -{h}", 10 - h),
     ] {
         let edge = picture(
             "edge",
             &[],
-            &format!("add 1 -8000 8000\nadd 2 8000 8000\nleg {ends}\n"),
+            &format!("add 1 -{h} {h}\nadd 2 {h} {h}\nleg {ends}\n"),
         );
         assert!(edge.texts("legend").contains(&"off the grid"));
     }
@@ -241,7 +242,7 @@ fn many_entries() {
     let sites: Vec<Site> = (1..=512)
         .map(|n| Site::new(n, i64::from(n) * 31 - 7950, 0))
         .collect();
-    let input = adds(&sites) + "leg -8000 0 8000 0\n";
+    let input = adds(&sites) + &format!("leg -{HALF_WIDTH} 0 {HALF_WIDTH} 0\n");
     let picture = picture("many", &[], &input);
     assert_eq!(colours(&picture).len(), 512);
     assert_eq!(

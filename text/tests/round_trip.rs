@@ -2,7 +2,7 @@
 
 mod common;
 
-use common::{at_root, batch_program, lines, run, scratch, without_points};
+use common::{HALF_WIDTH, at_root, batch_program, lines, run, scratch, without_points};
 use reference::random::{self, Random};
 use std::path::Path;
 
@@ -51,8 +51,8 @@ fn long_lists() {
     let mut input: String = (1..=512)
         .map(|n| format!("add {n} {} 0\n", n * 31 - 7950))
         .collect();
-    input += "stand -8000 0 8000 0\n";
-    input += &"print\nleg 8000 0 -8000 1\n".repeat(30);
+    input += &format!("stand -{HALF_WIDTH} 0 {HALF_WIDTH} 0\n");
+    input += &format!("print\nleg {HALF_WIDTH} 0 -{HALF_WIDTH} 1\n").repeat(30);
     assert_same("long.bin", &input);
 }
 

@@ -2,7 +2,7 @@
 
 mod common;
 
-use common::{PROGRAM, Ran, lines, run, run_program, scratch};
+use common::{HALF_WIDTH, PROGRAM, Ran, at_root, lines, run, run_program, scratch};
 use reference::random::{self, Random};
 use std::path::{Path, PathBuf};
 use std::process::Command;
@@ -313,45 +313,110 @@ fn a_dump_makes_the_same_lists_anew() {
         assert_eq!((dump.code, dump.err.as_str()), (0, ""));
         let begun = on(&fresh, &["--create"], dump.text());
         assert_eq!(begun.code, 0);
-        let ask = "print\nstanding\nsites\nleg -6 -6 6 6\nleg 3 -5 -2 6\nleg 8000 0 -8000 1\n";
-        assert_eq!(on(&file, &[], ask).text(), on(&fresh, &[], ask).text());
+        let ask = format!(
+            "print\nstanding\nsites\nleg -6 -6 6 6\nleg 3 -5 -2 6\nleg {HALF_WIDTH} 0 -{HALF_WIDTH} 1\n"
+        );
+        assert_eq!(on(&file, &[], &ask).text(), on(&fresh, &[], &ask).text());
         assert_eq!(file_mode("--dump", &fresh).text(), dump.text());
     }
 }
 
-/// Before release 0.6.0 the layout's number was 0: not served, but told and dumped.
+/// What release 0.7.0 left: a table after 777 changes, its dump, and what it answered.
+fn kept(what: &str) -> Vec<u8> {
+    let file = at_root("tests/tables").join(format!("release-0.7.0.{what}"));
+    std::fs::read(&file).unwrap_or_else(|error| panic!("{}: {error}", file.display()))
+}
+
+/// Old table, dump, new table, same lists.
 #[test]
-fn a_table_without_a_layout_number_is_carried_over() {
-    let (file, old) = (table("numbered"), table("without a number"));
-    on(&file, &["--create"], STOPS);
-    let mut bytes = std::fs::read(&file).unwrap();
+fn a_table_of_release_0_7_0_is_carried_over() {
+    let (old, new) = (table("of 0.7.0"), table("carried over"));
+    let bytes = kept("stops");
     assert_eq!(bytes[14..16], [1, 0]);
-    bytes[14] = 0;
     std::fs::write(&old, &bytes).unwrap();
     let served = on(&old, &[], "print\n");
     assert_eq!((served.code, served.text()), (5, ""));
-    let told = file_mode("--check", &old);
-    let what = "no number of a layout, as before release 0.6.0: --dump reads such";
-    let expected = format!(
-        "broken: the service refuses it with reason 65
-header: {what}, byte 14: 0 stands there, 1 belongs there
-sites that can still be read: 2
-add 1 2 3
-add 2 7 1
-"
-    );
-    assert_eq!((told.code, told.text()), (5, expected.as_str()));
+    assert!(served.err.contains("reason 65"), "{}", served.err);
     let dump = file_mode("--dump", &old);
-    assert_eq!((dump.code, dump.text()), (0, STOPS));
+    assert_eq!((dump.code, dump.err.as_str()), (0, ""));
+    assert_eq!(dump.out, kept("dump"));
     assert!(std::fs::read(&old).unwrap() == bytes);
-    // A number that this release does not know, and a fault elsewhere.
-    for (at, byte) in [(14, 2), (15, 1), (20, 1)] {
-        let mut other = bytes.clone();
-        other[at] = byte;
-        std::fs::write(&old, &other).unwrap();
+    assert_eq!(on(&new, &["--create"], dump.text()).code, 0);
+    let asked = String::from_utf8(kept("asked")).unwrap();
+    let answered = on(&new, &["--plain"], &asked);
+    assert_eq!(answered.text().as_bytes(), kept("answers"));
+    assert_eq!(file_mode("--dump", &new).out, dump.out);
+}
+
+/// Layout 0 is layout 1 without its number. Neither is served; both are told, with their sites
+/// where that layout's grid has them.
+#[test]
+fn tables_of_earlier_layouts_are_told_and_dumped() {
+    let old = table("earlier");
+    for number in [0, 1] {
+        let mut bytes = kept("stops");
+        bytes[14] = number;
+        std::fs::write(&old, &bytes).unwrap();
+        let told = file_mode("--check", &old);
+        let adds = String::from_utf8(kept("dump")).unwrap();
+        let adds: String = adds
+            .lines()
+            .filter(|line| line.starts_with("add"))
+            .fold(String::new(), |all, line| all + line + "\n");
+        let expected = format!(
+            "broken: the service refuses it with reason 65
+header: the number of an earlier layout: --dump reads such, byte 14: {number} stands there, 2 belongs there
+sites that can still be read: {}
+{adds}",
+            adds.lines().count()
+        );
+        assert_eq!((told.code, told.text()), (5, expected.as_str()));
         let dump = file_mode("--dump", &old);
-        assert_eq!((dump.code, dump.text()), (5, ""));
+        assert_eq!((dump.code, dump.out), (0, kept("dump")));
     }
+}
+
+/// Site 3 of the table of release 0.7.0 is its first record.
+const FIRST_RECORD: usize = 64;
+
+#[test]
+fn a_table_that_its_own_release_refused_is_not_dumped() {
+    let old = table("refused before");
+    let word = |word: u16| word.to_le_bytes().to_vec();
+    let whole = kept("stops");
+    let root = 6_896 + 98 * usize::from(u16::from_le_bytes([whole[5_186], whole[5_187]]));
+    let broken = [
+        ("an unknown layout", 14, word(3)),
+        ("a kept word", 20, word(1)),
+        ("an easting off its grid", FIRST_RECORD + 2, word(16_001)),
+        ("a northing off its grid", FIRST_RECORD + 4, word(20_000)),
+        ("a leg off its grid", 8, word(16_001)),
+        (
+            "another position than the tree has",
+            FIRST_RECORD + 2,
+            word(0),
+        ),
+        ("another standing list", 4_160, word(3)),
+        ("a box that is too wide", root + 4, word(65_535)),
+        ("a number that falls", FIRST_RECORD, word(65_535)),
+    ];
+    for (what, at, bytes) in broken {
+        let mut table = whole.clone();
+        assert_ne!(table[at..at + 2], bytes, "{what}");
+        table[at..at + 2].copy_from_slice(&bytes);
+        std::fs::write(&old, &table).unwrap();
+        let dump = file_mode("--dump", &old);
+        assert_eq!((dump.code, dump.text()), (5, ""), "{what}");
+        assert!(dump.err.contains("reason 65"), "{}", dump.err);
+    }
+    // Its easting is told as off the grid that it has, not this one's.
+    let mut table = whole.clone();
+    table[FIRST_RECORD + 2..FIRST_RECORD + 4].copy_from_slice(&word(16_001));
+    std::fs::write(&old, &table).unwrap();
+    let told = file_mode("--check", &old);
+    let what = "site record 0: the easting is off the grid, 0 to 16,000 from its edge, byte 66";
+    assert!(told.text().contains(what), "{}", told.text());
+    assert!(told.text().contains("sites that can still be read: 180\n"));
 }
 
 #[test]
@@ -388,12 +453,12 @@ fn a_broken_table_is_told_with_its_sites() {
     on(&file, &["--create"], STOPS);
     let mut bytes = std::fs::read(&file).unwrap();
     // The easting of site 2, off the grid.
-    bytes[74..76].copy_from_slice(&16_001u16.to_le_bytes());
+    bytes[74..76].copy_from_slice(&24_001u16.to_le_bytes());
     std::fs::write(&file, &bytes).unwrap();
     let ran = file_mode("--check", &file);
     let expected = "broken: the service refuses it with reason 65
-site record 1: the easting is off the grid, 0 to 16,000 from its edge, byte 74: 16,001 stands there
-node 263, entry 1: not the easting of the site's record, byte 32,686: 8,007 stands there
+site record 1: the easting is off the grid, 0 to 24,000 from its edge, byte 74: 24,001 stands there
+node 263, entry 1: not the easting of the site's record, byte 32,686: 12,007 stands there
 sites that can still be read: 1
 add 1 2 3
 ";

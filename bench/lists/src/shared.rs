@@ -1,10 +1,9 @@
 //! What the two programs in plain Rust have in common: the checks and the sites.
 
-use lists::SITE_LEN;
+use lists::{FAR_EDGE, SITE_LEN};
 use plain::vertex::{Leg, Site, Vertex};
 
 const MOST_SITES: usize = 512;
-const FAR_EDGE: u16 = 16_000;
 
 fn word(bytes: &[u8], at: usize) -> u16 {
     u16::from_le_bytes([bytes[at], bytes[at + 1]])

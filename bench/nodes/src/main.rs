@@ -15,7 +15,7 @@ mod search;
 use plain::legs::Length;
 use plain::tables::{Kind, Lie, Numbering, serve};
 use reference::command;
-use reference::grid::{Leg, MOST_SITES};
+use reference::grid::{HALF_WIDTH, Leg, MOST_SITES};
 use reference::random::Random;
 use reference::record::{ENTRY_LEN, Record};
 use reference::split::Entry;
@@ -46,8 +46,8 @@ const LENGTHS: [Length; 6] = [
     Length::Of(100),
     Length::UpTo(BOUND_TO),
     Length::Of(BOUND_TO),
-    Length::UpTo(8_000),
-    Length::Of(8_000),
+    Length::UpTo(HALF_WIDTH),
+    Length::Of(HALF_WIDTH),
     Length::Any,
 ];
 

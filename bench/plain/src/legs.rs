@@ -79,8 +79,9 @@ fn direction(random: &mut Random) -> (f64, f64) {
 pub fn all_listed(random: &mut Random) -> (Leg, Vec<Position>) {
     let north = random.between(-HALF_WIDTH, HALF_WIDTH - 40);
     let leg = Leg::new((-HALF_WIDTH, north), (HALF_WIDTH, north));
+    let apart = 2 * HALF_WIDTH / 512;
     let mut position = |k: i64| {
-        let east = 31 * k - 7_950 + random.between(-4, 4);
+        let east = apart * k + 50 - HALF_WIDTH + random.between(-4, 4);
         Position::new(east, north + random.between(0, 8))
     };
     (leg, (0..512).map(&mut position).collect())

@@ -1,6 +1,7 @@
 //! Record 3D in plain Rust.
 
 use crate::vertex::Vertex;
+use reference::grid::LARGEST_DENOMINATOR;
 use reference::record::{ENTRY_LEN, LISTED};
 
 fn gcd(mut a: u64, mut b: u64) -> u64 {
@@ -10,10 +11,11 @@ fn gcd(mut a: u64, mut b: u64) -> u64 {
     a
 }
 
+const _: () = assert!(LARGEST_DENOMINATOR <= u32::MAX as u64);
+
 fn start(p: Vertex, q: Vertex) -> (u32, u32) {
     let (rise, fall) = (u64::from(q.a - p.a), u64::from(p.c - q.c));
     let factor = gcd(rise, rise + fall);
-    // No denominator passes 1,024,000,000.
     ((rise / factor) as u32, ((rise + fall) / factor) as u32)
 }
 

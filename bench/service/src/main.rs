@@ -21,7 +21,7 @@ use fixed::Fixed;
 use plain::legs::Length;
 use plain::tables::Numbering;
 use plain::verdict::Bound;
-use reference::grid::MOST_SITES;
+use reference::grid::{HALF_WIDTH, MOST_SITES};
 use reference::random::Random;
 use targets::Targets;
 use times::Times;
@@ -41,16 +41,20 @@ const NUMBERINGS: [(Numbering, &str); 3] = [
     (Numbering::Apart(FAR_APART), ", gaps"),
     (Numbering::Scattered, ", scattered"),
 ];
+/// As long as the grid is wide.
+const ACROSS: i64 = 2 * HALF_WIDTH;
 /// Up to here a leg is short.
 const SHORT: i64 = 2_000;
 
-const LENGTHS: [Length; 6] = [
+const LENGTHS: [Length; 8] = [
     Length::Of(100),
     Length::Of(500),
     Length::Of(SHORT),
     Length::UpTo(SHORT),
     Length::Of(8_000),
+    Length::Of(HALF_WIDTH),
     Length::Of(16_000),
+    Length::Of(ACROSS),
 ];
 
 fn print_head() {
@@ -74,8 +78,8 @@ fn leg_target(sites: usize, length: Length) -> Option<(f64, f64)> {
     match (sites, length) {
         (64, Length::UpTo(SHORT)) => Some((1.0, 3.0)),
         (MOST_SITES, Length::UpTo(SHORT)) => Some((3.0, 10.0)),
-        (MOST_SITES, Length::Of(8_000)) => Some((3.0, 2.0)),
-        (MOST_SITES, Length::Of(16_000)) => Some((2.5, 0.8)),
+        (MOST_SITES, Length::Of(8_000 | HALF_WIDTH)) => Some((3.0, 2.0)),
+        (MOST_SITES, Length::Of(16_000 | ACROSS)) => Some((2.5, 0.8)),
         _ => None,
     }
 }

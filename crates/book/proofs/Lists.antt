@@ -16,7 +16,7 @@ use Rattle.split.specs.SplitList.{Entry, endOf, Stretches, IsSplitList}
 use Rattle.split.specs.SplitOf.{splitOf}
 use Rattle.split.proofs.Unique.{end-fraction}
 use Rattle.split.proofs.Once.{few}
-use Rattle.split.proofs.Denominators.{bounded}
+use Rattle.split.proofs.Denominators.{start-below, bounded}
 use Rattle.split.proofs.Exists.{split-is}
 use Rattle.records.specs.Decode.{listedOf, readRecord}
 use Rattle.records.specs.ListRecord.{listSize, recordBytes}
@@ -38,11 +38,6 @@ listed-held l s es h f (List·Memᴰ·head {x = e} {xs = rest} q) =
     let t : IsFraction (mid (e .start) (endOf rest)) = mid-fraction (e .start) (endOf rest) (end-fraction l s (e ∷ rest) h) (end-fraction l s rest (h .1)) in
     subst (λ (g : Entry). List·Memᴰ (g .site) s) (sym q) (h .0 .leads (mid (e .start) (endOf rest)) t (omega arith) (omega arith) .held)
 listed-held l s es h f (List·Memᴰ·tail {x = e} {xs = rest} m) = listed-held l s rest (h .1) f m
-
--- a start is below 1
-start-below : (l : Leg) (s : List Site) (es : List Entry) → Stretches l s es → (f : Entry) → List·Memᴰ f es → f .start .num < f .start .den
-start-below l s es h f (List·Memᴰ·head {x = e} {xs = rest} q) = subst (λ (g : Entry). g .start .num < g .start .den) (sym q) (h .0 .below1)
-start-below l s es h f (List·Memᴰ·tail {x = e} {xs = rest} m) = start-below l s rest (h .1) f m
 
 -- THE SIZE OF A RECORD is the number of its bytes
 pub record-size : (y : Reply) → length (recordOf y) ≡ recordSize y

@@ -26,7 +26,7 @@ pub record Test : Type 0 where
 abbrev pub test : Bool → Cause → Test
 test met cause = record { met = met; cause = cause }
 
--- "a coordinate outside -8,000 to 8,000"
+-- "a coordinate outside" the grid: document 02, C-12, "Refusal 2 and its cases move to 12,000 and 12,001"
 abbrev pub offGrid : Position → Bool
 offGrid p = not (leb (p .east) gridWidth && leb (p .north) gridWidth)
 

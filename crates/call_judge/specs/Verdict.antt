@@ -68,7 +68,7 @@ pub record Decided (v : Verdict) (c : Command) (t w : List ℕ) : Type 0 where
 pub record Settled (v : Verdict) (c : Command) (t : List ℕ) : Type 0 where
   pub decided : (w : List ℕ) → Decided v c t w
 
--- "site number 0", then "a coordinate outside -8,000 to 8,000": what the first tests of an addition and a move refuse
+-- "site number 0", then a coordinate off the grid: what the first tests of an addition and a move refuse
 abbrev pub BadFor : Cause → ℕ → Position → Type 0
 BadFor NumberZero n p = n ≡ 0
 BadFor OffGrid n p = (n ≢ 0) × ¬ OnGrid p

@@ -10,3 +10,4 @@ pub mod Demand3
 pub mod Demands
 pub mod WorkBuffer
 pub mod Starred
+pub mod Edges

@@ -15,8 +15,8 @@ use Rattle.book.specs.Command.{formOf, parseAt}
 use Rattle.book.specs.Answer.{answer}
 use Rattle.book.specs.Run.{records, turn, runFrom}
 use Rattle.records.specs.Decode.{read2, read4, readList, readRecord}
-use Rattle.demands.specs.Demands.{numberFrom}
-use Rattle.demands.specs.Starred.{starredLines, standingLines, written, given, printedLines, namedLines, namesIn}
+use Rattle.demands.specs.Demands.{listIn, numberFrom}
+use Rattle.demands.specs.Starred.{starredLines, standingLines, longestLines, longestRecord, longestList, written, given, printedLines, namedLines, namesIn}
 
 -- THE STARRED LINES
 pub starred : given starredLines ≡ written starredLines
@@ -27,6 +27,11 @@ starred = refl
 pub standing : given standingLines ≡ written standingLines
 unfolding records turn runFrom parseAt formOf wordAt fromWord toWord answer holds change writeLine strikeLine moveLine splitOf build insert push hides? under? rightBelow? decLe decLt distance squaredDifference rank lowest gcdOf gcdBy entryBytes listBytes recordBytes
 standing = refl
+
+-- THE LONGEST LEG: its record, and the list that is read from it
+pub longest : (given longestLines ≡ written longestLines) × (listIn longestRecord ≡ longestList)
+unfolding records turn runFrom parseAt formOf wordAt fromWord toWord answer holds change writeLine strikeLine moveLine splitOf build insert push hides? under? rightBelow? decLe decLt distance squaredDifference rank lowest gcdOf gcdBy entryBytes listBytes recordBytes readRecord readList read2 read4
+longest = (refl, refl)
 
 -- WHAT A PRINTED LIST NAMES, at its starts and ends
 pub named : map namesIn printedLines ≡ namedLines

@@ -4,3 +4,4 @@ pub mod Whole
 pub mod Demands
 pub mod WorkBuffer
 pub mod Starred
+pub mod Edges

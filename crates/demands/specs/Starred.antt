@@ -1,5 +1,5 @@
 -- The starred lines of document 01, "Legs to try": command bytes and record bytes, the refusals 6 and 7 and the
--- removals included.
+-- removals included; and the leg from corner to corner of the grid as C-12 of document 02 has it.
 -- Assumes nothing.
 use mathlib.Core.Option.{Option, none, some}
 use mathlib.Core.List.{List, [], _∷_, _++_, map}
@@ -8,13 +8,14 @@ use Rattle.grid.specs.declared.Position.{Position}
 use Rattle.grid.specs.declared.Leg.{Leg}
 use Rattle.grid.specs.declared.Fraction.{Fraction}
 use Rattle.records.specs.Bytes.{bytes2, bytes4}
+use Rattle.records.specs.Decode.{Listed}
 use Rattle.book.specs.declared.Command.{Command}
 use Rattle.book.specs.declared.Command.the-variants.{Add, Remove, Move, List as ListOf, Stand, Print}
 use Rattle.book.specs.Book.{emptyBook}
 use Rattle.book.specs.Encode.{commandBytes}
 use Rattle.book.specs.Run.{records, run}
 use Rattle.demands.specs.Demands.{listIn, numberAt}
-use Rattle.split.specs.Legs.{at, atSouth, atWest, southWest, northEast, leg, ten}
+use Rattle.split.specs.Legs.{at, atSouth, atWest, atSouthWest, leg, ten, diagonal, longest}
 
 -- commands, and the records that they get
 pub record Line : Type 0 where
@@ -46,6 +47,17 @@ twoEntries e f = 0x3D ∷ bytes2 2 ++ e ++ f
 abbrev pub pair : ℕ → Position → ℕ → Position → Leg → List Command
 pair k p j q l = Add k p ∷ Add j q ∷ ListOf l ∷ []
 
+-- the list of the longest leg
+abbrev pub longestRecord : List ℕ
+longestRecord = twoEntries (sinceBytes 1 0 1) (sinceBytes 2 1151999999 2303952000)
+
+-- the same, read back
+abbrev pub longestList : List Listed
+longestList =
+    record { number = 1; start = record { num = 0; den = 1 } }
+    ∷ record { number = 2; start = record { num = 1151999999; den = 2303952000 } }
+    ∷ []
+
 -- "Site 1 (2,3), 2 (7,1): 1 from 0/1, 2 from 37/100. Add 3 (9,-4): no change. Remove 2 and 3: 1 from 0/1."
 -- "2 (3,4), 5 (3,-4): 2 from 0/1."
 -- "1 (0,0), 2 (10,0), 3 (5,5): 1 from 0/1, 2 from 1/2; 3 touches once."
@@ -66,8 +78,15 @@ starredLines =
     ∷ line (pair 1 (atWest 2 0) 2 (at 2 0) ten) (0x2B ∷ 0x2B ∷ oneEntry (sinceBytes 2 0 1))
     ∷ line (pair 1 (at 8 0) 2 (at 12 0) ten) (0x2B ∷ 0x2B ∷ oneEntry (sinceBytes 1 0 1))
     ∷ line (pair 7 (at 4 5) 3 (at 5 4) (leg (at 4 4) (at 4 4))) (0x2B ∷ 0x2B ∷ oneEntry (sinceBytes 3 0 1))
-    ∷ line (pair 1 southWest 2 northEast (leg southWest northEast)) (0x2B ∷ 0x2B ∷ twoEntries (sinceBytes 1 0 1) (sinceBytes 2 1 2))
+    ∷ line (pair 1 (atSouthWest 8000 8000) 2 (at 8000 8000) diagonal) (0x2B ∷ 0x2B ∷ twoEntries (sinceBytes 1 0 1) (sinceBytes 2 1 2))
     ∷ line (ListOf ten ∷ Print ∷ []) (0x21 ∷ 6 ∷ 0x21 ∷ 7 ∷ [])
+    ∷ []
+
+-- from corner to corner of the grid, site 1 one step off S and 2 at E: a start with a denominator that 31 bits do not
+-- hold, as long as a denominator can be but for 48,000
+abbrev pub longestLines : List Line
+longestLines =
+    line (pair 1 (atSouthWest 11999 12000) 2 (at 12000 12000) longest) (0x2B ∷ 0x2B ∷ longestRecord)
     ∷ []
 
 -- the records as document 01 has them

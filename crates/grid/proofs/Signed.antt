@@ -11,11 +11,11 @@ pub positive-word : (w : ℕ) → w < 32768 → fromWord w ≡ halfWidth + w
 unfolding fromWord
 positive-word w h = omega arith
 
--- ON THE GRID exactly up to 8,000
+-- ON THE GRID exactly up to 12,000
 pub positive-on-grid : (w : ℕ) → w < 32768 → (fromWord w ≤ gridWidth → w ≤ halfWidth) × (w ≤ halfWidth → fromWord w ≤ gridWidth)
 positive-on-grid w h = (λ k. omega (arith, positive-word w h), λ k. omega (arith, positive-word w h))
 
--- ON THE GRID exactly down to -8,000
+-- ON THE GRID exactly down to -12,000
 pub negative-on-grid : (w : ℕ) → 32768 ≤ w → w < 65536 → (fromWord w ≤ gridWidth → 65536 - w ≤ halfWidth) × (65536 - w ≤ halfWidth → fromWord w ≤ gridWidth)
 unfolding fromWord
 negative-on-grid w h k = (λ g. omega arith, λ g. omega arith)

@@ -7,7 +7,8 @@ use Rattle.limits.specs.Limits.{gridWidth}
 use Rattle.grid.specs.declared.Position.{Position}
 use Rattle.grid.specs.declared.Leg.{Leg}
 
--- "A position is a pair (easting, northing) of whole numbers, each from -8,000 to 8,000"
+-- "A position is a pair (easting, northing) of whole numbers"; document 02, C-12: "Coordinates run from -12,000 to
+-- 12,000"
 pub record OnGrid (p : Position) : Type 0 where
   pub east : p .east ≤ gridWidth
   pub north : p .north ≤ gridWidth

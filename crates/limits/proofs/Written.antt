@@ -1,11 +1,22 @@
--- The derived limits, as document 01 writes them.
+-- The derived limits as document 02 writes them (C-12), and which words hold them.
 -- Assumes nothing.
 use mathlib.Core.Path.{_≡_, refl}
-use Rattle.limits.specs.Limits.{maxDistance, maxDenominator}
+use Prim.Native.Nat.{_^_, _<_}
+use native.Mathlib.Omega.{arith}
+use Rattle.limits.specs.Limits.{gridWidth, maxDistance, maxDenominator, maxComparison}
 
-pub distance-most : maxDistance ≡ 512000000
-distance-most = refl
+-- a coordinate, counted from the corner, fits 15 bits
+pub width-most : (gridWidth ≡ 24000) × (gridWidth < 2 ^ 15)
+width-most = (refl, omega arith)
 
--- "No denominator passes 1,024,000,000."
-pub denominator-most : maxDenominator ≡ 1024000000
-denominator-most = refl
+-- a squared distance fits 31 bits
+pub distance-most : (maxDistance ≡ 1152000000) × (maxDistance < 2 ^ 31)
+distance-most = (refl, omega arith)
+
+-- "denominators reach 2,304,000,000 at most": that fits 32 bits, and not 31
+pub denominator-most : (maxDenominator ≡ 2304000000) × (maxDenominator < 2 ^ 32) × (2 ^ 31 < maxDenominator)
+denominator-most = (refl, omega arith, omega arith)
+
+-- a product in a comparison of fractions fits 63 bits
+pub comparison-most : (maxComparison ≡ 5308416000000000000) × (maxComparison < 2 ^ 63)
+comparison-most = (refl, omega arith)

@@ -3,9 +3,9 @@
 -- Assumes nothing.
 use Prim.Native.Nat.{ℕ, _*_}
 
--- "each from -8,000 to 8,000, in steps of 100 m"
+-- document 02, C-12: "Coordinates run from -12,000 to 12,000", "in steps of 100 m"
 abbrev pub halfWidth : ℕ
-halfWidth = 8000
+halfWidth = 12000
 
 -- the largest coordinate, counted from the grid's south-west corner
 abbrev pub gridWidth : ℕ
@@ -19,9 +19,13 @@ maxSquare = gridWidth * gridWidth
 abbrev pub maxDistance : ℕ
 maxDistance = 2 * maxSquare
 
--- "No denominator passes 1,024,000,000"
+-- document 02, C-12: "denominators reach 2,304,000,000 at most"
 abbrev pub maxDenominator : ℕ
 maxDenominator = 2 * maxDistance
+
+-- the largest product in a comparison of two fractions
+abbrev pub maxComparison : ℕ
+maxComparison = maxDenominator * maxDenominator
 
 -- "A site has a number from 1 to 65,535"
 abbrev pub maxNumber : ℕ

@@ -1,8 +1,8 @@
-// The numbers that document 01 fixes, the work buffer's length as C-21 of document 02 has it, and how many nodes the
-// pool has, as the code uses them. specs/Limits.antt has the same for the definitions.
+// The numbers that document 01 fixes, the grid as C-12 of document 02 has it and the work buffer as C-21 has it, and
+// how many nodes the pool has, as the code uses them. specs/Limits.antt has the same for the definitions.
 
 // The largest coordinate on either side of the grid's middle, in steps of 100 m.
-pub const HALF_WIDTH: u16 = 8000;
+pub const HALF_WIDTH: u16 = 12000;
 
 // The largest coordinate, counted from the grid's south-west corner.
 pub const GRID_WIDTH: u16 = 2 * HALF_WIDTH;

@@ -1,3 +1,4 @@
 pub mod Writing
 pub mod Length
 pub mod ReadBack
+pub mod Moved

@@ -1,8 +1,8 @@
--- No denominator of a split list passes 1,024,000,000.
+-- No denominator of a split list passes 2,304,000,000.
 -- Assumes nothing.
 use Rattle.limits.specs.Limits.{maxDistance, maxDenominator}
 use Rattle.grid.proofs.Squares.{distance-most}
-use mathlib.Core.Path.{_≡_, ap, sym, _∙_}
+use mathlib.Core.Path.{_≡_, ap, sym, subst, _∙_}
 use mathlib.Core.List.{List, [], _∷_, List·Memᴰ, List·Memᴰ·head, List·Memᴰ·tail, List·Memᴰ·not-nil}
 use Prim.Native.Nat.{ℕ, zero, suc, _+_, _*_, _-_, _≤_, _<_}
 use native.Mathlib.Nat.{mul-le-mul-left, mul-lt-mul-of-pos-left}
@@ -19,6 +19,11 @@ use Rattle.split.specs.SplitList.{distanceAt, Leads, Entry, endOf, Stret
 use Rattle.split.proofs.Closed.{closed}
 use Rattle.split.proofs.Unique.{end-fraction, rank-number}
 use Rattle.split.proofs.Weights.{Weights, weights, weigh-le, far-eq}
+
+-- a start is below 1
+pub start-below : (l : Leg) (s : List Site) (es : List Entry) → Stretches l s es → (f : Entry) → List·Memᴰ f es → f .start .num < f .start .den
+start-below l s es h f (List·Memᴰ·head {x = e} {xs = rest} q) = subst (λ (g : Entry). g .start .num < g .start .den) (sym q) (h .0 .below1)
+start-below l s es h f (List·Memᴰ·tail {x = e} {xs = rest} m) = start-below l s rest (h .1) f m
 
 le-times : (r b x : ℕ) → x ≡ r * b → 1 ≤ x → b ≤ x
 le-times zero b x e p = absurd (omega arith)
@@ -148,7 +153,7 @@ module _ (l : Leg) (s : List Site) (numbered : Numbered s) (onLeg : LegOnGrid l)
   all [] k e b h f (List·Memᴰ·tail m) = absurd (List·Memᴰ·not-nil m)
   all (g ∷ gs) k e b h f (List·Memᴰ·tail m) = all gs (k .1) g (next e g gs h) k f m
 
-  -- NO DENOMINATOR PASSES 1,024,000,000
+  -- NO DENOMINATOR PASSES 2,304,000,000
   pub bounded : (es : List Entry) → IsSplitList l s es → (f : Entry) → List·Memᴰ f es → f .start .den ≤ maxDenominator
   bounded [] h f m = absurd (List·Memᴰ·not-nil m)
   bounded (e ∷ es) h f m = all es (h .rules .1) e (rw (h .opens) (omega arith)) (h .rules) f m

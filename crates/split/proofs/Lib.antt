@@ -8,6 +8,7 @@ pub mod Once
 pub mod Names
 pub mod Unlisted
 pub mod Denominators
+pub mod Bounds
 pub mod Choices
 pub mod Points
 pub mod HullLaws
@@ -17,3 +18,4 @@ pub mod Skipping
 pub mod Exists
 pub mod Dealing
 pub mod Starred
+pub mod Moved

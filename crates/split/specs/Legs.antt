@@ -1,4 +1,5 @@
--- The starred lines of document 01, "Legs to try", that end in a list: leg, sites, list.
+-- The starred lines of document 01, "Legs to try", that end in a list, and one with the corners of the grid as C-12 of
+-- document 02 has it: leg, sites, list.
 -- Assumes nothing.
 use mathlib.Core.List.{List, [], _∷_}
 use Prim.Native.Nat.{ℕ, _+_, _-_}
@@ -27,13 +28,9 @@ atSouth e n = record { east = halfWidth + e; north = halfWidth - n }
 abbrev pub atWest : ℕ → ℕ → Position
 atWest e n = record { east = halfWidth - e; north = halfWidth + n }
 
--- (-8000, -8000)
-abbrev pub southWest : Position
-southWest = record { east = 0; north = 0 }
-
--- (8000, 8000)
-abbrev pub northEast : Position
-northEast = at halfWidth halfWidth
+-- so far west and south of it
+abbrev pub atSouthWest : ℕ → ℕ → Position
+atSouthWest e n = record { east = halfWidth - e; north = halfWidth - n }
 
 -- site k
 abbrev pub site : ℕ → Position → Site
@@ -51,6 +48,14 @@ leg s e = record { s = s; e = e }
 abbrev pub ten : Leg
 ten = leg (at 0 0) (at 10 0)
 
+-- "Leg (-8000,-8000) to (8000,8000)"
+abbrev pub diagonal : Leg
+diagonal = leg (atSouthWest 8000 8000) (at 8000 8000)
+
+-- from corner to corner of the grid: (-12000,-12000) to (12000,12000)
+abbrev pub longest : Leg
+longest = leg (atSouthWest 12000 12000) (at 12000 12000)
+
 -- a line of the table
 abbrev pub try : Leg → List Site → List Entry → Try
 try l s es = record { leg = l; sites = s; list = es }
@@ -62,6 +67,8 @@ try l s es = record { leg = l; sites = s; list = es }
 -- "1 (8,0), 2 (12,0): 1 from 0/1; they tie at 1."
 -- "Leg (4,4) to (4,4), 7 (4,5), 3 (5,4): 3 from 0/1."
 -- "Leg (-8000,-8000) to (8000,8000), site 1 at its start and 2 at its end: 1 from 0/1, 2 from 1/2."
+-- Leg (-12000,-12000) to (12000,12000), site 1 (-11999,-12000), 2 (12000,12000): 1 from 0/1, 2 from
+-- 1151999999/2303952000, as near as can be to C-12's "2,304,000,000 at most".
 abbrev pub legs : List Try
 legs =
     try ten (site 1 (at 2 3) ∷ site 2 (at 7 1) ∷ []) (since (site 1 (at 2 3)) 0 1 ∷ since (site 2 (at 7 1)) 37 100 ∷ [])
@@ -72,7 +79,8 @@ legs =
     ∷ try ten (site 1 (atWest 2 0) ∷ site 2 (at 2 0) ∷ []) (since (site 2 (at 2 0)) 0 1 ∷ [])
     ∷ try ten (site 1 (at 8 0) ∷ site 2 (at 12 0) ∷ []) (since (site 1 (at 8 0)) 0 1 ∷ [])
     ∷ try (leg (at 4 4) (at 4 4)) (site 7 (at 4 5) ∷ site 3 (at 5 4) ∷ []) (since (site 3 (at 5 4)) 0 1 ∷ [])
-    ∷ try (leg southWest northEast) (site 1 southWest ∷ site 2 northEast ∷ []) (since (site 1 southWest) 0 1 ∷ since (site 2 northEast) 1 2 ∷ [])
+    ∷ try diagonal (site 1 (atSouthWest 8000 8000) ∷ site 2 (at 8000 8000) ∷ []) (since (site 1 (atSouthWest 8000 8000)) 0 1 ∷ since (site 2 (at 8000 8000)) 1 2 ∷ [])
+    ∷ try longest (site 1 (atSouthWest 11999 12000) ∷ site 2 (at 12000 12000) ∷ []) (since (site 1 (atSouthWest 11999 12000)) 0 1 ∷ since (site 2 (at 12000 12000)) 1151999999 2303952000 ∷ [])
     ∷ []
 
 -- the lists as document 01 has them

@@ -1,7 +1,9 @@
 pub mod SplitList
 pub mod DotProduct
+pub mod Bounds
 pub mod Hull
 pub mod Choice
 pub mod SplitOf
 pub mod Skip
 pub mod Legs
+pub mod Moved

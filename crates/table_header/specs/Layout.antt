@@ -29,7 +29,7 @@ layoutStart = 14
 
 -- the number of this layout: "its layout is the team's and stands in docs/"
 abbrev pub layoutNumber : ℕ
-layoutNumber = 1
+layoutNumber = 2
 
 -- the bytes that are kept for later: from behind the last field
 abbrev pub keptStart : ℕ

@@ -36,7 +36,7 @@ const KEPT_START: usize = LAYOUT_START + 2;
 const KEPT_END: usize = 64;
 
 // The number of this layout: docs/LAYOUT.md says when it goes up.
-const LAYOUT_NUMBER: u16 = 1;
+const LAYOUT_NUMBER: u16 = 2;
 
 // The number of sites.
 pub fn count(t: &[u8]) -> usize

@@ -8,6 +8,9 @@ pub const SITE_LEN: usize = 8;
 /// The work buffer has to have a row of 512 places.
 pub const WORK_NEEDED: usize = 1_024;
 
+/// The largest coordinate, counted from the grid's south-west corner.
+pub const FAR_EDGE: u16 = 2 * HALF_WIDTH as u16;
+
 /// Counted from the grid's south-west corner.
 fn steps(coordinate: i64) -> u16 {
     u16::try_from(coordinate + HALF_WIDTH).expect("on the grid")

@@ -1,13 +1,11 @@
 //! Input that the proved code refuses: it returns 0 and leaves every buffer. What is just within
 //! each limit is taken.
 
-use lists::{SITE_LEN, WORK_NEEDED, leg_words, probe_list, site_record, table};
-use reference::grid::{Leg, MOST_SITES, Site, WORK_LEN};
+use lists::{FAR_EDGE, SITE_LEN, WORK_NEEDED, leg_words, probe_list, site_record, table};
+use reference::grid::{HALF_WIDTH, Leg, MOST_SITES, Site, WORK_LEN};
 use reference::hull;
 use reference::layout::{Case, small_cases};
 use reference::record::Record;
-
-const FAR_EDGE: u16 = 16_000;
 
 #[derive(Clone, Debug, PartialEq, Eq)]
 struct Call {
@@ -56,7 +54,7 @@ fn sites(count: u16) -> Vec<Site> {
 
 /// All these sites are listed; with five of them the record has 53 bytes.
 fn call_of(count: u16) -> Call {
-    Call::new(&Leg::new((-8_000, 2), (8_000, 3)), &sites(count))
+    Call::new(&Leg::new((-HALF_WIDTH, 2), (HALF_WIDTH, 3)), &sites(count))
 }
 
 fn call() -> Call {

@@ -1,8 +1,8 @@
 //! Positions, sites and legs of document 01 ("Grid and sites"), and each of its limits once, as
 //! the requests of document 02 that have landed changed them.
 
-/// Coordinates run from `-HALF_WIDTH` to `HALF_WIDTH`.
-pub const HALF_WIDTH: i64 = 8_000;
+/// Coordinates run from `-HALF_WIDTH` to `HALF_WIDTH`. Document 02, C-12.
+pub const HALF_WIDTH: i64 = 12_000;
 pub const MOST_SITES: usize = 512;
 pub const TABLE_LEN: usize = 32_768;
 /// Document 02, C-21.
@@ -18,8 +18,8 @@ pub const WRONG_WORK: [usize; 8] = [
     4 * WORK_LEN,
     TABLE_LEN,
 ];
-/// No start in a split list has a larger denominator.
-pub const LARGEST_DENOMINATOR: u64 = 1_024_000_000;
+/// No start in a split list has a larger denominator. Document 02, C-12.
+pub const LARGEST_DENOMINATOR: u64 = 2_304_000_000;
 /// The batch program's two buffers.
 pub const INPUT_LEN: usize = 4_096;
 pub const REPORT_LEN: usize = 8_192;

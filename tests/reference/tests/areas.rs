@@ -78,5 +78,5 @@ fn from_one_corner_of_the_grid_to_the_other() {
         high: corner,
     };
     let other = Position::new(-HALF_WIDTH, -HALF_WIDTH);
-    assert_eq!(area.squared_distance(other), 512_000_000);
+    assert_eq!(area.squared_distance(other), 1_152_000_000);
 }

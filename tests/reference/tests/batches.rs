@@ -2,7 +2,7 @@
 
 use reference::book::{ALL_USED, Book, CUT_COMMAND, NO_ROOM, Reply, UNKNOWN_COMMAND, WRONG_LENGTH};
 use reference::command::{add, list, move_site, print, remove, stand};
-use reference::grid::{Leg, REPORT_LEN, Site, WORK_LEN, WRONG_WORK};
+use reference::grid::{HALF_WIDTH, Leg, REPORT_LEN, Site, WORK_LEN, WRONG_WORK};
 
 const LEG: Leg = Leg::new((0, 0), (10, 0));
 const OTHER_LEG: Leg = Leg::new((5, 5), (6, 6));
@@ -104,7 +104,7 @@ fn a_cut_command_gives_67_before_its_tests_and_before_68() {
     let refused_when_whole = [
         add(Site::new(0, 0, 0)),
         remove(0),
-        list(Leg::new((9000, 0), (0, 0))),
+        list(Leg::new((HALF_WIDTH + 1, 0), (0, 0))),
     ];
     for command in refused_when_whole {
         let cut = &command[..command.len() - 1];
@@ -131,7 +131,7 @@ fn without_room_for_2b_a_change_is_not_done() {
 
 #[test]
 fn refusal_records_need_room_for_two_bytes() {
-    let off_grid = Leg::new((0, 0), (0, 8001));
+    let off_grid = Leg::new((0, 0), (0, HALF_WIDTH + 1));
     let refused = [
         (add(Site::new(0, 0, 0)), 1),
         (stand(off_grid), 2),

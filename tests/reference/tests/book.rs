@@ -2,13 +2,13 @@
 
 use reference::book::Book;
 use reference::command::{Command, add, list, move_site, print, remove, stand};
-use reference::grid::{Leg, Position, Site};
+use reference::grid::{HALF_WIDTH, Leg, Position, Site};
 use reference::record::Record::{self, Accepted, List, Refused};
 use reference::split::{Entry, split_list};
 
 const LEG: Leg = Leg::new((0, 0), (10, 0));
 const OTHER_LEG: Leg = Leg::new((0, 0), (0, 10));
-const OFF_GRID: Leg = Leg::new((0, 0), (8001, 0));
+const OFF_GRID: Leg = Leg::new((0, 0), (HALF_WIDTH + 1, 0));
 
 /// Sites 1 and 2 and a standing leg whose list names both.
 fn two_sites() -> Book {
@@ -37,10 +37,10 @@ fn assert_refused(book: &Book, command: Vec<u8>, number: u8) {
 #[test]
 fn addition_tests_1_then_2_then_3_then_5() {
     let (book, full) = (two_sites(), full_table());
-    assert_refused(&full, add(Site::new(0, 8001, 0)), 1);
+    assert_refused(&full, add(Site::new(0, HALF_WIDTH + 1, 0)), 1);
     assert_refused(&book, add(Site::new(0, 0, 0)), 1);
-    assert_refused(&full, add(Site::new(1, 8001, 0)), 2);
-    assert_refused(&full, add(Site::new(600, 8001, 0)), 2);
+    assert_refused(&full, add(Site::new(1, HALF_WIDTH + 1, 0)), 2);
+    assert_refused(&full, add(Site::new(600, HALF_WIDTH + 1, 0)), 2);
     assert_refused(&full, add(Site::new(1, 0, 0)), 3);
     assert_refused(&book, add(Site::new(1, 0, 0)), 3);
     assert_refused(&full, add(Site::new(600, 0, 0)), 5);
@@ -56,10 +56,10 @@ fn removal_tests_1_then_4() {
 #[test]
 fn move_tests_1_then_2_then_4() {
     let book = two_sites();
-    assert_refused(&book, move_site(Site::new(0, 8001, 0)), 1);
+    assert_refused(&book, move_site(Site::new(0, HALF_WIDTH + 1, 0)), 1);
     assert_refused(&book, move_site(Site::new(0, 0, 0)), 1);
-    assert_refused(&book, move_site(Site::new(3, 8001, 0)), 2);
-    assert_refused(&book, move_site(Site::new(1, 8001, 0)), 2);
+    assert_refused(&book, move_site(Site::new(3, HALF_WIDTH + 1, 0)), 2);
+    assert_refused(&book, move_site(Site::new(1, HALF_WIDTH + 1, 0)), 2);
     assert_refused(&book, move_site(Site::new(3, 0, 0)), 4);
 }
 
@@ -84,12 +84,12 @@ fn print_tests_7_then_6() {
 /// The grid's ends on each axis, and the nearest and farthest coordinates off it.
 const COORDINATES: [(i64, bool); 8] = [
     (-32768, false),
-    (-8001, false),
-    (-8000, true),
+    (-HALF_WIDTH - 1, false),
+    (-HALF_WIDTH, true),
     (0, true),
-    (7999, true),
-    (8000, true),
-    (8001, false),
+    (HALF_WIDTH - 1, true),
+    (HALF_WIDTH, true),
+    (HALF_WIDTH + 1, false),
     (32767, false),
 ];
 

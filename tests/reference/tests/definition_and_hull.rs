@@ -2,7 +2,7 @@
 
 use reference::book::{Book, FEW_SITES};
 use reference::fraction::Fraction;
-use reference::grid::{Leg, MOST_SITES, Site};
+use reference::grid::{HALF_WIDTH, Leg, MOST_SITES, Site};
 use reference::hull;
 use reference::layout::{Case, LAYOUTS, case, small_cases};
 use reference::random::Random;
@@ -60,7 +60,7 @@ fn a_list_as_long_as_the_table() {
         Site::new(number, 31 * k - 7950, k % 5)
     };
     let sites: Vec<Site> = (1..=512).map(beside_the_leg).collect();
-    let leg = Leg::new((-8000, 2), (8000, 3));
+    let leg = Leg::new((-HALF_WIDTH, 2), (HALF_WIDTH, 3));
     let list = hull::split_list(&leg, &sites);
     assert_eq!(list.len(), MOST_SITES);
     assert_eq!(split_list(&leg, &sites), list);

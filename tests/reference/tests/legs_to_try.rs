@@ -84,10 +84,26 @@ fn a_leg_from_a_position_to_itself() {
 }
 
 #[test]
-fn from_corner_to_corner() {
+fn a_site_at_each_end_of_a_diagonal() {
     let leg = Leg::new((-8000, -8000), (8000, 8000));
     let sites = [Site::new(1, -8000, -8000), Site::new(2, 8000, 8000)];
     assert_listed(leg, &sites, &[Entry::new(1, 0, 1), Entry::new(2, 1, 2)]);
+}
+
+/// Document 02, C-12: 31 bits do not hold the denominator.
+#[test]
+fn from_corner_to_corner() {
+    let leg = Leg::new((-12000, -12000), (12000, 12000));
+    let sites = [Site::new(1, -11999, -12000), Site::new(2, 12000, 12000)];
+    let taking_over = Entry::new(2, 1_151_999_999, 2_303_952_000);
+    assert_listed(leg, &sites, &[Entry::new(1, 0, 1), taking_over]);
+    let bytes = Book::new().call(
+        &[sites.map(add).concat(), list(leg)].concat(),
+        WORK_LEN,
+        REPORT_LEN,
+    );
+    // Two additions, mark and count, the first entry, number and numerator, the denominator.
+    assert_eq!(bytes.report[21..], [0x80, 0x84, 0x53, 0x89]);
 }
 
 #[test]
@@ -104,9 +120,9 @@ fn without_a_standing_leg_and_a_site_a_print_gets_7() {
 }
 
 #[test]
-fn easting_8000_is_taken_and_8001_gets_2() {
-    let taken = add(Site::new(1, 8000, 0));
-    let off_grid = add(Site::new(2, 8001, 0));
+fn easting_12000_is_taken_and_12001_gets_2() {
+    let taken = add(Site::new(1, 12000, 0));
+    let off_grid = add(Site::new(2, 12001, 0));
     let answers = Book::new().records(&[taken, off_grid]);
     assert_eq!(answers, [Accepted, Refused(2)]);
 }

@@ -3,7 +3,7 @@
 use reference::batch_program;
 use reference::book::Book;
 use reference::command::{Command, add, list, move_site, print, remove, stand};
-use reference::grid::{Leg, Site};
+use reference::grid::{HALF_WIDTH, Leg, Site};
 use reference::record::Record;
 use std::path::Path;
 
@@ -43,7 +43,7 @@ fn the_example_is_the_batch_programs() {
 
 /// A command of each mark that meets all causes of its row that can go together, from the last on.
 fn refused(mark: u8, book: &mut Book) -> Vec<(u8, Vec<u8>)> {
-    let off = Leg::new((0, 0), (0, 8_001));
+    let off = Leg::new((0, 0), (0, HALF_WIDTH + 1));
     let on = Leg::new((0, 0), (0, 1));
     let full = |book: &mut Book| {
         let nth = |number| add(Site::new(number, 0, 0));
@@ -55,15 +55,15 @@ fn refused(mark: u8, book: &mut Book) -> Vec<(u8, Vec<u8>)> {
             vec![
                 (5, add(Site::new(600, 0, 0))),
                 (3, add(Site::new(1, 0, 0))),
-                (2, add(Site::new(1, 9_000, 0))),
-                (1, add(Site::new(0, 9_000, 0))),
+                (2, add(Site::new(1, HALF_WIDTH + 1, 0))),
+                (1, add(Site::new(0, HALF_WIDTH + 1, 0))),
             ]
         }
         0x44 => vec![(4, remove(9)), (1, remove(0))],
         0x4D => vec![
             (4, move_site(Site::new(9, 0, 0))),
-            (2, move_site(Site::new(9, 0, 9_000))),
-            (1, move_site(Site::new(0, 0, 9_000))),
+            (2, move_site(Site::new(9, 0, HALF_WIDTH + 1))),
+            (1, move_site(Site::new(0, 0, HALF_WIDTH + 1))),
         ],
         0x4C => vec![(6, list(on)), (2, list(off))],
         0x53 => vec![(2, stand(off))],

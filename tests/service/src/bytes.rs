@@ -1,16 +1,17 @@
 //! The table's layout, with the second program's positions, sites and legs.
 
 pub use binding::layout::*;
-use reference::grid::{HALF_WIDTH, Leg, Position, Site};
+use reference::grid::{self, Leg, Position, Site};
 
 /// From steps counted from the south-west corner.
 pub fn position(east: u16, north: u16) -> Position {
-    Position::new(i64::from(east) - HALF_WIDTH, i64::from(north) - HALF_WIDTH)
+    let coordinate = |steps: u16| i64::from(steps) - grid::HALF_WIDTH;
+    Position::new(coordinate(east), coordinate(north))
 }
 
 /// Easting and northing in steps from the south-west corner.
 pub fn steps(position: Position) -> (u16, u16) {
-    let word = |coordinate: i64| u16::try_from(coordinate + HALF_WIDTH).expect("on the grid");
+    let word = |coordinate: i64| u16::try_from(coordinate + grid::HALF_WIDTH).expect("on the grid");
     (word(position.east), word(position.north))
 }
 
@@ -37,9 +38,10 @@ pub fn leaf_entry(site: &Site) -> Entry {
     Entry::of_site(site.number, east, north)
 }
 
-/// The lengths of documents 01 and 02 are those of the layout and the header.
+/// The lengths and the grid of documents 01 and 02 are those of the layout and the header.
 const _: () = {
-    assert!(TABLE_LEN == reference::grid::TABLE_LEN);
-    assert!(WORK_LEN == reference::grid::WORK_LEN);
-    assert!(MOST_SITES == reference::grid::MOST_SITES);
+    assert!(TABLE_LEN == grid::TABLE_LEN);
+    assert!(WORK_LEN == grid::WORK_LEN);
+    assert!(MOST_SITES == grid::MOST_SITES);
+    assert!(HALF_WIDTH as i64 == grid::HALF_WIDTH);
 };

@@ -1,12 +1,12 @@
 //! Random commands over a pool of numbers, positions and legs, small enough that many meet.
 
 use reference::command;
-use reference::grid::{Leg, MOST_SITES, Position, Site};
+use reference::grid::{HALF_WIDTH, Leg, MOST_SITES, Position, Site};
 use reference::layout::{LAYOUTS, case};
 use reference::random::Random;
 
 /// Coordinates off the grid: the nearest and the farthest.
-const OFF_GRID: [i64; 4] = [-32_768, -8_001, 8_001, 32_767];
+const OFF_GRID: [i64; 4] = [-32_768, -HALF_WIDTH - 1, HALF_WIDTH + 1, 32_767];
 const KNOWN: [u8; 6] = [
     command::ADD,
     command::REMOVE,

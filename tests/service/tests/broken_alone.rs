@@ -6,14 +6,16 @@ use reference::command::{add, list, print, remove, stand};
 use reference::grid::{HALF_WIDTH, Leg, MOST_SITES, Position, Site};
 use reference::random::Random;
 use service::bytes::{
-    ENTRIES_LISTED, Entry, FREE_NODES, LEG_FLAG, LEG_WORDS, LEVELS, MOST_LEVELS, ROOT, empty_table,
-    free_at, leaf_entry, node_at, number, put_number, put_word, record_at, word,
+    ENTRIES_LISTED, Entry, FREE_NODES, LAYOUT, LAYOUT_NUMBER, LEG_FLAG, LEG_WORDS, LEVELS,
+    MOST_LEVELS, ROOT, empty_table, free_at, leaf_entry, node_at, number, put_number, put_word,
+    record_at, word,
 };
 use service::damage::{inner_nodes, nodes, offer};
 use service::draw::Pool;
 use service::shape::{self, Dealing, Limits};
-use service::table::{Rule, broken_rules};
+use service::table::{Rule, broken_rules, meaning};
 use service::{Service, on_each_service};
+use std::path::Path;
 
 const ROUNDS: usize = 120;
 
@@ -26,7 +28,25 @@ on_each_service!(
     boxes_that_are_not_the_smallest,
     pools_that_lose_or_double_a_node,
     a_513th_site_and_a_seventh_level,
+    a_table_of_release_0_7_0,
 );
+
+/// Its number alone tells it from a sound table, whose sites would stand elsewhere.
+fn a_table_of_release_0_7_0(service: &impl Service) {
+    let root = Path::new(env!("CARGO_MANIFEST_DIR")).join("../tables");
+    let mut table = std::fs::read(root.join("release-0.7.0.stops")).expect("the table is kept");
+    assert_eq!(word(&table, LAYOUT), 1);
+    assert_refused(service, &table, &[Rule::LayoutNumber]);
+    put_word(&mut table, LAYOUT, 0);
+    assert_refused(service, &table, &[Rule::LayoutNumber]);
+    put_word(&mut table, LAYOUT, LAYOUT_NUMBER);
+    let misread = meaning(&table).expect("no other rule is broken").book;
+    let dump = std::fs::read_to_string(root.join("release-0.7.0.dump")).expect("it is kept");
+    assert_eq!(misread.lines.len() + 1, dump.lines().count());
+    let site = misread.sites()[0];
+    let (east, north) = (site.position.east, site.position.north);
+    assert!(!dump.contains(&format!("add {} {east} {north}\n", site.number)));
+}
 
 /// A book with 12 to 80 sites and a standing leg.
 fn book(random: &mut Random) -> Book {

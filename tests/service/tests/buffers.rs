@@ -71,7 +71,7 @@ fn every_record_needs_just_its_own_length(service: &impl Service) {
         (stand(leg), 1),
         (add(Site::new(1, 1, 1)), 2),
         (remove(2), 2),
-        (stand(Leg::new((0, 0), (0, 8001))), 2),
+        (stand(Leg::new((0, 0), (0, HALF_WIDTH + 1))), 2),
         (list(leg), 13),
         (print(), 13),
     ];
@@ -146,7 +146,7 @@ fn all_512_sites_are_listed(service: &impl Service) {
     assert!(largest > Some(400_000) && largest <= Some(LARGEST_DENOMINATOR));
     // A full table with all listed: a move and a removal, and the list without the site.
     let commands = [
-        move_site(Site::new(256, 8_000, 8_000)),
+        move_site(Site::new(256, HALF_WIDTH, HALF_WIDTH)),
         print(),
         remove(1),
         print(),

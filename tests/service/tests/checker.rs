@@ -73,14 +73,14 @@ fn one_site_and_a_leg_stand_where_the_layout_says() {
     let commands = [add(Site::new(513, 2, -3)), stand(leg)].concat();
     let answer = Model.batch(&mut table, &mut [1; WORK_LEN], &commands, &mut [0; 2]);
     assert_eq!(answer, (0, 16, 2));
-    // 1 site, a leg, (8000,8000) to (8010,7990), 1 entry, layout 1.
+    // 1 site, a leg, (12000,12000) to (12010,11990), 1 entry, layout 2.
     let header = [
-        1, 0, 1, 0, 0x40, 0x1F, 0x40, 0x1F, 0x4A, 0x1F, 0x36, 0x1F, 1, 0, 1, 0,
+        1, 0, 1, 0, 0xE0, 0x2E, 0xE0, 0x2E, 0xEA, 0x2E, 0xD6, 0x2E, 1, 0, 2, 0,
     ];
     assert_eq!(table[..16], header);
     assert!(table[HEADER_KEPT].iter().all(|byte| *byte == 0));
-    // Site 513 at (8002,7997).
-    let record = [0x01, 0x02, 0x42, 0x1F, 0x3D, 0x1F, 0, 0];
+    // Site 513 at (12002,11997).
+    let record = [0x01, 0x02, 0xE2, 0x2E, 0xDD, 0x2E, 0, 0];
     assert_eq!(table[64..72], record);
     assert_eq!(table[4_160..4_162], [0x01, 0x02]);
     // One level, 263 free nodes, and the root.
@@ -89,7 +89,7 @@ fn one_site_and_a_leg_stand_where_the_layout_says() {
     let root = 6_896 + 98 * (usize::from(table[5_186]) + 256 * usize::from(table[5_187]));
     assert_eq!(table[root..root + 2], [1, 0]);
     assert_eq!(table[root + 2..root + 8], record[..6]);
-    assert_eq!(table[root + 8..root + 14], [0x42, 0x1F, 0x3D, 0x1F, 0, 0]);
+    assert_eq!(table[root + 8..root + 14], [0xE2, 0x2E, 0xDD, 0x2E, 0, 0]);
     assert_eq!(meaning(&table).unwrap().listed, [513]);
 }
 

@@ -1,4 +1,4 @@
-//! A copied checkout links its own library and has its own header's number, also with the build
+//! A copied checkout links its own library and has its own header's numbers, also with the build
 //! script that the first one compiled.
 
 use std::path::Path;
@@ -15,7 +15,8 @@ fn the_build_script_reads_where_it_is_at_run_time() {
         std::fs::create_dir_all(made).unwrap();
     }
     std::fs::write(libraries.join("libhost.a"), "of the copy").unwrap();
-    let header = "#define STOPS_TABLE_BYTES 5\n#define STOPS_WORK_BYTES 7\n";
+    let header =
+        "#define STOPS_TABLE_BYTES 5\n#define STOPS_WORK_BYTES 7\n#define STOPS_HALF_WIDTH 9\n";
     std::fs::write(include.join("stops.h"), header).unwrap();
     let script = folder.join("script");
     let rustc = std::env::var_os("RUSTC").unwrap_or("rustc".into());
@@ -43,8 +44,10 @@ fn the_build_script_reads_where_it_is_at_run_time() {
     let said = String::from_utf8(ran.stdout).unwrap();
     let searched = format!("cargo::rustc-link-search=native={}", out.display());
     assert!(said.lines().any(|line| line == searched), "{said}");
-    let handed_on = "cargo::rustc-env=STOPS_WORK_BYTES=7";
-    assert!(said.lines().any(|line| line == handed_on), "{said}");
+    for handed_on in ["STOPS_WORK_BYTES=7", "STOPS_HALF_WIDTH=9"] {
+        let handed_on = format!("cargo::rustc-env={handed_on}");
+        assert!(said.lines().any(|line| line == handed_on), "{said}");
+    }
     assert!(!said.contains(&first.display().to_string()), "{said}");
     assert!(!said.contains("list_probe"), "{said}");
 }

@@ -3,7 +3,7 @@
 
 use reference::book::Book;
 use reference::command::{add, list, print, remove, stand};
-use reference::grid::{Leg, Site};
+use reference::grid::{HALF_WIDTH, Leg, Site};
 use reference::record::Record;
 use std::path::{Path, PathBuf};
 use std::process::Command;
@@ -84,8 +84,8 @@ fn the_stored_text_is_what_the_second_program_answers() {
         Site::new(5, 120, 50),
         Site::new(6, 300, 0),
         Site::new(2, 0, 0),
-        Site::new(7, 8001, 0),
-        Site::new(8, -8000, 8000),
+        Site::new(7, HALF_WIDTH + 1, 0),
+        Site::new(8, -HALF_WIDTH, HALF_WIDTH),
     ];
     let leg = Leg::new((0, 0), (10, 0));
     let mut book = Book::new();

@@ -2,7 +2,7 @@
 
 use reference::book::Book;
 use reference::command::{self, Command as Bytes};
-use reference::grid::{Leg, Site};
+use reference::grid::{HALF_WIDTH, Leg, Site};
 use reference::random::{self, Random};
 use reference::record::Record;
 use std::io::Write;
@@ -71,7 +71,7 @@ fn commands_are_the_second_programs() {
     let program = program("header_write");
     let mut random = Random::new(181);
     let mut commands = random::commands(&mut random, 2_000);
-    for edge in [-32_768, -8_001, -1, 0, 255, 256, 32_767] {
+    for edge in [-32_768, -HALF_WIDTH - 1, -1, 0, 255, 256, 32_767] {
         let site = Site::new(65_535, edge, -1 - edge);
         let leg = Leg::new((edge, 1), (-1 - edge, edge));
         commands.extend([command::add(site), command::move_site(site)]);
@@ -123,7 +123,18 @@ fn records_are_read_as_the_second_program_writes_them() {
     let program = program("header_read");
     let mut random = Random::new(182);
     let mut book = Book::new();
-    let records = book.records(&random::commands(&mut random, 1_500));
+    let mut records = book.records(&random::commands(&mut random, 1_500));
+    // From corner to corner: 31 bits do not hold the denominator.
+    let corner = Site::new(65_535, HALF_WIDTH, HALF_WIDTH);
+    let leg = Leg::new((-HALF_WIDTH, -HALF_WIDTH), (HALF_WIDTH, HALF_WIDTH));
+    let beside = Site::new(1, 1 - HALF_WIDTH, -HALF_WIDTH);
+    let commands = [
+        command::add(corner),
+        command::add(beside),
+        command::list(leg),
+    ];
+    records.extend(Book::new().records(&commands));
+    assert!(in_words(&records[records.len() - 1]).ends_with(" 2303952000\n"));
     let bytes: Vec<u8> = records.iter().flat_map(Record::bytes).collect();
     let mut expected: String = records.iter().map(in_words).collect();
     expected += &format!("{} bytes read\n", bytes.len());

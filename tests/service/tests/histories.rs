@@ -2,7 +2,7 @@
 
 use reference::book::Book;
 use reference::command::{add, list, move_site, remove, stand};
-use reference::grid::{Leg, Site, TABLE_LEN, WORK_LEN, WRONG_WORK};
+use reference::grid::{HALF_WIDTH, Leg, Site, TABLE_LEN, WORK_LEN, WRONG_WORK};
 use reference::random::Random;
 use reference::record::Record::Accepted;
 use service::desk::{Desk, Lent, Tally};
@@ -96,8 +96,8 @@ fn a_table_of_wrong_length_gives_64(service: &impl Service) {
 /// Refused changes, lists and prints on tables of all sizes: the tree is not even reshaped.
 fn a_call_that_accepts_nothing_leaves_every_byte(service: &impl Service) {
     let mut random = Random::new(54);
-    let on_grid = Leg::new((-8000, 7), (8000, -300));
-    let off_grid = Leg::new((0, 0), (0, 8001));
+    let on_grid = Leg::new((-HALF_WIDTH, 7), (HALF_WIDTH, -300));
+    let off_grid = Leg::new((0, 0), (0, HALF_WIDTH + 1));
     for count in [1, 2, 7, 8, 9, 24, 100, 511, 512] {
         let pool = Pool::new(&mut random, count);
         let mut desk = Desk::lay_out(service);
@@ -108,7 +108,7 @@ fn a_call_that_accepts_nothing_leaves_every_byte(service: &impl Service) {
             add(Site::new(held, 1, 1)),
             add(Site::new(0, 1, 1)),
             remove(0),
-            move_site(Site::new(held, 8001, 0)),
+            move_site(Site::new(held, HALF_WIDTH + 1, 0)),
             list(off_grid),
             list(on_grid),
             stand(off_grid),

@@ -1,18 +1,21 @@
-//! docs/LAYOUT.md and the crate that reads tables have the same numbers, and the work buffer is as
-//! long there, and in docs/PROTOCOL.md, as in the header.
+//! docs/LAYOUT.md and the crate that reads tables have the same numbers; work buffer and grid are
+//! there, in docs/PROTOCOL.md and in the manual pages what the header says.
 
+use reference::grid::LARGEST_DENOMINATOR;
 use service::bytes::{
-    ENTRIES_LISTED, FREE_NODES, HEADER_KEPT, LAYOUT, LAYOUT_NUMBER, LEG_FLAG, LEG_WORDS, LEVELS,
-    MOST_NODES, MOST_SITES, NODE_LEN, NODE_POOL, RECORD_LEN, ROOT, SITE_ARRAY, SITES_HELD, STACK,
-    STACK_END, STANDING_LIST, TABLE_LEN, WORK_LEN,
+    ENTRIES_LISTED, FAR_EDGE, FREE_NODES, HALF_WIDTH, HEADER_KEPT, LAYOUT, LAYOUT_NUMBER, LEG_FLAG,
+    LEG_WORDS, LEVELS, MOST_NODES, MOST_SITES, NODE_LEN, NODE_POOL, RECORD_LEN, ROOT, SITE_ARRAY,
+    SITES_HELD, STACK, STACK_END, STANDING_LIST, TABLE_LEN, WORK_LEN,
 };
 use std::path::Path;
 
+fn at_root(name: &str) -> String {
+    let root = Path::new(env!("CARGO_MANIFEST_DIR")).join("../..");
+    std::fs::read_to_string(root.join(name)).unwrap()
+}
+
 fn read(name: &str) -> String {
-    let file = Path::new(env!("CARGO_MANIFEST_DIR"))
-        .join("../../docs")
-        .join(name);
-    std::fs::read_to_string(file).unwrap()
+    at_root(&format!("docs/{name}"))
 }
 
 /// What docs/LAYOUT.md says of the table, and of the work buffer.
@@ -149,4 +152,44 @@ fn the_protocol_asks_for_the_same_work_buffer() {
     let (_, asked) = protocol.split_once("a work buffer of ").unwrap();
     let (asked, _) = asked.split_once(" bytes").unwrap();
     assert_eq!(number(asked), Some(WORK_LEN));
+}
+
+/// `12,000`
+fn grouped(number: i64) -> String {
+    let digits = number.to_string();
+    let (head, tail) = digits.split_at((digits.len() - 1) % 3 + 1);
+    let thousands = tail.as_bytes().chunks(3).map(|three| {
+        let three = std::str::from_utf8(three).expect("digits");
+        format!(",{three}")
+    });
+    thousands.fold(head.to_string(), |all, part| all + &part)
+}
+
+#[test]
+fn the_grid_is_as_wide_as_the_header_says() {
+    let most = grouped(HALF_WIDTH.into());
+    let far = grouped(FAR_EDGE.into());
+    let denominator = grouped(LARGEST_DENOMINATOR.cast_signed());
+    let protocol = read("PROTOCOL.md");
+    for said in [
+        format!("a whole number from -{most} to {most}, "),
+        format!("| 2 | a coordinate is below -{most} or above {most} |"),
+        format!("no denominator is above {denominator}."),
+    ] {
+        assert!(protocol.contains(&said), "{said}");
+    }
+    let layout = text();
+    for said in [
+        format!("0 to {far}: the signed number of a command plus {most}."),
+        format!("| 2 | 2 | easting | at most {far} |"),
+        format!("| 4 | 2 | northing | at most {far} |"),
+    ] {
+        assert!(layout.contains(&said), "{said}");
+    }
+    let manual = at_root("package/stops.1");
+    assert!(manual.contains(&format!("from \\-{HALF_WIDTH} to {HALF_WIDTH};")));
+    let help = at_root("text/src/help.txt");
+    assert!(help.contains(&format!(
+        " -{HALF_WIDTH} to {HALF_WIDTH}, in steps of 100 m"
+    )));
 }

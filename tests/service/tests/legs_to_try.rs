@@ -1,7 +1,7 @@
 //! Every line of "Legs to try" in document 01, by laying out and batches.
 
 use reference::book::{CUT_COMMAND, Reply};
-use reference::command::{add, list, print, remove, stand};
+use reference::command::{add, list, move_site, print, remove, stand};
 use reference::grid::{Leg, MOST_SITES, REPORT_LEN, Site, WORK_LEN};
 use reference::record::Record::{Accepted, List, Refused};
 use reference::split::Entry;
@@ -18,9 +18,11 @@ on_each_service!(
     a_tie_at_0_goes_to_the_site_nearer_after_it,
     a_tie_at_1_starts_no_entry,
     a_leg_from_a_position_to_itself,
+    a_site_at_each_end_of_a_diagonal,
     from_corner_to_corner,
     no_site_gets_6_and_a_print_without_leg_and_site_7,
-    easting_8000_is_taken_and_8001_gets_2,
+    easting_12000_is_taken_and_12001_gets_2,
+    each_side_of_the_grid_for_sites_legs_and_standing_legs,
     the_513th_site_gets_5_until_one_is_removed,
     three_bytes_of_an_addition_are_cut_short,
 );
@@ -79,7 +81,21 @@ fn a_leg_from_a_position_to_itself(service: &impl Service) {
     assert_listed(service, leg, &sites, &[Entry::new(3, 0, 1)]);
 }
 
+/// Document 02, C-12: 31 bits do not hold the denominator.
 fn from_corner_to_corner(service: &impl Service) {
+    let leg = Leg::new((-12000, -12000), (12000, 12000));
+    let sites = [Site::new(1, -11999, -12000), Site::new(2, 12000, 12000)];
+    let taking_over = Entry::new(2, 1_151_999_999, 2_303_952_000);
+    assert_listed(service, leg, &sites, &[Entry::new(1, 0, 1), taking_over]);
+    let mut desk = Desk::lay_out(service);
+    desk.records(&sites.map(add));
+    let reply = desk.call(&list(leg), WORK_LEN, REPORT_LEN);
+    let denominator = reply.report[19..23].try_into().expect("two entries");
+    assert_eq!(u32::from_le_bytes(denominator), 2_303_952_000);
+    assert!(i32::from_le_bytes(denominator) < 0);
+}
+
+fn a_site_at_each_end_of_a_diagonal(service: &impl Service) {
     let leg = Leg::new((-8000, -8000), (8000, 8000));
     let sites = [Site::new(1, -8000, -8000), Site::new(2, 8000, 8000)];
     let entries = [Entry::new(1, 0, 1), Entry::new(2, 1, 2)];
@@ -94,11 +110,38 @@ fn no_site_gets_6_and_a_print_without_leg_and_site_7(service: &impl Service) {
     assert_eq!(answers, [Accepted, Refused(6)]);
 }
 
-fn easting_8000_is_taken_and_8001_gets_2(service: &impl Service) {
-    let taken = add(Site::new(1, 8000, 0));
-    let off_grid = add(Site::new(2, 8001, 0));
+fn easting_12000_is_taken_and_12001_gets_2(service: &impl Service) {
+    let taken = add(Site::new(1, 12000, 0));
+    let off_grid = add(Site::new(2, 12001, 0));
     let answers = Desk::lay_out(service).records(&[taken, off_grid]);
     assert_eq!(answers, [Accepted, Refused(2)]);
+}
+
+/// Document 02, C-12: "Refusal 2 and its cases move to 12,000 and 12,001".
+fn each_side_of_the_grid_for_sites_legs_and_standing_legs(service: &impl Service) {
+    for (c, taken) in [(12_000, true), (12_001, false)] {
+        for (east, north) in [(c, 0), (-c, 0), (0, c), (0, -c)] {
+            let (site, leg) = (Site::new(7, east, north), Leg::new((0, 0), (east, north)));
+            let back = Leg { s: leg.e, e: leg.s };
+            let mut desk = Desk::lay_out(service);
+            let commands = [
+                add(site),
+                move_site(site),
+                list(leg),
+                list(back),
+                stand(leg),
+                stand(back),
+            ];
+            let listed = List(vec![Entry::new(7, 0, 1)]);
+            let expected = if taken {
+                let [a, b] = [Accepted, Accepted];
+                vec![a, b, listed.clone(), listed, Accepted, Accepted]
+            } else {
+                vec![Refused(2); 6]
+            };
+            assert_eq!(desk.records(&commands), expected, "({east},{north})");
+        }
+    }
 }
 
 fn the_513th_site_gets_5_until_one_is_removed(service: &impl Service) {

@@ -237,10 +237,10 @@ impl Drop for ReadOnly {
 fn a_table_that_can_only_be_read() {
     let table = ReadOnly::of(&filled());
     let mut desk = Desk::take_up(&Proved, filled());
-    let off_grid = Leg::new((0, 0), (0, 8_001));
+    let off_grid = Leg::new((0, 0), (0, HALF_WIDTH + 1));
     let refused = [
         add(Site::new(0, 0, 0)),
-        add(Site::new(3, 8_001, 0)),
+        add(Site::new(3, HALF_WIDTH + 1, 0)),
         add(Site::new(1, 0, 0)),
         remove(3),
         move_site(Site::new(3, 0, 0)),

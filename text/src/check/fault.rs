@@ -1,6 +1,7 @@
 //! A broken rule: where, what, and the bytes.
 
-use binding::layout::number;
+use crate::grid::grouped;
+use binding::layout::{far_edge, number};
 use std::fmt;
 
 #[derive(Clone, Debug, PartialEq, Eq)]
@@ -52,15 +53,8 @@ impl fmt::Display for Fault {
     }
 }
 
-/// `8,562`
-pub fn grouped(number: usize) -> String {
-    let digits = number.to_string();
-    let mut grouped = String::new();
-    for (i, digit) in digits.chars().enumerate() {
-        if i > 0 && (digits.len() - i).is_multiple_of(3) {
-            grouped.push(',');
-        }
-        grouped.push(digit);
-    }
-    grouped
+/// What is said of a coordinate that its table's grid does not have.
+pub fn off_grid(table: &[u8], name: &str) -> String {
+    let edge = grouped(far_edge(table).into());
+    format!("the {name} is off the grid, 0 to {edge} from its edge")
 }

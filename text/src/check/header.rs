@@ -1,13 +1,13 @@
 //! The header's number of the layout and the bytes kept for later.
 
 use super::fault::Fault;
-use binding::layout::{HEADER_KEPT, LAYOUT, LAYOUT_NUMBER, UNNUMBERED, word};
+use binding::layout::{HEADER_KEPT, LAYOUT, LAYOUT_NUMBER, is_earlier, word};
 
 pub fn faults(table: &[u8]) -> Vec<Fault> {
     let mut faults = Vec::new();
     let other = match word(table, LAYOUT) {
         LAYOUT_NUMBER => None,
-        UNNUMBERED => Some("no number of a layout, as before release 0.6.0: --dump reads such"),
+        _ if is_earlier(table) => Some("the number of an earlier layout: --dump reads such"),
         _ => Some("the number of another layout: this release cannot read it"),
     };
     if let Some(what) = other {

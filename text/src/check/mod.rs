@@ -15,12 +15,12 @@ mod tree;
 
 use crate::command::Command;
 use crate::desk::Desk;
-use crate::grid::Site;
+use crate::grid::{Site, grouped};
 use crate::status::{Failure, Met};
 use crate::store::table_of;
 use crate::{show, table};
 use binding::layout::TABLE_LEN;
-use fault::{Fault, grouped};
+use fault::Fault;
 use std::io::Write;
 
 /// So many broken rules are told; one fault often breaks many.
@@ -92,7 +92,7 @@ fn readable(bytes: &[u8]) -> Vec<Site> {
         .zip(binding::layout::records(&whole))
     {
         let known = sites.iter().any(|other| other.number == site.number);
-        if site.number > 0 && sites::on_grid(&record) && !known {
+        if site.number > 0 && sites::on_grid(&whole, &record) && !known {
             sites.push(site);
         }
     }

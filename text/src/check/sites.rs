@@ -1,7 +1,7 @@
 //! The site array: numbers rise, positions are on the grid, kept words are 0.
 
-use super::fault::Fault;
-use binding::layout::{FAR_EDGE, MOST_SITES, Record, SITES_HELD, number, record_at, records};
+use super::fault::{Fault, off_grid};
+use binding::layout::{MOST_SITES, Record, SITES_HELD, far_edge, number, record_at, records};
 
 pub fn faults(table: &[u8]) -> Vec<Fault> {
     let mut faults = Vec::new();
@@ -11,29 +11,29 @@ pub fn faults(table: &[u8]) -> Vec<Fault> {
     }
     let mut last = 0;
     for (k, record) in records(table).enumerate() {
-        let mut fault = |offset: usize, what: &str| {
+        let mut fault = |offset: usize, what: String| {
             let place = format!("site record {k}");
             faults.push(Fault::at(table, record_at(k) + offset, place, what));
         };
         if record.number == 0 {
-            fault(0, "0 is no site's number");
+            fault(0, "0 is no site's number".into());
         } else if record.number <= last {
-            fault(0, "the number is not above the one before");
+            fault(0, "the number is not above the one before".into());
         }
-        if record.east > FAR_EDGE {
-            fault(2, "the easting is off the grid, 0 to 16,000 from its edge");
+        if record.east > far_edge(table) {
+            fault(2, off_grid(table, "easting"));
         }
-        if record.north > FAR_EDGE {
-            fault(4, "the northing is off the grid, 0 to 16,000 from its edge");
+        if record.north > far_edge(table) {
+            fault(4, off_grid(table, "northing"));
         }
         if record.kept != 0 {
-            fault(6, "kept for later: it is 0");
+            fault(6, "kept for later: it is 0".into());
         }
         last = last.max(record.number);
     }
     faults
 }
 
-pub fn on_grid(record: &Record) -> bool {
-    record.east <= FAR_EDGE && record.north <= FAR_EDGE
+pub fn on_grid(table: &[u8], record: &Record) -> bool {
+    record.east <= far_edge(table) && record.north <= far_edge(table)
 }

@@ -1,11 +1,11 @@
 //! The standing leg and the numbers of its list.
 
-use super::fault::Fault;
+use super::fault::{Fault, off_grid};
 use crate::command::Command;
 use crate::service::Service;
 use crate::status::Failure;
 use crate::table;
-use binding::layout::{ENTRIES_LISTED, FAR_EDGE, LEG_FLAG, LEG_WORDS, listed_at, number, word};
+use binding::layout::{ENTRIES_LISTED, LEG_FLAG, LEG_WORDS, far_edge, listed_at, number, word};
 
 const WORDS: [&str; 4] = [
     "easting of S",
@@ -25,10 +25,8 @@ pub fn leg_faults(table: &[u8]) -> Vec<Fault> {
         let fault = |what: String| Fault::at(table, at, "standing leg", what);
         if flag == 0 && word(table, at) != 0 {
             faults.push(fault(format!("no leg is set, but its {name} is")).belongs(0u16));
-        } else if word(table, at) > FAR_EDGE {
-            faults.push(fault(format!(
-                "the {name} is off the grid, 0 to 16,000 from its edge"
-            )));
+        } else if word(table, at) > far_edge(table) {
+            faults.push(fault(off_grid(table, name)));
         }
     }
     faults

@@ -1,11 +1,12 @@
 //! The verdict is the service's on every table tried, and each rule is told with its byte.
 
 use super::faults;
+use crate::grid::grouped;
 use crate::service::Service;
 use binding::layout::{
-    ENTRIES_LISTED, FREE_NODES, HEADER_KEPT, LAYOUT, LAYOUT_NUMBER, LEG_FLAG, LEVELS, MOST_LEVELS,
-    ROOT, SITES_HELD, STACK_END, TABLE_LEN, entry_at, free_at, listed_at, node_at, number,
-    put_number, put_word, record_at, word,
+    ENTRIES_LISTED, FREE_NODES, HALF_WIDTH, HEADER_KEPT, LAYOUT, LAYOUT_NUMBER, LEG_FLAG, LEVELS,
+    MOST_LEVELS, ROOT, SITES_HELD, STACK_END, TABLE_LEN, entry_at, free_at, listed_at, node_at,
+    number, put_number, put_word, record_at, word,
 };
 use reference::book::Book;
 use reference::command::{add, stand};
@@ -100,7 +101,7 @@ fn words_exchanged_and_rubbish() {
             let value = match random.between(1, 4) {
                 1 => random.index(10),
                 2 => random.index(266),
-                3 => 7_990 + random.index(20),
+                3 => usize::from(HALF_WIDTH) - 10 + random.index(20),
                 _ => number(&table, 2 * random.index(STACK_END / 2)),
             };
             let at = match random.between(1, 3) {
@@ -167,16 +168,20 @@ fn rules_on_header_and_sites() {
             HEADER_KEPT.start
         )]
     );
-    let unnumbered = "no number of a layout, as before release 0.6.0: --dump reads such";
+    let earlier = "the number of an earlier layout: --dump reads such";
     let unknown = "the number of another layout: this release cannot read it";
-    for number in [0, 2, 256, 257, u16::MAX] {
+    for number in [0, 1, 3, 256, 258, u16::MAX] {
         assert_ne!(number, LAYOUT_NUMBER);
-        let what = if number == 0 { unnumbered } else { unknown };
-        let stands = super::grouped(number.into());
+        let what = if number < LAYOUT_NUMBER {
+            earlier
+        } else {
+            unknown
+        };
+        let stands = grouped(number.into());
         assert_eq!(
             edited(|t, _, _| put_word(t, LAYOUT, number)),
             [format!(
-                "header: {what}, byte 14: {stands} stands there, 1 belongs there"
+                "header: {what}, byte 14: {stands} stands there, {LAYOUT_NUMBER} belongs there"
             )]
         );
     }
@@ -194,13 +199,13 @@ fn rules_on_header_and_sites() {
         ),
         (
             2,
-            16_001,
-            "the easting is off the grid, 0 to 16,000 from its edge, byte 106: 16,001 stands there",
+            24_001,
+            "the easting is off the grid, 0 to 24,000 from its edge, byte 106: 24,001 stands there",
         ),
         (
             4,
             65_535,
-            "the northing is off the grid, 0 to 16,000 from its edge, byte 108: 65,535 stands there",
+            "the northing is off the grid, 0 to 24,000 from its edge, byte 108: 65,535 stands there",
         ),
         (6, 1, "kept for later: it is 0, byte 110: 1 stands there"),
     ];
@@ -218,12 +223,12 @@ fn rules_on_the_standing_leg_and_list() {
     );
     assert_eq!(
         edited(|t, _, _| put_word(t, LEG_FLAG, 0))[0],
-        "standing leg: no leg is set, but its easting of S is, byte 4: 8,000 stands there, 0 belongs there"
+        "standing leg: no leg is set, but its easting of S is, byte 4: 12,000 stands there, 0 belongs there"
     );
     assert_eq!(
-        edited(|t, _, _| put_word(t, 10, 16_001)),
+        edited(|t, _, _| put_word(t, 10, 24_001)),
         [
-            "standing leg: the northing of E is off the grid, 0 to 16,000 from its edge, byte 10: 16,001 stands there"
+            "standing leg: the northing of E is off the grid, 0 to 24,000 from its edge, byte 10: 24,001 stands there"
         ]
     );
     let listed = number(&two_levels(), ENTRIES_LISTED);
@@ -244,11 +249,11 @@ fn rules_on_the_standing_leg_and_list() {
 
 #[test]
 fn rules_on_entries_and_boxes() {
-    let wider = edited(|t, root, _| put_word(t, entry_at(root, 3) + 4, 7_999));
+    let wider = edited(|t, root, _| put_word(t, entry_at(root, 3) + 4, 11_999));
     assert_eq!(
         wider,
         [
-            "node 263, entry 3: box is wider than what lies under it, byte 32,712: 7,999 stands there, 8,000 belongs there"
+            "node 263, entry 3: box is wider than what lies under it, byte 32,712: 11,999 stands there, 12,000 belongs there"
         ]
     );
     let narrower = edited(|t, root, _| {
@@ -259,7 +264,7 @@ fn rules_on_entries_and_boxes() {
     assert_eq!(
         narrower,
         [
-            "node 263, entry 0: box is narrower than what lies under it, byte 32,678: 8,023 stands there, 8,024 belongs there"
+            "node 263, entry 0: box is narrower than what lies under it, byte 32,678: 12,023 stands there, 12,024 belongs there"
         ]
     );
     let kept = edited(|t, _, leaf| put_word(t, entry_at(leaf, 7) + 10, 256));
@@ -270,7 +275,7 @@ fn rules_on_entries_and_boxes() {
     let wide = edited(|t, _, leaf| t[entry_at(leaf, 2) + 8] += 1);
     assert_eq!(
         wide[0],
-        "node 262, entry 2: a leaf's box is a point, but its north is not its south, byte 32,606: 8,001 stands there"
+        "node 262, entry 2: a leaf's box is a point, but its north is not its south, byte 32,606: 12,001 stands there"
     );
     let renumbered = edited(|t, _, leaf| put_word(t, entry_at(leaf, 3), 999));
     assert_eq!(
@@ -281,13 +286,13 @@ fn rules_on_entries_and_boxes() {
         ]
     );
     let moved = edited(|t, _, leaf| {
-        put_word(t, entry_at(leaf, 3) + 2, 8_013);
-        put_word(t, entry_at(leaf, 3) + 6, 8_013);
+        put_word(t, entry_at(leaf, 3) + 2, 12_013);
+        put_word(t, entry_at(leaf, 3) + 6, 12_013);
     });
     assert_eq!(
         moved,
         [
-            "node 262, entry 3: not the easting of the site's record, byte 32,612: 8,013 stands there"
+            "node 262, entry 3: not the easting of the site's record, byte 32,612: 12,013 stands there"
         ]
     );
     let twice = edited(|t, _, leaf| {

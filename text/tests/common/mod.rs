@@ -2,6 +2,7 @@
 #![allow(dead_code)] // Each test file uses its part.
 
 use reference::command::Command as Bytes;
+pub use reference::grid::HALF_WIDTH;
 use reference::grid::Site;
 use std::io::Write;
 use std::path::{Path, PathBuf};
@@ -9,6 +10,16 @@ use std::process::{Command, Stdio};
 use std::thread;
 
 pub const PROGRAM: &str = env!("CARGO_BIN_EXE_stops-text");
+
+/// One step past it.
+pub const OFF_GRID: i64 = HALF_WIDTH + 1;
+
+/// The grid's coordinates, as messages have them.
+pub fn span() -> String {
+    assert_eq!(HALF_WIDTH % 1_000, 0);
+    let most = format!("{},000", HALF_WIDTH / 1_000);
+    format!("-{most} to {most}")
+}
 
 pub struct Ran {
     pub code: i32,

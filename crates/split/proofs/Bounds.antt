@@ -1,0 +1,87 @@
+-- Squared distances, dot products and comparisons of fractions on the grid keep within their bounds.
+-- Assumes nothing.
+use mathlib.Core.Path.{_≡_, ap}
+use mathlib.Core.List.{List, List·Memᴰ}
+use Prim.Native.Nat.{ℕ, _+_, _*_, _-_, _≤_, _<_}
+use native.Mathlib.Nat.{mul-le-mul}
+use native.Mathlib.Decide.{decLe}
+use native.Mathlib.Omega.{arith}
+use Rattle.limits.specs.Limits.{gridWidth, maxSquare, maxDenominator, maxComparison}
+use Rattle.grid.specs.declared.Fraction.{Fraction}
+use Rattle.grid.specs.declared.Leg.{Leg}
+use Rattle.grid.specs.declared.Site.{Site}
+use Rattle.grid.specs.Position.{OnGrid, LegOnGrid}
+use Rattle.grid.proofs.Squares.{distance-most}
+use Rattle.split.specs.SplitList.{Entry}
+use Rattle.split.specs.Bounds.{Bounded, ListOnGrid, ComparisonFits}
+use Rattle.split.proofs.Denominators.{start-below, bounded}
+
+-- (p - s)(e - s) on one axis lies between -gridWidth² and gridWidth²
+abbrev Within : ℕ → ℕ → ℕ → Type 0
+Within p s e = (p * e + s * s ≤ p * s + s * e + maxSquare) × (p * s + s * e ≤ p * e + s * s + maxSquare)
+
+module _ (p s e : ℕ) (hp : p ≤ gridWidth) (hs : s ≤ gridWidth) (he : e ≤ gridWidth) where
+  square-most : (x y : ℕ) → x ≤ gridWidth → y ≤ gridWidth → x * y ≤ maxSquare
+  square-most x y h k = mul-le-mul {n₁ = x} {m₁ = y} {n₂ = gridWidth} {m₂ = gridWidth} h k
+
+  -- by the differences x and y of p and e from s, each on its side of s
+  axis : Within p s e
+  axis = go (decLe s p) (decLe s e)
+    where
+      above : (x y : ℕ) → p ≡ s + x → e ≡ s + y → Within p s e
+      above x y ex ey =
+          let k : x * y ≤ maxSquare = square-most x y (omega arith) (omega arith) in
+          rw (ex, ey) (omega arith, omega arith)
+
+      right : (x y : ℕ) → p ≡ s + x → s ≡ e + y → Within p s e
+      right x y ex ey =
+          let k : x * y ≤ maxSquare = square-most x y (omega arith) (omega arith) in
+          rw (ex, ey) (omega arith, omega arith)
+
+      left : (x y : ℕ) → s ≡ p + x → e ≡ s + y → Within p s e
+      left x y ex ey =
+          let k : x * y ≤ maxSquare = square-most x y (omega arith) (omega arith) in
+          rw (ey, ex) (omega arith, omega arith)
+
+      below : (x y : ℕ) → p + x ≡ s → e + y ≡ s → Within p s e
+      below x y ex ey =
+          let k : x * y ≤ maxSquare = square-most x y (omega arith) (omega arith) in
+          let u : (p + x) * y ≡ s * y = ap (λ (z : ℕ). z * y) ex in
+          let v : (e + y) * s ≡ s * s = ap (λ (z : ℕ). z * s) ey in
+          let w : (e + y) * p ≡ s * p = ap (λ (z : ℕ). z * p) ey in
+          (omega arith, omega arith)
+
+      go : Dec (s ≤ p) → Dec (s ≤ e) → Within p s e
+      go (yes h) (yes k) = above (p - s) (e - s) (omega arith) (omega arith)
+      go (yes h) (no k) = right (p - s) (s - e) (omega arith) (omega arith)
+      go (no h) (yes k) = left (s - p) (e - s) (omega arith) (omega arith)
+      go (no h) (no k) = below (s - p) (s - e) (omega arith) (omega arith)
+
+-- EVERY SITE AND LEG ON THE GRID
+pub on-grid-bounded : (l : Leg) (p : Site) → LegOnGrid l → OnGrid (p .position) → Bounded l p
+on-grid-bounded l p hl hp =
+    let a : Within (p .position .east) (l .s .east) (l .e .east) = axis _ _ _ (hp .east) (hl .s .east) (hl .e .east) in
+    let b : Within (p .position .north) (l .s .north) (l .e .north) = axis _ _ _ (hp .north) (hl .s .north) (hl .e .north) in
+    record {
+      from-s = distance-most (p .position) (l .s) hp (hl .s);
+      from-e = distance-most (p .position) (l .e) hp (hl .e);
+      dot-above = omega arith;
+      dot-below = omega arith;
+    }
+
+-- ANY TWO STARTS of lists on the grid, of one list or of two
+pub starts-compared : (es fs : List Entry) → ListOnGrid es → ListOnGrid fs → (e f : Entry) → List·Memᴰ e es → List·Memᴰ f fs → ComparisonFits (e .start) (f .start)
+starts-compared es fs h k e f me mf =
+    record {
+      left = product _ _ (start-most es h e me .0) (start-most fs k f mf .1);
+      right = product _ _ (start-most fs k f mf .0) (start-most es h e me .1);
+    }
+  where
+    product : (x y : ℕ) → x ≤ maxDenominator → y ≤ maxDenominator → x * y ≤ maxComparison
+    product x y a b = mul-le-mul {n₁ = x} {m₁ = y} {n₂ = maxDenominator} {m₂ = maxDenominator} a b
+
+    start-most : (gs : List Entry) → ListOnGrid gs → (g : Entry) → List·Memᴰ g gs → (g .start .num ≤ maxDenominator) × (g .start .den ≤ maxDenominator)
+    start-most gs i g m =
+        let d : g .start .den ≤ maxDenominator = bounded (i .leg) (i .sites) (i .numbered) (i .leg-on) (i .sites-on) gs (i .is) g m in
+        let n : g .start .num < g .start .den = start-below (i .leg) (i .sites) gs (i .is .rules) g m in
+        (omega arith, d)
