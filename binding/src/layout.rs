@@ -48,7 +48,7 @@ pub const FEWEST_IN_ROOT: usize = 2;
 pub const MOST_LEVELS: usize = 6;
 
 /// Coordinates of commands run from `-HALF_WIDTH` to `HALF_WIDTH`: what include/stops.h says.
-pub const HALF_WIDTH: u16 = of_header(env!("STOPS_HALF_WIDTH")) as u16;
+pub const HALF_WIDTH: u16 = to_half_width(of_header(env!("STOPS_HALF_WIDTH")));
 /// A coordinate at the grid's far edge, counted from the south-west corner.
 pub const FAR_EDGE: u16 = 2 * HALF_WIDTH;
 /// The half-width of layouts 0 and 1, whose coordinates are counted from that grid's corner.
@@ -59,6 +59,12 @@ const fn of_header(digits: &str) -> usize {
         Ok(number) => number,
         Err(_) => panic!("the header defines a plain number"),
     }
+}
+
+/// So that twice as much has 15 bits.
+const fn to_half_width(number: usize) -> u16 {
+    assert!(number < 1 << 14);
+    number as u16
 }
 
 pub fn word(table: &[u8], at: usize) -> u16 {

@@ -6,22 +6,29 @@
 use crate::command::Command;
 use crate::desk::Desk;
 use crate::earlier::renewed;
-use crate::service::Service;
 use crate::status::{Failure, Met};
 use crate::{store, table};
-use binding::layout::TABLE_LEN;
+use binding::layout::{LAYOUT, TABLE_LEN, is_earlier, word};
 use std::ffi::OsStr;
 use std::io::Write;
 
-/// A service on a table that it takes, or that the release of an earlier layout took.
-pub fn table_of(file: &OsStr, table: Vec<u8>) -> Result<Service, Failure> {
-    if table.len() != TABLE_LEN {
-        return store::table_of(file, table);
+/// Of a table that the service takes, or that the release of an earlier layout took.
+pub fn dump<W: Write, E: Write>(
+    file: &OsStr,
+    table: Vec<u8>,
+    desk: &mut Desk<W, E>,
+) -> Result<Met, Failure> {
+    let earlier = (table.len() == TABLE_LEN && is_earlier(&table)).then(|| word(&table, LAYOUT));
+    let service = match earlier {
+        Some(_) => store::table_of(file, renewed(table))?,
+        None => store::table_of(file, table)?,
+    };
+    if let Some(number) = earlier {
+        let name = file.display();
+        desk.console.say(format_args!(
+            "{name} is of layout {number}, and read as such"
+        ));
     }
-    store::table_of(file, renewed(table))
-}
-
-pub fn dump<W: Write, E: Write>(service: &Service, desk: &mut Desk<W, E>) -> Result<Met, Failure> {
     let adds = table::sites(service.table()).into_iter().map(Command::Add);
     let stand = table::leg(service.table()).map(Command::Stand);
     for command in adds.chain(stand) {

@@ -3,16 +3,12 @@
 
 use binding::layout::{
     EARLIER_HALF_WIDTH, HALF_WIDTH, LAYOUT, LAYOUT_NUMBER, LEG_FLAG, LEG_WORDS, MOST_ENTRIES,
-    MOST_NODES, MOST_SITES, SITES_HELD, entry_at, far_edge, is_earlier, number, put_word,
-    record_at, word,
+    MOST_NODES, MOST_SITES, SITES_HELD, entry_at, far_edge, number, put_word, record_at, word,
 };
 
 /// The same sites, leg and tree in this layout, for a table of an earlier one. It is sound exactly
 /// where the table was: one with a coordinate off its own grid is left, and so refused.
 pub fn renewed(mut table: Vec<u8>) -> Vec<u8> {
-    if !is_earlier(&table) {
-        return table;
-    }
     let held = positions(&table);
     if held.iter().any(|at| word(&table, *at) > far_edge(&table)) {
         return table;

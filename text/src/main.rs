@@ -92,7 +92,7 @@ fn serve(options: &Options) -> Result<Met, Failure> {
             let table = input.whole()?;
             match options.mode {
                 Mode::Check => check::tell(&table, &mut desk),
-                _ => dump::dump(&dump::table_of(file, table)?, &mut desk),
+                _ => dump::dump(file, table, &mut desk),
             }
         }
     }

@@ -113,7 +113,7 @@ fn for_each_record(
 mod tests {
     use super::*;
     use reference::command::{add, list, print, stand};
-    use reference::grid::{HALF_WIDTH, Leg, Site};
+    use reference::grid::{HALF_WIDTH, Leg, Site, spread};
 
     fn serve(service: &mut Service, commands: &[u8]) -> (Vec<Record>, Option<u32>) {
         let mut records = Vec::new();
@@ -141,7 +141,7 @@ mod tests {
     #[test]
     fn a_full_report_is_emptied_and_the_batch_goes_on() {
         let mut service = Service::new().unwrap();
-        let sites = (1..=512).map(|number| Site::new(number, i64::from(number) * 31 - 7950, 0));
+        let sites = (1..=512).map(|number| Site::new(number, spread(number.into()), 0));
         let leg = Leg::new((-HALF_WIDTH, 0), (HALF_WIDTH, 0));
         let mut commands: Vec<u8> = sites.flat_map(add).collect();
         commands.extend(stand(leg));

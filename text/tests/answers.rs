@@ -40,7 +40,7 @@ fn every_refusal() {
         ("print\n", "refused 7: no standing leg"),
     ];
     for (lines, last) in cases {
-        let (code, answers) = answers(&lines);
+        let (code, answers) = answers(lines);
         assert_eq!((code, answers.last().unwrap().as_str()), (1, last));
         assert!(
             answers

@@ -7,7 +7,7 @@ mod svg;
 use common::{HALF_WIDTH, OFF_GRID, PROGRAM, at_root, lines, run_program, scratch};
 use reference::book::Book;
 use reference::command;
-use reference::grid::{Leg, Site};
+use reference::grid::{Leg, Site, spread};
 use reference::layout::{LAYOUTS, case};
 use reference::random::Random;
 use std::process::{Command, Stdio};
@@ -240,7 +240,7 @@ fn boxes_are_counted_and_drawn() {
 #[test]
 fn many_entries() {
     let sites: Vec<Site> = (1..=512)
-        .map(|n| Site::new(n, i64::from(n) * 31 - 7950, 0))
+        .map(|n| Site::new(n, spread(n.into()), 0))
         .collect();
     let input = adds(&sites) + &format!("leg -{HALF_WIDTH} 0 {HALF_WIDTH} 0\n");
     let picture = picture("many", &[], &input);

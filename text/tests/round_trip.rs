@@ -3,6 +3,7 @@
 mod common;
 
 use common::{HALF_WIDTH, at_root, batch_program, lines, run, scratch, without_points};
+use reference::grid::spread;
 use reference::random::{self, Random};
 use std::path::Path;
 
@@ -49,7 +50,7 @@ fn random_lines() {
 #[test]
 fn long_lists() {
     let mut input: String = (1..=512)
-        .map(|n| format!("add {n} {} 0\n", n * 31 - 7950))
+        .map(|n| format!("add {n} {} 0\n", spread(n)))
         .collect();
     input += &format!("stand -{HALF_WIDTH} 0 {HALF_WIDTH} 0\n");
     input += &format!("print\nleg {HALF_WIDTH} 0 -{HALF_WIDTH} 1\n").repeat(30);

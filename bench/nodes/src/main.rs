@@ -140,7 +140,7 @@ impl Row {
         let Row {
             all, worst_table, ..
         } = self;
-        print!("{kind:26} {:>10} ", length.name());
+        print!("{kind:26} {:>11} ", length.name());
         print!("{:>7.1} {:>6.2}", all.mean(all.entries), all.mean(all.read));
         for ((optimal, ratio), worst) in all.optimal.iter().zip(all.ratios()).zip(worst_table) {
             print!("  {:>7.2} {ratio:>6.3} {worst:>6.3}", all.mean(*optimal));
@@ -236,7 +236,7 @@ fn print_head() {
     println!("  worst         the same on the table where it is largest");
     println!();
     print!(
-        "{:26} {:>10} {:>7} {:>6}",
+        "{:26} {:>11} {:>7} {:>6}",
         "sites", "legs", "entries", "read"
     );
     for test in TESTS {

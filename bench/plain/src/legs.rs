@@ -1,6 +1,6 @@
 //! Random legs of given lengths.
 
-use reference::grid::{HALF_WIDTH, Leg, Position};
+use reference::grid::{HALF_WIDTH, Leg, Position, spread};
 use reference::random::Random;
 
 /// Which legs a row is about.
@@ -79,9 +79,8 @@ fn direction(random: &mut Random) -> (f64, f64) {
 pub fn all_listed(random: &mut Random) -> (Leg, Vec<Position>) {
     let north = random.between(-HALF_WIDTH, HALF_WIDTH - 40);
     let leg = Leg::new((-HALF_WIDTH, north), (HALF_WIDTH, north));
-    let apart = 2 * HALF_WIDTH / 512;
     let mut position = |k: i64| {
-        let east = apart * k + 50 - HALF_WIDTH + random.between(-4, 4);
+        let east = spread(k) + random.between(-4, 4);
         Position::new(east, north + random.between(0, 8))
     };
     (leg, (0..512).map(&mut position).collect())

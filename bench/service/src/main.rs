@@ -46,6 +46,7 @@ const ACROSS: i64 = 2 * HALF_WIDTH;
 /// Up to here a leg is short.
 const SHORT: i64 = 2_000;
 
+/// Half the grid's width and all of it, before C-12 and now.
 const LENGTHS: [Length; 8] = [
     Length::Of(100),
     Length::Of(500),

@@ -83,13 +83,13 @@ starredLines =
     ∷ []
 
 -- from corner to corner of the grid, site 1 one step off S and 2 at E: a start with a denominator that 31 bits do not
--- hold, as long as a denominator can be but for 48,000
+-- hold, 48,000 below the bound
 abbrev pub longestLines : List Line
 longestLines =
     line (pair 1 (atSouthWest 11999 12000) 2 (at 12000 12000) longest) (0x2B ∷ 0x2B ∷ longestRecord)
     ∷ []
 
--- the records as document 01 has them
+-- the records as the documents have them
 abbrev pub written : List Line → List (List ℕ)
 written [] = []
 written (x ∷ xs) = x .answers ∷ written xs

@@ -2,7 +2,7 @@
 -- Assumes nothing.
 use mathlib.Core.Path.{_≡_, ap}
 use mathlib.Core.List.{List, List·Memᴰ}
-use Prim.Native.Nat.{ℕ, _+_, _*_, _-_, _≤_, _<_}
+use Prim.Native.Nat.{ℕ, _+_, _*_, _-_, _^_, _≤_, _<_}
 use native.Mathlib.Nat.{mul-le-mul}
 use native.Mathlib.Decide.{decLe}
 use native.Mathlib.Omega.{arith}
@@ -10,10 +10,11 @@ use Rattle.limits.specs.Limits.{gridWidth, maxSquare, maxDenominator, maxCompar
 use Rattle.grid.specs.declared.Fraction.{Fraction}
 use Rattle.grid.specs.declared.Leg.{Leg}
 use Rattle.grid.specs.declared.Site.{Site}
-use Rattle.grid.specs.Position.{OnGrid, LegOnGrid}
+use Rattle.grid.specs.Position.{OnGrid, LegOnGrid, distance}
 use Rattle.grid.proofs.Squares.{distance-most}
-use Rattle.split.specs.SplitList.{Entry}
-use Rattle.split.specs.Bounds.{Bounded, ListOnGrid, ComparisonFits}
+use Rattle.split.specs.SplitList.{Entry, IsSplitList, Numbered, SitesOnGrid}
+use Rattle.split.specs.DotProduct.{plus, minus}
+use Rattle.split.specs.Bounds.{Bounded, ComparisonFits}
 use Rattle.split.proofs.Denominators.{start-below, bounded}
 
 -- (p - s)(e - s) on one axis lies between -gridWidth² and gridWidth²
@@ -69,19 +70,39 @@ on-grid-bounded l p hl hp =
       dot-below = omega arith;
     }
 
--- ANY TWO STARTS of lists on the grid, of one list or of two
-pub starts-compared : (es fs : List Entry) → ListOnGrid es → ListOnGrid fs → (e f : Entry) → List·Memᴰ e es → List·Memᴰ f fs → ComparisonFits (e .start) (f .start)
-starts-compared es fs h k e f me mf =
-    record {
-      left = product _ _ (start-most es h e me .0) (start-most fs k f mf .1);
-      right = product _ _ (start-most fs k f mf .0) (start-most es h e me .1);
-    }
-  where
-    product : (x y : ℕ) → x ≤ maxDenominator → y ≤ maxDenominator → x * y ≤ maxComparison
-    product x y a b = mul-le-mul {n₁ = x} {m₁ = y} {n₂ = maxDenominator} {m₂ = maxDenominator} a b
+-- the same as numbers
+pub bounded-fits : (l : Leg) (p : Site) → Bounded l p
+    → (distance (p .position) (l .s) ≤ 1152000000)
+    × (distance (p .position) (l .e) ≤ 1152000000)
+    × (plus l p ≤ minus l p + 2304000000)
+    × (minus l p ≤ plus l p + 2304000000)
+bounded-fits l p h = (h .from-s, h .from-e, h .dot-above, h .dot-below)
 
-    start-most : (gs : List Entry) → ListOnGrid gs → (g : Entry) → List·Memᴰ g gs → (g .start .num ≤ maxDenominator) × (g .start .den ≤ maxDenominator)
-    start-most gs i g m =
-        let d : g .start .den ≤ maxDenominator = bounded (i .leg) (i .sites) (i .numbered) (i .leg-on) (i .sites-on) gs (i .is) g m in
-        let n : g .start .num < g .start .den = start-below (i .leg) (i .sites) gs (i .is .rules) g m in
-        (omega arith, d)
+-- what the parts of a start are at most
+start-most : (l : Leg) (s : List Site) → Numbered s → LegOnGrid l → SitesOnGrid s → (es : List Entry) → IsSplitList l s es → (e : Entry) → List·Memᴰ e es
+    → (e .start .num ≤ maxDenominator) × (e .start .den ≤ maxDenominator)
+start-most l s numbered onLeg onGrid es h e m =
+    let d : e .start .den ≤ maxDenominator = bounded l s numbered onLeg onGrid es h e m in
+    let n : e .start .num < e .start .den = start-below l s es (h .rules) e m in
+    (omega arith, d)
+
+product-most : (x y : ℕ) → x ≤ maxDenominator → y ≤ maxDenominator → x * y ≤ maxComparison
+product-most x y a b = mul-le-mul {n₁ = x} {m₁ = y} {n₂ = maxDenominator} {m₂ = maxDenominator} a b
+
+-- ANY TWO STARTS of lists on the grid: of two legs and two sets of sites, or of the same
+module _
+    (l k : Leg) (s r : List Site)
+    (numberedS : Numbered s) (numberedR : Numbered r)
+    (onL : LegOnGrid l) (onK : LegOnGrid k)
+    (onS : SitesOnGrid s) (onR : SitesOnGrid r)
+  where
+    pub starts-compared : (es fs : List Entry) → IsSplitList l s es → IsSplitList k r fs → (e f : Entry) → List·Memᴰ e es → List·Memᴰ f fs
+        → ComparisonFits (e .start) (f .start)
+    starts-compared es fs hes hfs e f me mf =
+        let a : (e .start .num ≤ maxDenominator) × (e .start .den ≤ maxDenominator) = start-most l s numberedS onL onS es hes e me in
+        let b : (f .start .num ≤ maxDenominator) × (f .start .den ≤ maxDenominator) = start-most k r numberedR onK onR fs hfs f mf in
+        record { left = product-most _ _ (a .0) (b .1); right = product-most _ _ (b .0) (a .1) }
+
+-- 63 bits hold both products
+pub comparison-fits : (s t : Fraction) → ComparisonFits s t → (s .num * t .den < 2 ^ 63) × (t .num * s .den < 2 ^ 63)
+comparison-fits s t h = (omega (arith, h .left), omega (arith, h .right))

@@ -1,14 +1,12 @@
 -- What the grid bounds. Document 02, C-12: "Each promise on a squared distance, a dot product or a comparison of
--- fractions changes with it." limits/proofs/Written.antt has these bounds as numbers, and which word each fits.
+-- fractions changes with it." proofs/Bounds.antt shows them, and has them as numbers.
 -- Assumes nothing.
-use mathlib.Core.List.{List}
 use Prim.Native.Nat.{_+_, _*_, _≤_}
 use Rattle.limits.specs.Limits.{maxDistance, maxDenominator, maxComparison}
 use Rattle.grid.specs.declared.Site.{Site}
 use Rattle.grid.specs.declared.Leg.{Leg}
 use Rattle.grid.specs.declared.Fraction.{Fraction}
-use Rattle.grid.specs.Position.{LegOnGrid, distance}
-use Rattle.split.specs.SplitList.{Entry, IsSplitList, Numbered, SitesOnGrid}
+use Rattle.grid.specs.Position.{distance}
 use Rattle.split.specs.DotProduct.{plus, minus}
 
 -- of a site and a leg: both squared distances, and B = 2 × ((p - S) · (E - S)) above 0 and below it
@@ -17,15 +15,6 @@ pub record Bounded (l : Leg) (p : Site) : Type 0 where
   pub from-e : distance (p .position) (l .e) ≤ maxDistance
   pub dot-above : plus l p ≤ minus l p + maxDenominator
   pub dot-below : minus l p ≤ plus l p + maxDenominator
-
--- a split list of a leg and sites on the grid
-pub record ListOnGrid (es : List Entry) : Type 0 where
-  pub leg : Leg
-  pub sites : List Site
-  pub numbered : Numbered sites
-  pub leg-on : LegOnGrid leg
-  pub sites-on : SitesOnGrid sites
-  pub is : IsSplitList leg sites es
 
 -- of two starts: both products that are compared
 pub record ComparisonFits (s t : Fraction) : Type 0 where

@@ -83,7 +83,7 @@ legs =
     ∷ try longest (site 1 (atSouthWest 11999 12000) ∷ site 2 (at 12000 12000) ∷ []) (since (site 1 (atSouthWest 11999 12000)) 0 1 ∷ since (site 2 (at 12000 12000)) 1151999999 2303952000 ∷ [])
     ∷ []
 
--- the lists as document 01 has them
+-- the lists as the documents have them
 abbrev pub listed : List Try → List (List Entry)
 listed [] = []
 listed (t ∷ ts) = t .list ∷ listed ts

@@ -4,7 +4,7 @@
 //! positions at random; so the sites come in every order.
 
 use lists::{SITE_LEN, WORK_NEEDED, leg_words, probe_list, table};
-use reference::grid::{HALF_WIDTH, Leg, MOST_SITES, Site};
+use reference::grid::{HALF_WIDTH, Leg, MOST_SITES, Site, spread};
 use reference::hull;
 use reference::layout::{Case, LAYOUTS, case};
 use reference::random::Random;
@@ -131,7 +131,7 @@ fn large_sets_by_the_hull() {
 
 /// Beside a leg across the grid, so that all are listed; numbers are to be dealt.
 fn all_listed(numbers: &[u16]) -> Case {
-    let beside_the_leg = |(number, k): (&u16, i64)| Site::new(*number, 31 * k - 7_950, k % 5);
+    let beside_the_leg = |(number, k): (&u16, i64)| Site::new(*number, spread(k), k % 5);
     Case {
         leg: Leg::new((-HALF_WIDTH, 2), (HALF_WIDTH, 3)),
         sites: numbers.iter().zip(0..).map(beside_the_leg).collect(),

@@ -24,6 +24,11 @@ pub const LARGEST_DENOMINATOR: u64 = 2_304_000_000;
 pub const INPUT_LEN: usize = 4_096;
 pub const REPORT_LEN: usize = 8_192;
 
+/// Eastings at even distances along the grid, for `k` from 0 to 512.
+pub fn spread(k: i64) -> i64 {
+    2 * HALF_WIDTH / 512 * k + 50 - HALF_WIDTH
+}
+
 #[derive(Clone, Copy, Debug, PartialEq, Eq, PartialOrd, Ord)]
 pub struct Position {
     pub east: i64,

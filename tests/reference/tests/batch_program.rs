@@ -4,7 +4,7 @@
 use reference::batch_program::{run, run_in_reads};
 use reference::book::{Book, CUT_COMMAND, UNKNOWN_COMMAND};
 use reference::command::{add, print, remove, stand};
-use reference::grid::{HALF_WIDTH, INPUT_LEN, Leg, MOST_SITES, REPORT_LEN, Site, WORK_LEN};
+use reference::grid::{HALF_WIDTH, INPUT_LEN, Leg, MOST_SITES, REPORT_LEN, Site, WORK_LEN, spread};
 use reference::random::{self, Random};
 
 /// The report of one call with room for everything, then 2E and the reason.
@@ -69,7 +69,7 @@ fn a_command_across_the_end_of_the_input_buffer_is_joined() {
 /// 512 sites, all on the standing list, then this many prints.
 fn long_lists(prints: usize) -> Vec<u8> {
     let mut input = stand(Leg::new((-HALF_WIDTH, 0), (HALF_WIDTH, 0)));
-    let nth = |number: u16| add(Site::new(number, i64::from(number) * 31 - 7950, 0));
+    let nth = |number: u16| add(Site::new(number, spread(number.into()), 0));
     input.extend((1..=512).flat_map(nth));
     input.extend(print().repeat(prints));
     input

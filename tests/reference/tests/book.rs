@@ -2,7 +2,7 @@
 
 use reference::book::Book;
 use reference::command::{Command, add, list, move_site, print, remove, stand};
-use reference::grid::{HALF_WIDTH, Leg, Position, Site};
+use reference::grid::{HALF_WIDTH, LARGEST_DENOMINATOR, Leg, Position, Site};
 use reference::record::Record::{self, Accepted, List, Refused};
 use reference::split::{Entry, split_list};
 
@@ -208,8 +208,8 @@ fn commands_and_their_bytes() {
     assert_eq!(add(site), [&[0x41], &site_bytes[..]].concat());
     assert_eq!(move_site(site), [&[0x4D], &site_bytes[..]].concat());
     assert_eq!(remove(0x0102), [0x44, 0x02, 0x01]);
-    let leg = Leg::new((1, -1), (0x1F40, -8000));
-    let leg_bytes = [0x01, 0x00, 0xFF, 0xFF, 0x40, 0x1F, 0xC0, 0xE0];
+    let leg = Leg::new((1, -1), (0x2EE0, -12000));
+    let leg_bytes = [0x01, 0x00, 0xFF, 0xFF, 0xE0, 0x2E, 0x20, 0xD1];
     assert_eq!(list(leg), [&[0x4C], &leg_bytes[..]].concat());
     assert_eq!(stand(leg), [&[0x53], &leg_bytes[..]].concat());
     assert_eq!(print(), [0x50]);
@@ -224,11 +224,11 @@ fn commands_and_their_bytes() {
 fn a_list_record_is_read_back() {
     let entries = vec![
         Entry::new(0x0102, 0, 1),
-        Entry::new(7, 0x01020304, 0x3D090000),
+        Entry::new(7, 0x01020304, LARGEST_DENOMINATOR),
     ];
     let bytes = [
         0x3D, 0x02, 0x00, 0x02, 0x01, 0x00, 0x00, 0x00, 0x00, 0x01, 0x00, 0x00, 0x00, //
-        0x07, 0x00, 0x04, 0x03, 0x02, 0x01, 0x00, 0x00, 0x09, 0x3D,
+        0x07, 0x00, 0x04, 0x03, 0x02, 0x01, 0x00, 0x40, 0x54, 0x89,
     ];
     assert_eq!(List(entries.clone()).bytes(), bytes);
     assert_eq!(Record::read(&bytes), Some((List(entries), bytes.len())));

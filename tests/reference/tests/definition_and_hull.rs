@@ -2,7 +2,7 @@
 
 use reference::book::{Book, FEW_SITES};
 use reference::fraction::Fraction;
-use reference::grid::{HALF_WIDTH, Leg, MOST_SITES, Site};
+use reference::grid::{HALF_WIDTH, Leg, MOST_SITES, Site, spread};
 use reference::hull;
 use reference::layout::{Case, LAYOUTS, case, small_cases};
 use reference::random::Random;
@@ -57,7 +57,7 @@ fn full_tables() {
 fn a_list_as_long_as_the_table() {
     let beside_the_leg = |number: u16| {
         let k = i64::from(number);
-        Site::new(number, 31 * k - 7950, k % 5)
+        Site::new(number, spread(k), k % 5)
     };
     let sites: Vec<Site> = (1..=512).map(beside_the_leg).collect();
     let leg = Leg::new((-HALF_WIDTH, 2), (HALF_WIDTH, 3));

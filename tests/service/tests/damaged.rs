@@ -6,8 +6,8 @@ use reference::command::{add, list, print, remove, stand};
 use reference::grid::{Leg, MOST_SITES, Site, TABLE_LEN, WRONG_WORK};
 use reference::random::Random;
 use service::bytes::{
-    ENTRY_LEN, FREE_NODES, LEVELS, NODE_POOL, ROOT, SITE_ARRAY, STACK_END, STANDING_LIST,
-    empty_table, entry_at, leaf_entry, node_at, number, put_number,
+    ENTRY_LEN, FREE_NODES, HALF_WIDTH, LEVELS, NODE_POOL, ROOT, SITE_ARRAY, STACK_END,
+    STANDING_LIST, empty_table, entry_at, leaf_entry, node_at, number, put_number,
 };
 use service::damage::{assert_wrong_length_first, flipped, nodes, offer, regions};
 use service::desk::Desk;
@@ -98,7 +98,7 @@ fn likely_value(random: &mut Random, table: &[u8]) -> usize {
         1 => random.index(10),
         2 => random.index(266),
         3 if !nodes.is_empty() => random.pick(&nodes),
-        4 => 7_990 + random.index(20),
+        4 => usize::from(HALF_WIDTH) - 10 + random.index(20),
         _ => number(table, 2 * random.index(STACK_END / 2)),
     }
 }

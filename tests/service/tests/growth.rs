@@ -1,7 +1,7 @@
 //! Tables that grow to 512 sites and shrink to none, again and again, with lists on the way.
 
 use reference::command::{add, list, move_site, print, remove, stand};
-use reference::grid::{HALF_WIDTH, Leg, MOST_SITES, Position, Site};
+use reference::grid::{HALF_WIDTH, Leg, MOST_SITES, Position, Site, spread};
 use reference::random::Random;
 use service::desk::{Desk, Tally};
 use service::{Service, on_each_service};
@@ -77,7 +77,7 @@ impl Growth {
         let random = &mut self.random;
         let mut within = |reach: i64| random.between(-reach, reach);
         match self.places {
-            Places::Ascending => Position::new(31 * nth - 7_950, within(2)),
+            Places::Ascending => Position::new(spread(nth), within(2)),
             Places::Outwards => Position::new(15 * nth * (1 - 2 * (nth % 2)), within(3)),
             Places::Clustered => {
                 let centre = 1_500 * within(5);

@@ -5,7 +5,7 @@
 use binding::call::{Answer, batch, lay_out, raw};
 use reference::book::{ALL_USED, CUT_COMMAND, NO_ROOM, UNKNOWN_COMMAND, WRONG_LENGTH};
 use reference::command::{add, list, move_site, print, remove, stand};
-use reference::grid::{HALF_WIDTH, Leg, Site, TABLE_LEN, WORK_LEN};
+use reference::grid::{HALF_WIDTH, Leg, Site, TABLE_LEN, WORK_LEN, spread};
 use reference::random::{self, Random};
 use reference::record::ENTRY_LEN;
 use service::bytes::{ENTRIES_LISTED, empty_table};
@@ -144,7 +144,7 @@ fn buffers_at_any_address() {
 #[test]
 fn the_bytes_beside_the_work_buffer_are_left() {
     let leg = Leg::new((-HALF_WIDTH, 0), (HALF_WIDTH, 0));
-    let sites = (1..=512).map(|number| Site::new(number, i64::from(number) * 31 - 7_950, 0));
+    let sites = (1..=512).map(|number| Site::new(number, spread(number.into()), 0));
     let mut commands = stand(leg);
     commands.extend(sites.flat_map(add));
     commands.extend([list(leg), remove(256), print()].concat());

@@ -4,7 +4,7 @@
 
 use reference::batch_program;
 use reference::command::{add, print, stand};
-use reference::grid::{HALF_WIDTH, INPUT_LEN, Leg, MOST_SITES, Site};
+use reference::grid::{HALF_WIDTH, INPUT_LEN, Leg, MOST_SITES, Site, spread};
 use reference::random::{self, Random};
 use service::desk::LONGEST_RECORD;
 use service::draw::{Pool, unknown_byte};
@@ -128,7 +128,7 @@ fn full_buffers_of_refusals() {
 #[test]
 fn the_longest_lists() {
     let mut input = stand(Leg::new((-HALF_WIDTH, 0), (HALF_WIDTH, 0)));
-    let nth = |number: u16| add(Site::new(number, i64::from(number) * 31 - 7950, 0));
+    let nth = |number: u16| add(Site::new(number, spread(number.into()), 0));
     input.extend((1..=512).flat_map(nth));
     for prints in [1, 2, 3, 700] {
         let output = assert_prints(&[&input[..], &print().repeat(prints)].concat());

@@ -19,7 +19,7 @@ use crate::grid::{Site, grouped};
 use crate::status::{Failure, Met};
 use crate::store::table_of;
 use crate::{show, table};
-use binding::layout::TABLE_LEN;
+use binding::layout::{LAYOUT, LAYOUT_NUMBER, TABLE_LEN, word};
 use fault::Fault;
 use std::io::Write;
 
@@ -34,10 +34,11 @@ pub fn faults(table: &[u8]) -> Result<Vec<Fault>, Failure> {
         return Ok(vec![Fault::whole(what)]);
     }
     let mut faults = header::faults(table);
+    let of_header = faults.len();
     faults.extend(sites::faults(table));
     faults.extend(standing::leg_faults(table));
     // A list is that of sites and a leg that can be read.
-    if faults.is_empty() {
+    if faults.len() == of_header {
         faults.extend(standing::list_faults(table)?);
     }
     let walk = tree::walk(table);
@@ -68,8 +69,13 @@ pub fn tell<W: Write, E: Write>(bytes: &[u8], desk: &mut Desk<W, E>) -> Result<M
         desk.say(format_args!("and {} more", faults.len() - MOST_TOLD))?;
     }
     let readable = readable(bytes);
+    let of_layout = if is_known(bytes) {
+        String::new()
+    } else {
+        format!(", if they stand as in layout {LAYOUT_NUMBER}")
+    };
     desk.say(format_args!(
-        "sites that can still be read: {}",
+        "sites that can still be read{of_layout}: {}",
         readable.len()
     ))?;
     for site in readable {
@@ -80,6 +86,11 @@ pub fn tell<W: Write, E: Write>(bytes: &[u8], desk: &mut Desk<W, E>) -> Result<M
         unsound: true,
         ..Met::default()
     })
+}
+
+/// Whether the layout's number is in the bytes and this or an earlier one.
+fn is_known(bytes: &[u8]) -> bool {
+    bytes.len() < LAYOUT + 2 || word(bytes, LAYOUT) <= LAYOUT_NUMBER
 }
 
 /// The records with a number and a position on the grid, each number once.
