@@ -6,7 +6,7 @@ use Prim.Native.Nat.{ℕ, _+_, _*_, _-_, _^_, _≤_, _<_}
 use native.Mathlib.Nat.{mul-le-mul}
 use native.Mathlib.Decide.{decLe}
 use native.Mathlib.Omega.{arith}
-use Rattle.limits.specs.Limits.{gridWidth, maxSquare, maxDenominator, maxComparison}
+use Rattle.limits.specs.Limits.{gridWidth, maxSquare, maxDenominator}
 use Rattle.grid.specs.declared.Fraction.{Fraction}
 use Rattle.grid.specs.declared.Leg.{Leg}
 use Rattle.grid.specs.declared.Site.{Site}
@@ -17,36 +17,36 @@ use Rattle.split.specs.DotProduct.{plus, minus}
 use Rattle.split.specs.Bounds.{Bounded, ComparisonFits}
 use Rattle.split.proofs.Denominators.{start-below, bounded}
 
+product-most : (b x y : ℕ) → x ≤ b → y ≤ b → x * y ≤ b * b
+product-most b x y h k = mul-le-mul {n₁ = x} {m₁ = y} {n₂ = b} {m₂ = b} h k
+
 -- (p - s)(e - s) on one axis lies between -gridWidth² and gridWidth²
 abbrev Within : ℕ → ℕ → ℕ → Type 0
 Within p s e = (p * e + s * s ≤ p * s + s * e + maxSquare) × (p * s + s * e ≤ p * e + s * s + maxSquare)
 
 module _ (p s e : ℕ) (hp : p ≤ gridWidth) (hs : s ≤ gridWidth) (he : e ≤ gridWidth) where
-  square-most : (x y : ℕ) → x ≤ gridWidth → y ≤ gridWidth → x * y ≤ maxSquare
-  square-most x y h k = mul-le-mul {n₁ = x} {m₁ = y} {n₂ = gridWidth} {m₂ = gridWidth} h k
-
   -- by the differences x and y of p and e from s, each on its side of s
   axis : Within p s e
   axis = go (decLe s p) (decLe s e)
     where
       above : (x y : ℕ) → p ≡ s + x → e ≡ s + y → Within p s e
       above x y ex ey =
-          let k : x * y ≤ maxSquare = square-most x y (omega arith) (omega arith) in
+          let k : x * y ≤ maxSquare = product-most gridWidth x y (omega arith) (omega arith) in
           rw (ex, ey) (omega arith, omega arith)
 
       right : (x y : ℕ) → p ≡ s + x → s ≡ e + y → Within p s e
       right x y ex ey =
-          let k : x * y ≤ maxSquare = square-most x y (omega arith) (omega arith) in
+          let k : x * y ≤ maxSquare = product-most gridWidth x y (omega arith) (omega arith) in
           rw (ex, ey) (omega arith, omega arith)
 
       left : (x y : ℕ) → s ≡ p + x → e ≡ s + y → Within p s e
       left x y ex ey =
-          let k : x * y ≤ maxSquare = square-most x y (omega arith) (omega arith) in
+          let k : x * y ≤ maxSquare = product-most gridWidth x y (omega arith) (omega arith) in
           rw (ey, ex) (omega arith, omega arith)
 
       below : (x y : ℕ) → p + x ≡ s → e + y ≡ s → Within p s e
       below x y ex ey =
-          let k : x * y ≤ maxSquare = square-most x y (omega arith) (omega arith) in
+          let k : x * y ≤ maxSquare = product-most gridWidth x y (omega arith) (omega arith) in
           let u : (p + x) * y ≡ s * y = ap (λ (z : ℕ). z * y) ex in
           let v : (e + y) * s ≡ s * s = ap (λ (z : ℕ). z * s) ey in
           let w : (e + y) * p ≡ s * p = ap (λ (z : ℕ). z * p) ey in
@@ -86,9 +86,6 @@ start-most l s numbered onLeg onGrid es h e m =
     let n : e .start .num < e .start .den = start-below l s es (h .rules) e m in
     (omega arith, d)
 
-product-most : (x y : ℕ) → x ≤ maxDenominator → y ≤ maxDenominator → x * y ≤ maxComparison
-product-most x y a b = mul-le-mul {n₁ = x} {m₁ = y} {n₂ = maxDenominator} {m₂ = maxDenominator} a b
-
 -- ANY TWO STARTS of lists on the grid: of two legs and two sets of sites, or of the same
 module _
     (l k : Leg) (s r : List Site)
@@ -101,7 +98,7 @@ module _
     starts-compared es fs hes hfs e f me mf =
         let a : (e .start .num ≤ maxDenominator) × (e .start .den ≤ maxDenominator) = start-most l s numberedS onL onS es hes e me in
         let b : (f .start .num ≤ maxDenominator) × (f .start .den ≤ maxDenominator) = start-most k r numberedR onK onR fs hfs f mf in
-        record { left = product-most _ _ (a .0) (b .1); right = product-most _ _ (b .0) (a .1) }
+        record { left = product-most maxDenominator _ _ (a .0) (b .1); right = product-most maxDenominator _ _ (b .0) (a .1) }
 
 -- 63 bits hold both products
 pub comparison-fits : (s t : Fraction) → ComparisonFits s t → (s .num * t .den < 2 ^ 63) × (t .num * s .den < 2 ^ 63)

@@ -69,10 +69,10 @@ pub fn tell<W: Write, E: Write>(bytes: &[u8], desk: &mut Desk<W, E>) -> Result<M
         desk.say(format_args!("and {} more", faults.len() - MOST_TOLD))?;
     }
     let readable = readable(bytes);
-    let of_layout = if is_known(bytes) {
-        String::new()
-    } else {
+    let of_layout = if is_unknown(bytes) {
         format!(", if they stand as in layout {LAYOUT_NUMBER}")
+    } else {
+        String::new()
     };
     desk.say(format_args!(
         "sites that can still be read{of_layout}: {}",
@@ -88,9 +88,9 @@ pub fn tell<W: Write, E: Write>(bytes: &[u8], desk: &mut Desk<W, E>) -> Result<M
     })
 }
 
-/// Whether the layout's number is in the bytes and this or an earlier one.
-fn is_known(bytes: &[u8]) -> bool {
-    bytes.len() < LAYOUT + 2 || word(bytes, LAYOUT) <= LAYOUT_NUMBER
+/// Whether the bytes have the number of a layout that this release does not know.
+fn is_unknown(bytes: &[u8]) -> bool {
+    bytes.len() >= LAYOUT + 2 && word(bytes, LAYOUT) > LAYOUT_NUMBER
 }
 
 /// The records with a number and a position on the grid, each number once.

@@ -26,7 +26,8 @@ use svg::Svg;
 use view::View;
 
 const WIDTH: f64 = 800.0;
-/// On its right there is room for half of the widest number below it, that of the grid's western edge.
+/// On its right there is room for half of the widest number below it, that of the grid's western
+/// edge.
 const PLOT: Rect = Rect::new(72.0, 40.0, 779.0, 550.0);
 const LEGEND_TOP: f64 = 598.0;
 /// From a site's mark to its number: beside it, or past the mark of S or E around it.
