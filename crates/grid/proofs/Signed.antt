@@ -1,7 +1,7 @@
 -- A word is a signed 16-bit number: up to 32,767 it is itself, from 32,768 on it is that many below 65,536 under zero.
 -- Assumes nothing.
 use mathlib.Core.Path.{_≡_}
-use Prim.Native.Nat.{ℕ, _+_, _-_, _%_, _≤_, _<_}
+use Prim.Native.Nat.{ℕ, _+_, _-_, _≤_, _<_}
 use native.Mathlib.Omega.{arith}
 use Rattle.limits.specs.Limits.{halfWidth, gridWidth}
 use Rattle.grid.specs.Coordinate.{fromWord, toWord}
@@ -19,11 +19,6 @@ positive-on-grid w h = (λ k. omega (arith, positive-word w h), λ k. omega (ari
 pub negative-on-grid : (w : ℕ) → 32768 ≤ w → w < 65536 → (fromWord w ≤ gridWidth → 65536 - w ≤ halfWidth) × (65536 - w ≤ halfWidth → fromWord w ≤ gridWidth)
 unfolding fromWord
 negative-on-grid w h k = (λ g. omega arith, λ g. omega arith)
-
--- ON THE EARLIER GRID, whose coordinates were counted from a corner at -8,000: 4,000 steps farther from this one
-pub earlier-word : (w : ℕ) → w < 65536 → (w + 8000) % 65536 ≤ 16000 → fromWord w ≡ (w + 8000) % 65536 + 4000
-unfolding fromWord
-earlier-word w h k = omega arith
 
 -- the word of a coordinate stands for it
 pub word-of : (x : ℕ) → x < 65536 → fromWord (toWord x) ≡ x

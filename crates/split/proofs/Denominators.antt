@@ -1,7 +1,6 @@
 -- No denominator of a split list passes 2,304,000,000.
 -- Assumes nothing.
-use Rattle.limits.specs.Limits.{maxDistance, maxDenominator}
-use Rattle.grid.proofs.Squares.{distance-most}
+use Rattle.limits.specs.Limits.{maxDenominator}
 use mathlib.Core.Path.{_≡_, ap, sym, subst, _∙_}
 use mathlib.Core.List.{List, [], _∷_, List·Memᴰ, List·Memᴰ·head, List·Memᴰ·tail, List·Memᴰ·not-nil}
 use Prim.Native.Nat.{ℕ, zero, suc, _+_, _*_, _-_, _≤_, _<_}
@@ -16,6 +15,8 @@ use Rattle.grid.specs.Position.{LegOnGrid, distance}
 use Rattle.grid.proofs.Order.{cancel-eq, Common, common, mid, mid-fraction}
 use Rattle.split.specs.Hull.{weigh}
 use Rattle.split.specs.SplitList.{distanceAt, Leads, Entry, endOf, Stretches, IsSplitList, Numbered, SitesOnGrid}
+use Rattle.split.specs.Bounds.{Bounded}
+use Rattle.split.proofs.Bounds.{on-grid-bounded}
 use Rattle.split.proofs.Closed.{closed}
 use Rattle.split.proofs.Unique.{end-fraction, rank-number}
 use Rattle.split.proofs.Weights.{Weights, weights, weigh-le, far-eq}
@@ -121,8 +122,8 @@ module _ (l : Leg) (s : List Site) (numbered : Numbered s) (onLeg : LegOnGrid l)
       above : 1 ≤ c .num
       above = pos-of _ (e .start .den) (c .num) ec
 
-      bounds : (p : Site) → List·Memᴰ p s → (A p ≤ maxDistance) × (C p ≤ maxDistance)
-      bounds p m = (distance-most (p .position) (l .s) (onGrid p m) (onLeg .s), distance-most (p .position) (l .e) (onGrid p m) (onLeg .e))
+      bounds : (p : Site) → List·Memᴰ p s → Bounded l p
+      bounds p m = on-grid-bounded l p onLeg (onGrid p m)
 
       same : A x ≡ A y → C x ≡ C y → ⊥
       same a b =
@@ -135,15 +136,15 @@ module _ (l : Leg) (s : List Site) (numbered : Numbered s) (onLeg : LegOnGrid l)
           omega (
             arith,
             tie-bound (c .den - c .num) (A x) (C x) (A y) (C y) c (omega (arith, below)) (omega (arith, below)) above (h .1 .0 .reduced) (omega (arith, xy, yx)) a,
-            bounds x (left .held) .1,
-            bounds y (right .held) .0,
+            bounds x (left .held) .from-e,
+            bounds y (right .held) .from-s,
           )
       go (no a) (yes b) =
           omega (
             arith,
             tie-bound (c .den - c .num) (A y) (C y) (A x) (C x) c (omega (arith, below)) (omega (arith, below)) above (h .1 .0 .reduced) (omega (arith, xy, yx)) b,
-            bounds y (right .held) .1,
-            bounds x (left .held) .0,
+            bounds y (right .held) .from-e,
+            bounds x (left .held) .from-s,
           )
       go (no a) (no b) = absurd (same (omega arith) (rest-eq (c .den - c .num) (c .num) (A x) (A y) (C x) (C y) (omega arith) (omega (arith, xy, yx)) above))
 

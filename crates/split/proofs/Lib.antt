@@ -7,8 +7,9 @@ pub mod Closed
 pub mod Once
 pub mod Names
 pub mod Unlisted
-pub mod Denominators
 pub mod Bounds
+pub mod Denominators
+pub mod Comparisons
 pub mod Choices
 pub mod Points
 pub mod HullLaws

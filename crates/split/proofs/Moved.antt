@@ -2,7 +2,7 @@
 -- Assumes nothing.
 use mathlib.Core.Path.{_≡_, refl, ap, _∙_}
 use mathlib.Core.List.{List, [], _∷_, map}
-use Prim.Native.Nat.{ℕ, _+_, _*_, _-_}
+use Prim.Native.Nat.{ℕ, _+_, _*_, _-_, _≤_, _<_}
 use native.Mathlib.Decide.{decLe}
 use native.Mathlib.Omega.{arith}
 use Rattle.grid.specs.declared.Leg.{Leg}
@@ -10,11 +10,12 @@ use Rattle.grid.specs.declared.Site.{Site}
 use Rattle.grid.specs.declared.Position.{Position}
 use Rattle.grid.specs.Position.{squaredDifference, distance}
 use Rattle.grid.specs.Fraction.{zeroFraction}
+use Rattle.grid.specs.Coordinate.{fromWord}
 use Rattle.split.specs.SplitList.{Entry, rank}
-use Rattle.split.specs.Hull.{Point, pointOf, points, RightBelow, Under}
+use Rattle.split.specs.Hull.{Point, pointOf, points, Under}
 use Rattle.split.specs.Choice.{pick}
 use Rattle.split.specs.SplitOf.{hides?, under?, push, insert, build, changeover, entriesAfter, entriesAlong, onto, entriesOf, splitOf}
-use Rattle.split.specs.Moved.{movedPosition, movedLeg, movedSite, movedEntry}
+use Rattle.split.specs.Moved.{movedPosition, movedLeg, movedSite, movedEntry, earlierWord, earlierPosition, wordPosition}
 
 -- Points that have other sites: the hull asks for their distances and orders alone.
 module _ (f : Site → Site) where
@@ -73,6 +74,14 @@ module _ (f : Site → Site) where
 
   entries-relabelled : (h : List Point) → entriesOf (map relabel h) ≡ map relabelled (entriesOf h)
   entries-relabelled h = ap entriesAlong (onto-relabelled h []) ∙ along-relabelled (onto h [])
+
+word-moved : (w : ℕ) → w < 65536 → earlierWord w ≤ 16000 → fromWord w ≡ earlierWord w + 4000
+unfolding fromWord
+word-moved w h k = omega arith
+
+-- ALL THAT WAS ON THE EARLIER GRID is 4,000 steps farther from this grid's corner
+pub earlier-moved : (e n : ℕ) → e < 65536 → n < 65536 → earlierWord e ≤ 16000 → earlierWord n ≤ 16000 → wordPosition e n ≡ movedPosition 4000 (earlierPosition e n)
+earlier-moved e n he hn ge gn = λ i. record { east = word-moved e he ge i; north = word-moved n hn gn i }
 
 difference-moved : (k a b : ℕ) → squaredDifference (a + k) (b + k) ≡ squaredDifference a b
 unfolding squaredDifference

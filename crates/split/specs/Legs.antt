@@ -52,9 +52,17 @@ ten = leg (at 0 0) (at 10 0)
 abbrev pub diagonal : Leg
 diagonal = leg (atSouthWest 8000 8000) (at 8000 8000)
 
+-- "site 1 at its start and 2 at its end"
+abbrev pub diagonalSites : List Site
+diagonalSites = site 1 (atSouthWest 8000 8000) ∷ site 2 (at 8000 8000) ∷ []
+
 -- from corner to corner of the grid: (-12000,-12000) to (12000,12000)
 abbrev pub longest : Leg
 longest = leg (atSouthWest 12000 12000) (at 12000 12000)
+
+-- site 1 one step off its start and 2 at its end
+abbrev pub longestSites : List Site
+longestSites = site 1 (atSouthWest 11999 12000) ∷ site 2 (at 12000 12000) ∷ []
 
 -- a line of the table
 abbrev pub try : Leg → List Site → List Entry → Try
@@ -79,8 +87,8 @@ legs =
     ∷ try ten (site 1 (atWest 2 0) ∷ site 2 (at 2 0) ∷ []) (since (site 2 (at 2 0)) 0 1 ∷ [])
     ∷ try ten (site 1 (at 8 0) ∷ site 2 (at 12 0) ∷ []) (since (site 1 (at 8 0)) 0 1 ∷ [])
     ∷ try (leg (at 4 4) (at 4 4)) (site 7 (at 4 5) ∷ site 3 (at 5 4) ∷ []) (since (site 3 (at 5 4)) 0 1 ∷ [])
-    ∷ try diagonal (site 1 (atSouthWest 8000 8000) ∷ site 2 (at 8000 8000) ∷ []) (since (site 1 (atSouthWest 8000 8000)) 0 1 ∷ since (site 2 (at 8000 8000)) 1 2 ∷ [])
-    ∷ try longest (site 1 (atSouthWest 11999 12000) ∷ site 2 (at 12000 12000) ∷ []) (since (site 1 (atSouthWest 11999 12000)) 0 1 ∷ since (site 2 (at 12000 12000)) 1151999999 2303952000 ∷ [])
+    ∷ try diagonal diagonalSites (since (site 1 (atSouthWest 8000 8000)) 0 1 ∷ since (site 2 (at 8000 8000)) 1 2 ∷ [])
+    ∷ try longest longestSites (since (site 1 (atSouthWest 11999 12000)) 0 1 ∷ since (site 2 (at 12000 12000)) 1151999999 2303952000 ∷ [])
     ∷ []
 
 -- the lists as the documents have them
