@@ -3,9 +3,9 @@
 #ifndef STOPS_H
 #define STOPS_H
 
-#define STOPS_VERSION "0.8.0"
+#define STOPS_VERSION "0.9.0"
 /* 10000 times the first number, 100 times the second, and the third. */
-#define STOPS_VERSION_NUMBER 800
+#define STOPS_VERSION_NUMBER 900
 
 #include <stddef.h>
 #include <stdint.h>
@@ -54,7 +54,8 @@ enum stops_record {
     STOPS_REFUSED = 0x21,  /* a byte follows: the refusal */
     STOPS_LISTED = 0x3D    /* a 16-bit count, then the entries: 16-bit number of the site,
                               32-bit numerator and denominator of its start, all unsigned:
-                              a denominator may pass 2,147,483,647 */
+                              a denominator may pass 2,147,483,647; of sites that tie along
+                              the whole leg, one on its right, then the lower number */
 };
 
 /* Why a command was refused; the table is left, and the batch goes on. */

@@ -6,6 +6,7 @@ use native.Mathlib.Decide.{decLe, decLt}
 use Rattle.words.specs.Words.{wordAt}
 use Rattle.grid.specs.Position.{squaredDifference, distance}
 use Rattle.grid.specs.Coordinate.{fromWord}
+use Rattle.grid.specs.Side.{onTheRight?}
 use Rattle.grid.specs.Fraction.{gcdBy, gcdOf, lowest}
 use Rattle.split.specs.SplitList.{rank}
 use Rattle.split.specs.SplitOf.{hides?, rightBelow?, under?, push, insert, build, splitOf}
@@ -18,7 +19,7 @@ use Rattle.demands.specs.Edges.{sides, corners, answersAt, taken, refuse
 
 -- AT 12,000 every command that has a position is taken
 pub edge-taken : (map answersAt (sides 12000) ≡ four taken) × (map answersAt (corners 12000) ≡ four taken)
-unfolding records turn runFrom parseAt formOf wordAt fromWord answer holds change writeLine strikeLine moveLine splitOf build insert push hides? under? rightBelow? decLe decLt distance squaredDifference rank lowest gcdOf gcdBy entryBytes listBytes recordBytes
+unfolding records turn runFrom parseAt formOf wordAt fromWord answer holds change writeLine strikeLine moveLine splitOf build insert push hides? under? rightBelow? decLe decLt distance squaredDifference rank onTheRight? lowest gcdOf gcdBy entryBytes listBytes recordBytes
 edge-taken = (refl, refl)
 
 -- AT 12,001 every one gets 2

@@ -12,6 +12,7 @@ use Rattle.grid.specs.Position.{OnGrid, LegOnGrid}
 use Rattle.split.specs.SplitList.{Entry, IsSplitList, Stretches}
 use Rattle.split.specs.SplitOf.{splitOf}
 use Rattle.split.proofs.Closed.{closed}
+use Rattle.split.proofs.Ties.{first-of-ties}
 use Rattle.split.proofs.Exists.{split-is}
 use Rattle.book.specs.declared.Command.the-variants.{List as ListOf}
 use Rattle.book.specs.Book.{Book, sitesOf}
@@ -48,4 +49,10 @@ pub list-right : (b : Book) → Proper b → (l : Leg) → LegOnGrid l → (es :
 list-right b ok l on es e =
     let h : IsSplitList l (sitesOf b) es =
     subst⁻¹ (λ (x : List Entry). IsSplitList l (sitesOf b) x) e (split-is l (sitesOf b) (proper-numbered b ok)) in
-    record { is = e; rules = h; nearest = all-nearest l (sitesOf b) es (h .rules); read = list-read b ok l on es h }
+    record {
+      is = e;
+      rules = h;
+      nearest = all-nearest l (sitesOf b) es (h .rules);
+      ties = first-of-ties l (sitesOf b) (proper-numbered b ok) es h;
+      read = list-read b ok l on es h;
+    }

@@ -7,7 +7,9 @@ pub mod Printing
 pub mod Demand1
 pub mod Demand2
 pub mod Demand3
+pub mod Ties
 pub mod Demands
 pub mod WorkBuffer
 pub mod Starred
 pub mod Edges
+pub mod ByNumber

@@ -17,6 +17,7 @@ use Rattle.grid.specs.declared.Fraction.{Fraction}
 use Rattle.grid.specs.Position.{OnGrid, LegOnGrid}
 use Rattle.grid.specs.Fraction.{IsFraction}
 use Rattle.split.specs.SplitList.{Entry, IsSplitList, NearestAt, CoversAt}
+use Rattle.split.specs.Ties.{FirstOfTies}
 use Rattle.split.specs.SplitOf.{splitOf}
 use Rattle.records.specs.ListRecord.{recordBytes}
 use Rattle.records.specs.Decode.{Listed, listedOf, readRecord}
@@ -115,6 +116,9 @@ pub record RightList (l : Leg) (s : List Site) (es : List Entry) : Type 0 where
   pub rules : IsSplitList l s es
   -- "Each entry's site is nearest .. at every fraction that the entry covers, both ends included."
   pub nearest : AllNearest l s es
+  -- document 02, C-11: "Of sites that tie along the whole leg, one on the right now comes before others; then the lower
+  -- number."
+  pub ties : FirstOfTies l s es
   -- reading its record gives it back: no number and no fraction is cut off
   pub read : readRecord (recordBytes es) ≡ map listedOf es
 

@@ -5,3 +5,4 @@ pub mod Demands
 pub mod WorkBuffer
 pub mod Starred
 pub mod Edges
+pub mod ByNumber

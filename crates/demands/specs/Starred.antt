@@ -7,6 +7,7 @@ use Prim.Native.Nat.{ℕ, _+_}
 use Rattle.grid.specs.declared.Position.{Position}
 use Rattle.grid.specs.declared.Leg.{Leg}
 use Rattle.grid.specs.declared.Fraction.{Fraction}
+use Rattle.grid.specs.Side.{turned}
 use Rattle.records.specs.Bytes.{bytes2, bytes4}
 use Rattle.records.specs.Decode.{Listed}
 use Rattle.book.specs.declared.Command.{Command}
@@ -59,7 +60,7 @@ longestList =
     ∷ []
 
 -- "Site 1 (2,3), 2 (7,1): 1 from 0/1, 2 from 37/100. Add 3 (9,-4): no change. Remove 2 and 3: 1 from 0/1."
--- "2 (3,4), 5 (3,-4): 2 from 0/1."
+-- "2 (3,4), 5 (3,-4)": 5 from 0/1. Document 02, C-11: "that leg now lists 5".
 -- "1 (0,0), 2 (10,0), 3 (5,5): 1 from 0/1, 2 from 1/2; 3 touches once."
 -- "1 (-2,0), 2 (2,0): 2 from 0/1."
 -- "1 (8,0), 2 (12,0): 1 from 0/1; they tie at 1."
@@ -73,7 +74,7 @@ starredLines =
     (0x2B ∷ 0x2B ∷ twoEntries (sinceBytes 1 0 1) (sinceBytes 2 37 100)
     ++ (0x2B ∷ twoEntries (sinceBytes 1 0 1) (sinceBytes 2 37 100))
     ++ (0x2B ∷ 0x2B ∷ oneEntry (sinceBytes 1 0 1)))
-    ∷ line (pair 2 (at 3 4) 5 (atSouth 3 4) ten) (0x2B ∷ 0x2B ∷ oneEntry (sinceBytes 2 0 1))
+    ∷ line (pair 2 (at 3 4) 5 (atSouth 3 4) ten) (0x2B ∷ 0x2B ∷ oneEntry (sinceBytes 5 0 1))
     ∷ line (Add 1 (at 0 0) ∷ pair 2 (at 10 0) 3 (at 5 5) ten) (0x2B ∷ 0x2B ∷ 0x2B ∷ twoEntries (sinceBytes 1 0 1) (sinceBytes 2 1 2))
     ∷ line (pair 1 (atWest 2 0) 2 (at 2 0) ten) (0x2B ∷ 0x2B ∷ oneEntry (sinceBytes 2 0 1))
     ∷ line (pair 1 (at 8 0) 2 (at 12 0) ten) (0x2B ∷ 0x2B ∷ oneEntry (sinceBytes 1 0 1))
@@ -99,8 +100,9 @@ abbrev pub given : List Line → List (List ℕ)
 given [] = []
 given (x ∷ xs) = records (run (bytesOf (x .commands)) 1000 emptyBook .turns) ∷ given xs
 
--- the standing leg: printed with sites 1 and 2, when 2 is removed, and when 1 is removed too; and with the two
--- sites changed over by moves
+-- the standing leg: printed with sites 1 and 2, when 2 is removed, and when 1 is removed too; with the two sites changed
+-- over by moves; and with sites 2 and 5 that tie along the whole leg (C-11): 2 alone, with 5 on the right, with the leg
+-- turned round, and when 2 is removed
 abbrev pub standingLines : List Line
 standingLines =
     line
@@ -109,6 +111,10 @@ standingLines =
     ∷ line
     (Stand ten ∷ Add 1 (at 2 3) ∷ Add 2 (at 7 1) ∷ Move 1 (at 7 1) ∷ Move 2 (at 2 3) ∷ Print ∷ [])
     (0x2B ∷ 0x2B ∷ 0x2B ∷ 0x2B ∷ 0x2B ∷ twoEntries (sinceBytes 2 0 1) (sinceBytes 1 37 100))
+    ∷ line
+    (Stand ten ∷ Add 2 (at 3 4) ∷ Print ∷ Add 5 (atSouth 3 4) ∷ Print ∷ Stand (turned ten) ∷ Print ∷ Remove 2 ∷ Print ∷ [])
+    (0x2B ∷ 0x2B ∷ oneEntry (sinceBytes 2 0 1) ++ (0x2B ∷ oneEntry (sinceBytes 5 0 1)) ++ (0x2B ∷ oneEntry (sinceBytes 2 0 1))
+    ++ (0x2B ∷ oneEntry (sinceBytes 5 0 1)))
     ∷ []
 
 -- the fractions 0, 36/100, 37/100, 99/100 and 1

@@ -1,5 +1,6 @@
 pub mod Squares
 pub mod Signed
+pub mod CrossProduct
 pub mod Nearest
 pub mod Order
 pub mod Factors

@@ -1,8 +1,9 @@
-// Positions, sites and legs on the grid; squared distances; fractions.
+// Positions, sites and legs on the grid; squared distances; sides of a leg; fractions.
 // Document 01, "Grid and sites" and "The split list". Coordinates are counted from the grid's south-west corner.
 pub mod coordinate;
 pub mod distance;
 pub mod factor;
+pub mod side;
 
 // A pair (easting, northing).
 pub struct Position {

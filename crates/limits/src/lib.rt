@@ -7,6 +7,9 @@ pub const HALF_WIDTH: u16 = 12000;
 // The largest coordinate, counted from the grid's south-west corner.
 pub const GRID_WIDTH: u16 = 2 * HALF_WIDTH;
 
+// The largest site number.
+pub const MAX_NUMBER: u16 = 65535;
+
 pub const MAX_SITES: usize = 512;
 
 // What a node may hold, and what one other than the root has to hold.

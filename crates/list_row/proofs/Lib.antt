@@ -1,5 +1,6 @@
 pub mod Products
 pub mod Reading
+pub mod Ranking
 pub mod Stacks
 pub mod Bisection
 pub mod Listing

@@ -64,14 +64,26 @@ pub fn vertex_at(t: &[u8], leg: Leg, p: usize) -> Vertex
     }
 }
 
+// What decides a tie: the least comes first. On the right of the leg it is the site's number, elsewhere it is above all
+// of those. The tie rule, which no other function knows; only a tie asks for it.
+fn rank(leg: Leg, site: Site) -> u32
+    ensures { λ r. ⌜ r ≡ rank leg site ⌝ }
+{
+    let number = site.number as u32;
+    if grid::side::on_the_right(leg, site.position) {
+        return number;
+    }
+    limits::MAX_NUMBER as u32 + 1 + number
+}
+
 // Whether of two sites that tie along the whole leg the one at p comes first, or has the same rank: then the one at q
-// is not listed. The tie rule, which no other function knows. Today's does not ask for the leg.
+// is not listed.
 pub fn comes_first(t: &[u8], leg: Leg, p: usize, q: usize) -> bool
     requires { ⌜ HasSite (now t) p × HasSite (now t) q ⌝ }
     ensures { λ r. ⌜ Says r (rank leg (siteAt (now (t .entry)) p) ≤ rank leg (siteAt (now (t .entry)) q)) ⌝ }
 {
-    let m = words::word(t, 2 * p);
-    let n = words::word(t, 2 * q);
+    let m = rank(leg, site_at(t, p));
+    let n = rank(leg, site_at(t, q));
     if n < m {
         return false;
     }

@@ -7,6 +7,7 @@ use native.Mathlib.Omega.{arith}
 use Rattle.words.specs.Words.{wordAt}
 use Rattle.grid.specs.Position.{squaredDifference, distance, LegOnGrid}
 use Rattle.grid.specs.Coordinate.{fromWord, toWord}
+use Rattle.grid.specs.Side.{onTheRight?}
 use Rattle.grid.specs.Fraction.{gcdBy, gcdOf, lowest}
 use Rattle.split.specs.Legs.{ten}
 use Rattle.split.specs.SplitList.{rank}
@@ -21,17 +22,17 @@ use Rattle.replay.specs.Replayed.{siteOne, siteTwo, endAsks, endReplies,
 
 -- 64, 0, 66, 67 and 68
 pub end-replies : replies emptyBook endAsks ≡ endReplies
-unfolding repliesAsking bookAfter records turn runFrom parseAt formOf wordAt fromWord toWord answer holds change writeLine strikeLine splitOf build insert push hides? under? rightBelow? decLe decLt distance squaredDifference rank lowest gcdOf gcdBy entryBytes listBytes recordBytes
+unfolding repliesAsking bookAfter records turn runFrom parseAt formOf wordAt fromWord toWord answer holds change writeLine strikeLine splitOf build insert push hides? under? rightBelow? decLe decLt distance squaredDifference rank onTheRight? lowest gcdOf gcdBy entryBytes listBytes recordBytes
 end-replies = refl
 
 -- site 3 has come and gone
 pub end-lines : bookAfter emptyBook endAsks .lines ≡ siteOne ∷ siteTwo ∷ []
-unfolding repliesAsking bookAfter records turn runFrom parseAt formOf wordAt fromWord toWord answer holds change writeLine strikeLine splitOf build insert push hides? under? rightBelow? decLe decLt distance squaredDifference rank lowest gcdOf gcdBy entryBytes listBytes recordBytes
+unfolding repliesAsking bookAfter records turn runFrom parseAt formOf wordAt fromWord toWord answer holds change writeLine strikeLine splitOf build insert push hides? under? rightBelow? decLe decLt distance squaredDifference rank onTheRight? lowest gcdOf gcdBy entryBytes listBytes recordBytes
 end-lines = refl
 
 -- "1 from 0/1, 2 from 37/100"
 pub ten-list : recordBytes (splitOf ten (siteOne ∷ siteTwo ∷ [])) ≡ tenBytes
-unfolding splitOf build insert push hides? under? rightBelow? decLe decLt distance squaredDifference rank lowest gcdOf gcdBy entryBytes listBytes recordBytes
+unfolding splitOf build insert push hides? under? rightBelow? decLe decLt distance squaredDifference rank onTheRight? lowest gcdOf gcdBy entryBytes listBytes recordBytes
 ten-list = refl
 
 pub ten-on : LegOnGrid ten

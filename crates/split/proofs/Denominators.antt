@@ -18,8 +18,10 @@ use Rattle.split.specs.SplitList.{distanceAt, Leads, Entry, endOf, Stret
 use Rattle.split.specs.Bounds.{Bounded}
 use Rattle.split.proofs.Bounds.{on-grid-bounded}
 use Rattle.split.proofs.Closed.{closed}
-use Rattle.split.proofs.Unique.{end-fraction, rank-number}
-use Rattle.split.proofs.Weights.{Weights, weights, weigh-le, far-eq}
+use Rattle.split.proofs.Ranks.{rank-number}
+use Rattle.split.proofs.Unique.{end-fraction}
+use Rattle.split.proofs.Ties.{tie-along}
+use Rattle.split.proofs.Weights.{Weights, weights, weigh-le}
 
 -- a start is below 1
 pub start-below : (l : Leg) (s : List Site) (es : List Entry) → Stretches l s es → (f : Entry) → List·Memᴰ f es → f .start .num < f .start .den
@@ -61,12 +63,6 @@ rest-eq : (m n a1 a2 c1 c2 : ℕ) → a1 ≡ a2 → m * a1 + n * c1 ≡ m * a2 +
 rest-eq m n a1 a2 c1 c2 e t p = cancel-eq c1 c2 n p (omega (arith, ap (λ (x : ℕ). m * x) e))
 
 module _ (l : Leg) (s : List Site) (numbered : Numbered s) (onLeg : LegOnGrid l) (onGrid : SitesOnGrid s) where
-  -- two sites as far from both ends of the leg tie everywhere
-  twins : (p q : Site) → distance (p .position) (l .s) ≡ distance (q .position) (l .s) → distance (p .position) (l .e) ≡ distance (q .position) (l .e)
-      → (t : Fraction) → IsFraction t → distanceAt l t p ≡ distanceAt l t q
-  unfolding weigh
-  twins p q a c t f = far-eq l t (t .den - t .num) (weights t f) p q (cc)
-
   next : (e f : Entry) (fs : List Entry) → Stretches l s (e ∷ f ∷ fs) → f .start .den ≤ maxDenominator
   unfolding weigh
   next e f fs h = go (decLt (A x) (A y)) (decLt (A y) (A x))
@@ -129,7 +125,7 @@ module _ (l : Leg) (s : List Site) (numbered : Numbered s) (onLeg : LegOnGrid l)
       same a b =
           h .0 .changes
           (rank-number l x y (numbered .small x (left .held)) (numbered .small y (right .held))
-          (omega (arith, left .least y (right .held) (twins x y a b _ (mid-fraction _ _ fe fc)), right .least x (left .held) (twins y x (sym a) (sym b) _ (mid-fraction _ _ fc fz)))))
+          (omega (arith, left .least y (right .held) (tie-along l x y a b _ (mid-fraction _ _ fe fc)), right .least x (left .held) (tie-along l y x (sym a) (sym b) _ (mid-fraction _ _ fc fz)))))
 
       go : Dec (A x < A y) → Dec (A y < A x) → c .den ≤ maxDenominator
       go (yes a) q =

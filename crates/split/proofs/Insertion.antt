@@ -38,7 +38,7 @@ hidden u x h k m n pm pn =
     }
 
 -- Of two points at one height, neither hidden by u: x is at u's place, with the lower id.
-same-place : (u x : Point) → ¬ Hides u x → u .c ≤ x .c → (x .c ≤ u .c) × (x .a ≤ u .a) × (x .order < u .order)
+pub same-place : (u x : Point) → ¬ Hides u x → u .c ≤ x .c → (x .c ≤ u .c) × (x .a ≤ u .a) × (x .order < u .order)
 same-place u x h k = (
   by-dec (decLe (x .c) (u .c)) (λ g. h (k, λ e f. absurd (g e))),
   by-dec (decLe (x .a) (u .a)) (λ g. h (k, λ e f. absurd (g f))),

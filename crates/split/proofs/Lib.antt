@@ -2,7 +2,9 @@ pub mod Stewart
 pub mod Weights
 pub mod DotProduct
 pub mod Between
+pub mod Ranks
 pub mod Unique
+pub mod Ties
 pub mod Closed
 pub mod Once
 pub mod Names
@@ -20,3 +22,4 @@ pub mod Exists
 pub mod Dealing
 pub mod Starred
 pub mod Moved
+pub mod ByNumber

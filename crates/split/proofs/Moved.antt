@@ -9,13 +9,14 @@ use Rattle.grid.specs.declared.Leg.{Leg}
 use Rattle.grid.specs.declared.Site.{Site}
 use Rattle.grid.specs.declared.Position.{Position}
 use Rattle.grid.specs.Position.{squaredDifference, distance}
+use Rattle.grid.specs.Side.{OnTheRight, onTheRight?}
 use Rattle.grid.specs.Fraction.{zeroFraction}
-use Rattle.grid.specs.Coordinate.{fromWord}
-use Rattle.split.specs.SplitList.{Entry, rank}
+use Rattle.grid.specs.Coordinate.{fromWord, wordPosition}
+use Rattle.split.specs.SplitList.{Entry, rankBy, rank}
 use Rattle.split.specs.Hull.{Point, pointOf, points, Under}
 use Rattle.split.specs.Choice.{pick}
 use Rattle.split.specs.SplitOf.{hides?, under?, push, insert, build, changeover, entriesAfter, entriesAlong, onto, entriesOf, splitOf}
-use Rattle.split.specs.Moved.{movedPosition, movedLeg, movedSite, movedEntry, earlierWord, earlierPosition, wordPosition}
+use Rattle.split.specs.Moved.{movedPosition, movedLeg, movedSite, movedEntry, earlierWord, earlierPosition}
 
 -- Points that have other sites: the hull asks for their distances and orders alone.
 module _ (f : Site → Site) where
@@ -94,12 +95,22 @@ unfolding distance
 distance-moved k p q = λ i. difference-moved k (p .east) (q .east) i + difference-moved k (p .north) (q .north) i
 
 module _ (k : ℕ) (l : Leg) where
+  rank-moved : (p : Site) → rank (movedLeg k l) (movedSite k p) ≡ rank l p
+  unfolding rank OnTheRight
+  rank-moved p = go (onTheRight? (movedLeg k l) (movedPosition k (p .position))) (onTheRight? l (p .position))
+    where
+      go : (d : Dec (OnTheRight (movedLeg k l) (movedPosition k (p .position)))) (f : Dec (OnTheRight l (p .position)))
+          → rankBy d (p .number) ≡ rankBy f (p .number)
+      go (yes a) (yes b) = refl
+      go (yes a) (no b) = absurd (b (omega arith))
+      go (no a) (yes b) = absurd (a (omega arith))
+      go (no a) (no b) = refl
+
   point-moved : (p : Site) → pointOf (movedLeg k l) (movedSite k p) ≡ relabel (movedSite k) (pointOf l p)
-  unfolding rank
   point-moved p = λ i. record {
     a = distance-moved k (p .position) (l .s) i;
     c = distance-moved k (p .position) (l .e) i;
-    order = p .number;
+    order = rank-moved p i;
     site = movedSite k p;
   }
 

@@ -9,17 +9,23 @@ use Rattle.limits.specs.Limits.{maxNumber}
 use Rattle.grid.specs.declared.Site.{Site}
 use native.Mathlib.Decide.{decLe, decLt}
 use Rattle.grid.specs.Position.{squaredDifference, distance, OnGrid}
+use Rattle.grid.specs.Side.{onTheRight?}
 use Rattle.grid.specs.Fraction.{gcdBy, gcdOf, lowest}
 use Rattle.split.specs.SplitList.{rank, Entry, Numbered}
 use Rattle.split.specs.SplitOf.{hides?, rightBelow?, under?, push, insert, build, splitOf}
-use Rattle.split.specs.Legs.{legs, listed, computed, longest, longestSites, diagonal, diagonalSites}
+use Rattle.split.specs.Legs.{legs, tiedLegs, listed, computed, longest, longestSites, diagonal, diagonalSites}
 use Rattle.split.proofs.Exists.{split-is}
 use Rattle.split.proofs.Comparisons.{starts-compared, comparison-fits}
 
 -- THE STARRED LEGS
 pub starred : computed legs ≡ listed legs
-unfolding splitOf build insert push hides? under? rightBelow? decLe decLt distance squaredDifference rank lowest gcdOf gcdBy
+unfolding splitOf build insert push hides? under? rightBelow? decLe decLt distance squaredDifference rank onTheRight? lowest gcdOf gcdBy
 starred = refl
+
+-- TIES ALONG THE WHOLE LEG
+pub tied : computed tiedLegs ≡ listed tiedLegs
+unfolding splitOf build insert push hides? under? rightBelow? decLe decLt distance squaredDifference rank onTheRight? lowest gcdOf gcdBy
+tied = refl
 
 -- two sites
 module _ (p q : Site) where

@@ -5,13 +5,13 @@ use mathlib.Core.List.{List, [], _∷_, List·Memᴰ, List·Memᴰ·head, List·
 use Prim.Native.Nat.{_*_, _≤_, _<_}
 use native.Mathlib.Decide.{decLt}
 use native.Mathlib.Omega.{arith}
-use Rattle.limits.specs.Limits.{maxNumber}
 use Rattle.grid.specs.declared.Fraction.{Fraction}
 use Rattle.grid.specs.declared.Leg.{Leg}
 use Rattle.grid.specs.declared.Site.{Site}
 use Rattle.grid.specs.Fraction.{IsFraction, Below}
 use Rattle.grid.proofs.Order.{same-fraction, below-trans, Shared, overlap}
 use Rattle.split.specs.SplitList.{distanceAt, rank, Leads, Entry, endOf, Stretches, Opens, IsSplitList, Numbered, SameSites}
+use Rattle.split.proofs.Ranks.{rank-number}
 
 -- the order of the sites does not matter
 leads-same : (l : Leg) (s u : List Site) → SameSites s u → (t : Fraction) (p : Site) → Leads l s t p → Leads l u t p
@@ -48,11 +48,6 @@ order-free l s u e es h =
 pub end-fraction : (l : Leg) (s : List Site) (es : List Entry) → Stretches l s es → IsFraction (endOf es)
 end-fraction l s [] h = omega arith
 end-fraction l s (x ∷ xs) h = let k : x .start .num < x .start .den = h .0 .below1 in omega arith
-
--- a rank is that of one number
-pub rank-number : (l : Leg) (p q : Site) → p .number ≤ maxNumber → q .number ≤ maxNumber → rank l p ≡ rank l q → p .number ≡ q .number
-unfolding rank
-rank-number l p q hp hq e = omega arith
 
 pub one-number : (l : Leg) (s : List Site) → Numbered s → (t : Fraction) (p q : Site) → Leads l s t p → Leads l s t q → p .number ≡ q .number
 one-number l s numbered t p q hp hq =

@@ -7,6 +7,7 @@ use Rattle.limits.specs.Limits.{halfWidth}
 use Rattle.grid.specs.declared.Position.{Position}
 use Rattle.grid.specs.declared.Site.{Site}
 use Rattle.grid.specs.declared.Leg.{Leg}
+use Rattle.grid.specs.Side.{turned}
 use Rattle.split.specs.SplitList.{Entry}
 use Rattle.split.specs.SplitOf.{splitOf}
 
@@ -69,7 +70,7 @@ abbrev pub try : Leg → List Site → List Entry → Try
 try l s es = record { leg = l; sites = s; list = es }
 
 -- "Site 1 (2,3), 2 (7,1): 1 from 0/1, 2 from 37/100. Add 3 (9,-4): no change. Remove 2 and 3: 1 from 0/1."
--- "2 (3,4), 5 (3,-4): 2 from 0/1."
+-- "2 (3,4), 5 (3,-4)": 5 from 0/1. Document 02, C-11: "that leg now lists 5".
 -- "1 (0,0), 2 (10,0), 3 (5,5): 1 from 0/1, 2 from 1/2; 3 touches once."
 -- "1 (-2,0), 2 (2,0): 2 from 0/1."
 -- "1 (8,0), 2 (12,0): 1 from 0/1; they tie at 1."
@@ -82,13 +83,29 @@ legs =
     try ten (site 1 (at 2 3) ∷ site 2 (at 7 1) ∷ []) (since (site 1 (at 2 3)) 0 1 ∷ since (site 2 (at 7 1)) 37 100 ∷ [])
     ∷ try ten (site 1 (at 2 3) ∷ site 2 (at 7 1) ∷ site 3 (atSouth 9 4) ∷ []) (since (site 1 (at 2 3)) 0 1 ∷ since (site 2 (at 7 1)) 37 100 ∷ [])
     ∷ try ten (site 1 (at 2 3) ∷ []) (since (site 1 (at 2 3)) 0 1 ∷ [])
-    ∷ try ten (site 2 (at 3 4) ∷ site 5 (atSouth 3 4) ∷ []) (since (site 2 (at 3 4)) 0 1 ∷ [])
+    ∷ try ten (site 2 (at 3 4) ∷ site 5 (atSouth 3 4) ∷ []) (since (site 5 (atSouth 3 4)) 0 1 ∷ [])
     ∷ try ten (site 1 (at 0 0) ∷ site 2 (at 10 0) ∷ site 3 (at 5 5) ∷ []) (since (site 1 (at 0 0)) 0 1 ∷ since (site 2 (at 10 0)) 1 2 ∷ [])
     ∷ try ten (site 1 (atWest 2 0) ∷ site 2 (at 2 0) ∷ []) (since (site 2 (at 2 0)) 0 1 ∷ [])
     ∷ try ten (site 1 (at 8 0) ∷ site 2 (at 12 0) ∷ []) (since (site 1 (at 8 0)) 0 1 ∷ [])
     ∷ try (leg (at 4 4) (at 4 4)) (site 7 (at 4 5) ∷ site 3 (at 5 4) ∷ []) (since (site 3 (at 5 4)) 0 1 ∷ [])
     ∷ try diagonal diagonalSites (since (site 1 (atSouthWest 8000 8000)) 0 1 ∷ since (site 2 (at 8000 8000)) 1 2 ∷ [])
     ∷ try longest longestSites (since (site 1 (atSouthWest 11999 12000)) 0 1 ∷ since (site 2 (at 12000 12000)) 1151999999 2303952000 ∷ [])
+    ∷ []
+
+-- ties along the whole leg, by C-11's rule: the starred leg turned round; two on the right, and two on the left; on the
+-- line itself, on the leg and beyond it; two on each side; a slanted leg; two stretches, each with a site on either
+-- side; a leg of no length, where nothing is on the right
+abbrev pub tiedLegs : List Try
+tiedLegs =
+    try (turned ten) (site 2 (at 3 4) ∷ site 5 (atSouth 3 4) ∷ []) (since (site 2 (at 3 4)) 0 1 ∷ [])
+    ∷ try ten (site 5 (atSouth 3 4) ∷ site 2 (atSouth 3 4) ∷ []) (since (site 2 (atSouth 3 4)) 0 1 ∷ [])
+    ∷ try ten (site 5 (at 3 4) ∷ site 2 (at 3 4) ∷ []) (since (site 2 (at 3 4)) 0 1 ∷ [])
+    ∷ try ten (site 5 (at 3 0) ∷ site 2 (at 3 0) ∷ []) (since (site 2 (at 3 0)) 0 1 ∷ [])
+    ∷ try ten (site 5 (at 12 0) ∷ site 2 (at 12 0) ∷ []) (since (site 2 (at 12 0)) 0 1 ∷ [])
+    ∷ try ten (site 1 (at 3 4) ∷ site 9 (atSouth 3 4) ∷ site 2 (at 3 4) ∷ site 7 (atSouth 3 4) ∷ []) (since (site 7 (atSouth 3 4)) 0 1 ∷ [])
+    ∷ try (leg (at 0 0) (at 4 2)) (site 2 (at 1 3) ∷ site 5 (atSouth 3 1) ∷ []) (since (site 5 (atSouth 3 1)) 0 1 ∷ [])
+    ∷ try ten (site 1 (at 2 3) ∷ site 2 (at 7 1) ∷ site 3 (atSouth 2 3) ∷ site 4 (atSouth 7 1) ∷ []) (since (site 3 (atSouth 2 3)) 0 1 ∷ since (site 4 (atSouth 7 1)) 37 100 ∷ [])
+    ∷ try (leg (at 4 4) (at 4 4)) (site 2 (at 4 5) ∷ site 1 (at 4 3) ∷ site 3 (at 5 4) ∷ []) (since (site 1 (at 4 3)) 0 1 ∷ [])
     ∷ []
 
 -- the lists as the documents have them

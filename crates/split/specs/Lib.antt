@@ -1,4 +1,5 @@
 pub mod SplitList
+pub mod Ties
 pub mod DotProduct
 pub mod Bounds
 pub mod Hull
@@ -7,3 +8,4 @@ pub mod SplitOf
 pub mod Skip
 pub mod Legs
 pub mod Moved
+pub mod ByNumber

@@ -5,7 +5,6 @@ use Prim.Native.Nat.{ℕ, _+_, _%_}
 use Rattle.grid.specs.declared.Position.{Position}
 use Rattle.grid.specs.declared.Leg.{Leg}
 use Rattle.grid.specs.declared.Site.{Site}
-use Rattle.grid.specs.Coordinate.{fromWord}
 use Rattle.split.specs.SplitList.{Entry}
 
 -- a position, counted from a corner that lies k steps to the west and to the south
@@ -32,7 +31,3 @@ earlierWord w = (w + 8000) % 65536
 -- the position of two words there
 abbrev pub earlierPosition : ℕ → ℕ → Position
 earlierPosition e n = record { east = earlierWord e; north = earlierWord n }
-
--- the same, as it is read now
-abbrev pub wordPosition : ℕ → ℕ → Position
-wordPosition e n = record { east = fromWord e; north = fromWord n }

@@ -5,13 +5,14 @@ use mathlib.Core.Path.{_≡_}
 use mathlib.Core.Logic.{_≢_}
 use mathlib.Core.Option.{Option, none, some}
 use mathlib.Core.List.{List, [], _∷_, List·Memᴰ}
-use Prim.Native.Nat.{ℕ, _+_, _*_, _-_, _≤_, _<_}
+use Prim.Native.Nat.{ℕ, suc, _+_, _*_, _-_, _≤_, _<_}
 use native.Mathlib.Decide.{decLe}
 use Rattle.limits.specs.Limits.{maxNumber}
 use Rattle.grid.specs.declared.Site.{Site}
 use Rattle.grid.specs.declared.Leg.{Leg}
 use Rattle.grid.specs.declared.Fraction.{Fraction}
 use Rattle.grid.specs.Position.{squaredDifference, OnGrid}
+use Rattle.grid.specs.Side.{onTheRight?}
 use Rattle.grid.specs.Fraction.{IsFraction, Below, NotAbove, Reduced, zeroFraction, oneFraction}
 
 -- "Fraction t .. stands for S + t(E - S)": one coordinate of that point, times the denominator of t
@@ -24,11 +25,17 @@ distanceAt l t p =
     squaredDifference (t .den * p .position .east) (along t (l .s .east) (l .e .east))
     + squaredDifference (t .den * p .position .north) (along t (l .s .north) (l .e .north))
 
--- the tie rule: of sites that tie the one with the least rank comes first, and the rank is the number
-unfoldable pub rank : Leg → Site → ℕ
-rank l p = p .number
+-- what a number counts for, by whether its site is on the right: as it is, or above all of those
+abbrev pub rankBy : {A : Type 0} → Dec A → ℕ → ℕ
+rankBy (yes h) n = n
+rankBy (no h) n = suc maxNumber + n
 
--- at t, p "is the least-numbered of the nearest sites"
+-- the tie rule, document 02, C-11: "Of sites that tie along the whole leg, one on the right now comes before others;
+-- then the lower number." The least rank comes first, which is just that (`rank-is`, proofs/Ranks.antt)
+unfoldable pub rank : Leg → Site → ℕ
+rank l p = rankBy (onTheRight? l (p .position)) (p .number)
+
+-- at t, p is the first of the nearest sites: on the right of the leg first, then the lower number
 pub record Leads (l : Leg) (sites : List Site) (t : Fraction) (p : Site) : Type 0 where
   pub held : List·Memᴰ p sites
   pub nearest : (q : Site) → List·Memᴰ q sites → distanceAt l t p ≤ distanceAt l t q
@@ -50,8 +57,8 @@ Changes e [] = Unit {0}
 Changes e (f ∷ fs) = e .site .number ≢ f .site .number
 
 -- the rules of an entry that is followed by rest: "Starts rise strictly", "each start is less than 1", "without
--- common factor"; "At every t strictly inside an entry's stretch its site is the least-numbered of the nearest
--- sites."
+-- common factor"; "At every t strictly inside an entry's stretch its site is" the first of the nearest sites, by the tie
+-- rule of C-11 where document 01 had the "least-numbered"
 pub record Stretch (l : Leg) (sites : List Site) (e : Entry) (rest : List Entry) : Type 0 where
   pub below1 : e .start .num < e .start .den
   pub reduced : Reduced (e .start)

@@ -1,0 +1,47 @@
+-- Tables of the release before C-11 of document 02, whose standing list followed document 01's own tie rule. C-11: "The
+-- standing list and test 65 follow".
+-- Assumes nothing.
+use mathlib.Core.Path.{_≡_}
+use mathlib.Core.Option.{Option, none, some}
+use mathlib.Core.List.{List, []}
+use Prim.Native.Nat.{ℕ}
+use Rattle.limits.specs.Limits.{workBytes}
+use Rattle.grid.specs.declared.Leg.{Leg}
+use Rattle.grid.specs.declared.Site.{Site}
+use Rattle.split.specs.SplitList.{Entry}
+use Rattle.split.specs.ByNumber.{splitByNumber}
+use Rattle.book.specs.Book.{Book, sitesOf, standingList}
+use Rattle.book.specs.Proper.{LegOk}
+use Rattle.table_standing.specs.Standing.{standingIn, numbersOf}
+use Rattle.table_rules.specs.Table.{Whole, bookOf}
+use Rattle.table_empty.specs.EmptyTable.{zeros}
+use Rattle.demands.specs.Batch.{returns}
+use Rattle.demands.specs.Whole.{Call}
+use Rattle.demands.specs.Demands.{Kept}
+
+-- the list of a leg or none, by document 01's own tie rule
+abbrev pub listByNumber : Option Leg → List Site → List Entry
+listByNumber none s = []
+listByNumber (some l) s = splitByNumber l s
+
+-- the site numbers that were stored then as the standing list of this book
+abbrev pub storedBefore : Book → List ℕ
+storedBefore b = numbersOf (listByNumber (b .leg) (sitesOf b))
+
+-- a table that was sound then: every rule but that on the standing list is what it is now
+pub record SoundByNumber (t : List ℕ) : Type 0 where
+  pub whole : Whole t
+  pub leg : LegOk (bookOf t .leg)
+  pub list : standingIn t ≡ storedBefore (bookOf t)
+
+-- C-11 leaves the stored list of such a table
+abbrev pub ListStays : List ℕ → Type 0
+ListStays t = storedBefore (bookOf t) ≡ numbersOf (standingList (bookOf t))
+
+-- what becomes of such a table in a call with a work buffer of the right length
+pub record EarlierTable (t : List ℕ) (c : Call) (t′ : List ℕ) : Type 0 where
+  -- whose stored list C-11 changes: 65, with table and report left and the work buffer all zero
+  pub refused : ¬ ListStays t
+      → (c .result ≡ returns 65 0 0) × (t′ ≡ t) × (c .workAfter ≡ zeros workBytes) × (c .reportAfter ≡ c .report)
+  -- and every other one: it is taken as it is
+  pub taken : ListStays t → Kept t c t′
