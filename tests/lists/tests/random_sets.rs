@@ -4,12 +4,13 @@
 //! positions at random; so the sites come in every order.
 
 use lists::{SITE_LEN, WORK_NEEDED, leg_words, probe_list, table};
-use reference::grid::{HALF_WIDTH, Leg, MOST_SITES, Site, spread};
+use reference::grid::{HALF_WIDTH, Leg, MOST_SITES, Position, Site, spread};
 use reference::hull;
 use reference::layout::{Case, LAYOUTS, case};
 use reference::random::Random;
 use reference::record::Record;
 use reference::split::{Entry, split_list};
+use reference::ties::{TIES, number_alone, renamed, right_then_higher, side_decides, way_back};
 
 const SMALL_SETS: usize = 100_000;
 const LARGE_SETS: usize = 400;
@@ -68,24 +69,16 @@ impl Probe {
     }
 }
 
-/// Whether the list would name other sites if the highest number won a tie.
+/// Whether the list would name other sites if the higher number of a side won a tie.
 fn number_decides(Case { leg, sites }: &Case, list: &[Entry]) -> bool {
-    // 65,536 less the number: the order is turned round.
-    let turned = |site: &Site| Site {
-        number: site.number.wrapping_neg(),
-        ..*site
-    };
-    let sites: Vec<Site> = sites.iter().map(turned).collect();
-    let other = hull::split_list(leg, &sites);
-    let names = other.iter().map(|entry| entry.site.wrapping_neg());
-    names.ne(list.iter().map(|entry| entry.site))
+    renamed(leg, sites, list, right_then_higher) != list
 }
 
 #[test]
 fn small_sets_by_the_definition() {
     let mut random = Random::new(21);
     let mut probe = Probe::new(22);
-    let (mut compared, mut decided) = (0, 0);
+    let (mut compared, mut decided, mut sided) = (0, 0, 0);
     let mut of_length = [0; 13];
     for i in 0..SMALL_SETS / LAYOUTS.len() {
         let count = match i % 50 {
@@ -96,16 +89,17 @@ fn small_sets_by_the_definition() {
             let case = case(&mut random, layout, count);
             let list = split_list(&case.leg, &case.sites);
             decided += usize::from(number_decides(&case, &list));
+            sided += usize::from(side_decides(&case.leg, &case.sites, &list));
             of_length[list.len().min(12)] += 1;
             probe.assert_lists(&case, list);
             compared += 1;
         }
     }
-    println!("small sets compared: {compared}; decided by number: {decided}");
+    println!("small sets compared: {compared}; by number: {decided}; by side: {sided}");
     println!("lists by length, the last with all longer ones: {of_length:?}");
     assert_eq!(compared, SMALL_SETS);
     // The sets are no use without ties and without long lists.
-    assert!(decided >= SMALL_SETS / 4);
+    assert!(decided >= SMALL_SETS / 4 && sided >= SMALL_SETS / 10);
     assert!(of_length[1..].iter().all(|lists| *lists >= 200));
 }
 
@@ -113,7 +107,7 @@ fn small_sets_by_the_definition() {
 fn large_sets_by_the_hull() {
     let mut random = Random::new(23);
     let mut probe = Probe::new(24);
-    let mut compared = 0;
+    let (mut compared, mut sided) = (0, 0);
     for i in 0..LARGE_SETS / LAYOUTS.len() {
         let count = match i % 5 {
             0 => MOST_SITES,
@@ -121,12 +115,15 @@ fn large_sets_by_the_hull() {
         };
         for layout in LAYOUTS {
             let case = case(&mut random, layout, count);
-            probe.assert_lists(&case, hull::split_list(&case.leg, &case.sites));
+            let list = hull::split_list(&case.leg, &case.sites);
+            sided += usize::from(side_decides(&case.leg, &case.sites, &list));
+            probe.assert_lists(&case, list);
             compared += 1;
         }
     }
-    println!("large sets compared: {compared}");
+    println!("large sets compared: {compared}; by side: {sided}");
     assert_eq!(compared, LARGE_SETS);
+    assert!(sided >= LARGE_SETS / 10);
 }
 
 /// Beside a leg across the grid, so that all are listed; numbers are to be dealt.
@@ -155,6 +152,59 @@ fn lists_as_long_as_the_table() {
         let list = hull::split_list(&case.leg, &case.sites);
         assert_eq!(list.len(), MOST_SITES);
         probe.assert_lists(&case, list);
+    }
+}
+
+#[test]
+fn ties_to_try() {
+    let mut probe = Probe::new(28);
+    for tie in TIES {
+        for (leg, number) in [(tie.leg, tie.there), (way_back(&tie.leg), tie.back)] {
+            let sites = tie.sites.to_vec();
+            probe.assert_lists(&Case { leg, sites }, vec![Entry::new(number, 0, 1)]);
+        }
+    }
+}
+
+/// 256 pairs beside a leg across the grid; a place is given by steps along the leg and aside of it.
+fn pairs(numbers: &[u16], place: fn(i64, i64) -> Position) -> Case {
+    let position = |k: i64| place(spread(k / 2 * 2), (1 + k / 2 % 5) * (1 - k % 2 * 2));
+    let site = |(number, k): (&u16, i64)| Site {
+        number: *number,
+        position: position(k),
+    };
+    let (s, e) = (place(-HALF_WIDTH, 0), place(HALF_WIDTH, 0));
+    Case {
+        leg: Leg { s, e },
+        sites: numbers.iter().zip(0..).map(site).collect(),
+    }
+}
+
+#[test]
+fn long_lists_in_which_each_entry_ties() {
+    let places: [fn(i64, i64) -> Position; 6] = [
+        |along, aside| Position::new(along, aside),
+        |along, aside| Position::new(-along, aside),
+        |along, aside| Position::new(aside, along),
+        |along, aside| Position::new(aside, -along),
+        |along, aside| Position::new(along + aside, along - aside),
+        |along, aside| Position::new(along + aside, aside - along),
+    ];
+    let mut random = Random::new(29);
+    let mut probe = Probe::new(30);
+    let mut numbers: Vec<u16> = (1..=512).collect();
+    for place in places.repeat(5) {
+        random.shuffle(&mut numbers);
+        let Case { leg, sites } = pairs(&numbers, place);
+        for leg in [leg, way_back(&leg)] {
+            let list = hull::split_list(&leg, &sites);
+            assert_eq!(list.len(), MOST_SITES / 2);
+            let by_number = renamed(&leg, &sites, &list, number_alone);
+            let sided = list.iter().zip(&by_number).filter(|(e, f)| e != f).count();
+            assert!((64..=192).contains(&sided), "{sided}");
+            let sites = sites.clone();
+            probe.assert_lists(&Case { leg, sites }, list);
+        }
     }
 }
 

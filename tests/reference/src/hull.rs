@@ -6,21 +6,31 @@
 //! shared with `split`; the tie rule is written again, so that the two can disagree.
 
 use crate::fraction::Fraction;
-use crate::grid::{Leg, Site, squared_distance};
+use crate::grid::{Leg, Position, Site, squared_distance};
 use crate::split::Entry;
 
 #[derive(Clone, Copy, PartialEq, Eq, PartialOrd, Ord)]
 struct Point {
-    // Field order is the sorting order: of equal points the least number comes first.
+    // Field order is the sorting order. Sites with equal A and C are mirror images across the leg,
+    // or at one position, or the leg has no length: so their areas are x, -x or 0. First come
+    // those on the right, where it is below 0, then the lower number.
     a: i64,
     c: i64,
+    area: i64,
     number: u16,
+}
+
+/// Twice the area of the triangle S, E, p; below 0 where its corners run clockwise.
+fn doubled_area(leg: &Leg, p: Position) -> i64 {
+    let corner = |u: Position, v: Position| u.east * v.north - v.east * u.north;
+    corner(leg.s, leg.e) + corner(leg.e, p) + corner(p, leg.s)
 }
 
 fn point(leg: &Leg, site: &Site) -> Point {
     Point {
         a: squared_distance(site.position, leg.s),
         c: squared_distance(site.position, leg.e),
+        area: doubled_area(leg, site.position),
         number: site.number,
     }
 }

@@ -2,6 +2,7 @@
 
 use crate::grid::{HALF_WIDTH, Leg, Position, Site};
 use crate::random::Random;
+use crate::ties::mirror_image;
 use std::collections::BTreeSet;
 
 /// How a case's sites and leg lie.
@@ -13,8 +14,12 @@ pub enum Layout {
     EqualPositions,
     /// On one line, the leg on it too or not.
     Collinear,
-    /// In pairs that tie along the whole leg.
+    /// In pairs that tie along the whole leg: mirror images across a leg of any small slope.
     Mirrored,
+    /// On one to three positions and their mirror images, many sites each.
+    MirroredCrowd,
+    /// Mirror images across a leg along an axis or a diagonal, anywhere on the grid.
+    MirroredWide,
     /// S = E.
     PointLeg,
     /// Beside a long leg, so that many are listed.
@@ -25,11 +30,13 @@ pub enum Layout {
     Wide,
 }
 
-pub const LAYOUTS: [Layout; 8] = [
+pub const LAYOUTS: [Layout; 10] = [
     Layout::Lattice,
     Layout::EqualPositions,
     Layout::Collinear,
     Layout::Mirrored,
+    Layout::MirroredCrowd,
+    Layout::MirroredWide,
     Layout::PointLeg,
     Layout::AlongLeg,
     Layout::Corners,
@@ -48,6 +55,8 @@ pub fn case(random: &mut Random, layout: Layout, count: usize) -> Case {
         Layout::EqualPositions => equal_positions(random, count),
         Layout::Collinear => collinear(random, count),
         Layout::Mirrored => mirrored(random, count),
+        Layout::MirroredCrowd => mirrored_crowd(random, count),
+        Layout::MirroredWide => mirrored_wide(random, count),
         Layout::PointLeg => point_leg(random, count),
         Layout::AlongLeg => along_leg(random, count),
         Layout::Corners => corners(random, count),
@@ -117,25 +126,67 @@ fn collinear(random: &mut Random, count: usize) -> Placed {
     (leg, positions(count, || on_line(random.between(0, 20))))
 }
 
-/// The leg along an axis or a diagonal through the origin, each site with its mirror image.
-fn mirrored(random: &mut Random, count: usize) -> Placed {
-    let steps = random.between(3, 12);
-    let (low, high) = (Position::new(-steps, -steps), Position::new(steps, steps));
-    let diagonal = random.once_in(2);
-    let on_axis = |k: i64| Position::new(k, if diagonal { k } else { 0 });
-    let mirror = |p: Position| {
-        if diagonal {
-            Position::new(p.north, p.east)
-        } else {
-            Position::new(p.east, -p.north)
-        }
+/// A leg with a length from S around the origin, up to `most` times a random step.
+fn leg_of_steps(random: &mut Random, around: i64, step: i64, most: i64) -> Leg {
+    let within = |random: &mut Random, by: i64| {
+        random.position(Position::new(-by, -by), Position::new(by, by))
     };
-    let s = on_axis(random.between(-steps, steps));
-    let e = on_axis(random.between(-steps, steps));
-    let one_side = positions(count.div_ceil(2), || random.position(low, high));
-    let mut places = one_side.clone();
-    places.extend(one_side.into_iter().map(mirror));
-    (Leg { s, e }, places)
+    loop {
+        let (s, step) = (within(random, around), within(random, step));
+        let times = random.between(1, most);
+        let e = Position::new(s.east + times * step.east, s.north + times * step.north);
+        if e != s && e.on_grid() {
+            return Leg { s, e };
+        }
+    }
+}
+
+/// A position in the rectangle, not on the line of the leg, that has a mirror image across it.
+fn with_image(random: &mut Random, leg: &Leg, low: Position, high: Position) -> Position {
+    loop {
+        let p = random.position(low, high);
+        if mirror_image(leg, p).is_some_and(|image| image != p) {
+            return p;
+        }
+    }
+}
+
+/// The positions, and then their mirror images.
+fn and_images(leg: &Leg, places: Vec<Position>) -> Vec<Position> {
+    let images: Vec<Position> = places
+        .iter()
+        .filter_map(|p| mirror_image(leg, *p))
+        .collect();
+    [places, images].concat()
+}
+
+/// A short leg of any slope, and positions around it that have mirror images.
+fn beside_slope(random: &mut Random, count: usize) -> Placed {
+    let leg = leg_of_steps(random, HALF_WIDTH - 100, 3, 6);
+    let reach = random.between(3, 12);
+    let low = Position::new(leg.s.east - reach, leg.s.north - reach);
+    let high = Position::new(leg.s.east + reach, leg.s.north + reach);
+    let places = positions(count, || with_image(random, &leg, low, high));
+    (leg, places)
+}
+
+fn mirrored(random: &mut Random, count: usize) -> Placed {
+    let (leg, one_side) = beside_slope(random, count.div_ceil(2));
+    (leg, and_images(&leg, one_side))
+}
+
+fn mirrored_crowd(random: &mut Random, count: usize) -> Placed {
+    let distinct = 1 + random.index(3);
+    let (leg, few) = beside_slope(random, distinct);
+    let few = and_images(&leg, few);
+    (leg, positions(count, || random.pick(&few)))
+}
+
+fn mirrored_wide(random: &mut Random, count: usize) -> Placed {
+    let leg = leg_of_steps(random, HALF_WIDTH / 2, 1, HALF_WIDTH);
+    let (low, high) = whole_grid();
+    let one_side = positions(count.div_ceil(2), || with_image(random, &leg, low, high));
+    (leg, and_images(&leg, one_side))
 }
 
 fn point_leg(random: &mut Random, count: usize) -> Placed {
@@ -165,9 +216,13 @@ fn corners(random: &mut Random, count: usize) -> Placed {
     (Leg { s, e }, positions(count, corner))
 }
 
+fn whole_grid() -> (Position, Position) {
+    let corner = |by: i64| Position::new(by, by);
+    (corner(-HALF_WIDTH), corner(HALF_WIDTH))
+}
+
 fn wide(random: &mut Random, count: usize) -> Placed {
-    let low = Position::new(-HALF_WIDTH, -HALF_WIDTH);
-    let high = Position::new(HALF_WIDTH, HALF_WIDTH);
+    let (low, high) = whole_grid();
     let (s, e) = (random.position(low, high), random.position(low, high));
     (
         Leg { s, e },

@@ -1,4 +1,4 @@
-//! The second program of document 01: the same rules written again, plainly, so that the
+//! The second program of documents 01 and 02: the same rules written again, plainly, so that the
 //! proved service has something independent to be compared with.
 
 pub mod area;
@@ -12,3 +12,4 @@ pub mod layout;
 pub mod random;
 pub mod record;
 pub mod split;
+pub mod ties;

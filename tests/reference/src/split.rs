@@ -1,4 +1,5 @@
-//! The split list, straight from the definition in document 01 ("The split list").
+//! The split list, straight from the definition in document 01 ("The split list") with the tie rule
+//! of document 02, C-11.
 //!
 //! Every fraction where two sites tie is collected; between two neighbouring ones the order of
 //! the sites cannot change, so one sample there decides the stretch. Nothing is skipped.
@@ -41,14 +42,29 @@ pub fn squared_distance_at(leg: &Leg, t: Fraction, p: Position) -> i128 {
     east * east + north * north
 }
 
-/// The tie rule: of sites equally near, the one with the lowest rank is named.
-pub fn rank(site: &Site) -> u16 {
-    site.number
+/// Below zero on the right of the leg: the product of document 02, C-11.
+pub fn side(leg: &Leg, p: Position) -> i64 {
+    let Leg { s, e } = leg;
+    (e.east - s.east) * (p.north - s.north) - (e.north - s.north) * (p.east - s.east)
+}
+
+/// Whether p is on the right of the leg; nothing is where that has no length.
+pub fn on_the_right(leg: &Leg, p: Position) -> bool {
+    side(leg, p) < 0
+}
+
+/// Of sites equally near, the one with the lowest rank is named.
+pub type Rank = (bool, u16);
+pub type TieRule = fn(&Leg, &Site) -> Rank;
+
+/// The tie rule: "one on the right now comes before others; then the lower number".
+pub fn rank(leg: &Leg, site: &Site) -> Rank {
+    (!on_the_right(leg, site.position), site.number)
 }
 
 /// Of the nearest sites at t, the one that the tie rule names.
-pub fn nearest(leg: &Leg, sites: &[Site], t: Fraction) -> Option<u16> {
-    let order = |site: &&Site| (squared_distance_at(leg, t, site.position), rank(site));
+fn nearest(leg: &Leg, sites: &[Site], t: Fraction, rule: TieRule) -> Option<u16> {
+    let order = |site: &&Site| (squared_distance_at(leg, t, site.position), rule(leg, site));
     sites.iter().min_by_key(order).map(|site| site.number)
 }
 
@@ -75,11 +91,16 @@ fn crossings(leg: &Leg, sites: &[Site]) -> Vec<Fraction> {
 
 /// The split list of a leg over the sites; empty without a site.
 pub fn split_list(leg: &Leg, sites: &[Site]) -> Vec<Entry> {
+    split_list_by(rank, leg, sites)
+}
+
+/// What the list would be with this tie rule.
+pub fn split_list_by(rule: TieRule, leg: &Leg, sites: &[Site]) -> Vec<Entry> {
     let mut list: Vec<Entry> = Vec::new();
     for stretch in crossings(leg, sites).windows(2) {
         let start = stretch[0];
         let inside = start.mediant(stretch[1]);
-        let Some(site) = nearest(leg, sites, inside) else {
+        let Some(site) = nearest(leg, sites, inside, rule) else {
             continue;
         };
         if list.last().is_none_or(|entry| entry.site != site) {
@@ -89,7 +110,7 @@ pub fn split_list(leg: &Leg, sites: &[Site]) -> Vec<Entry> {
     list
 }
 
-/// The rules of document 01 on a list, in the order in which they are tested here.
+/// The rules of documents 01 and 02 on a list, in the order in which they are tested here.
 #[derive(Clone, Copy, Debug, PartialEq, Eq)]
 pub enum Rule {
     StartReduced,
@@ -97,7 +118,8 @@ pub enum Rule {
     StartsRise,
     StartBelowOne,
     NeighboursDiffer,
-    LeastNumberedNearest,
+    /// On the right of the leg first, then the lower number.
+    FirstOfNearest,
 }
 
 /// The first rule that the list breaks, read one by one and not by comparing with `split_list`.
@@ -125,9 +147,9 @@ pub fn broken_rule(leg: &Leg, sites: &[Site], list: &[Entry]) -> Option<Rule> {
     let covered = list.iter().enumerate().all(|(i, entry)| {
         inside(&crossings, entry.start, end(list, i))
             .iter()
-            .all(|t| nearest(leg, sites, *t) == Some(entry.site))
+            .all(|t| nearest(leg, sites, *t, rank) == Some(entry.site))
     });
-    (!covered).then_some(Rule::LeastNumberedNearest)
+    (!covered).then_some(Rule::FirstOfNearest)
 }
 
 pub fn is_split_list(leg: &Leg, sites: &[Site], list: &[Entry]) -> bool {

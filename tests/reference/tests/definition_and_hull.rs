@@ -4,9 +4,10 @@ use reference::book::{Book, FEW_SITES};
 use reference::fraction::Fraction;
 use reference::grid::{HALF_WIDTH, Leg, MOST_SITES, Site, spread};
 use reference::hull;
-use reference::layout::{Case, LAYOUTS, case, small_cases};
+use reference::layout::{Case, LAYOUTS, Layout, case, small_cases};
 use reference::random::Random;
 use reference::split::{Entry, Rule, broken_rule, end, is_split_list, split_list};
+use reference::ties::side_decides;
 
 fn assert_same(Case { leg, sites }: &Case) -> Vec<Entry> {
     let list = split_list(leg, sites);
@@ -17,30 +18,36 @@ fn assert_same(Case { leg, sites }: &Case) -> Vec<Entry> {
 
 #[test]
 fn small_tables() {
-    let mut compared = 0;
+    let (mut compared, mut sided) = (0, 0);
     let mut of_length = [0; 10];
     for case in small_cases(1, 20_000) {
-        of_length[assert_same(&case).len()] += 1;
+        let list = assert_same(&case);
+        sided += usize::from(side_decides(&case.leg, &case.sites, &list));
+        of_length[list.len()] += 1;
         compared += 1;
     }
     println!("small tables compared: {compared}; lists by length: {of_length:?}");
+    println!("lists in which the side decides: {sided}");
     assert!(compared >= 140_000);
-    // The cases are no use if the lists are all short.
+    // The cases are no use if the lists are all short, or if numbers alone name the same sites.
     assert!(of_length[1..].iter().all(|lists| *lists >= 1_000));
+    assert!(sided >= 14_000);
 }
 
 #[test]
 fn middling_tables() {
     let mut random = Random::new(2);
-    let mut compared = 0;
+    let (mut compared, mut sided) = (0, 0);
     for count in (10..=24).cycle().take(150) {
         for layout in LAYOUTS {
-            assert_same(&case(&mut random, layout, count));
+            let case = case(&mut random, layout, count);
+            let list = assert_same(&case);
+            sided += usize::from(side_decides(&case.leg, &case.sites, &list));
             compared += 1;
         }
     }
-    println!("middling tables compared: {compared}");
-    assert!(compared >= 1_000);
+    println!("middling tables compared: {compared}; the side decides: {sided}");
+    assert!(compared >= 1_000 && sided >= 200);
 }
 
 #[test]
@@ -50,6 +57,8 @@ fn full_tables() {
         let Case { leg, sites } = case(&mut random, layout, MOST_SITES);
         let list = hull::split_list(&leg, &sites);
         assert_eq!(split_list(&leg, &sites), list, "{layout:?}");
+        let mirrored = matches!(layout, Layout::Mirrored | Layout::MirroredWide);
+        assert!(!mirrored || side_decides(&leg, &sites, &list), "{layout:?}");
     }
 }
 
@@ -141,19 +150,19 @@ fn break_entry(case: &Case, list: &[Entry], i: usize, factor: u64) {
         let rule = if repeats {
             Rule::NeighboursDiffer
         } else {
-            Rule::LeastNumberedNearest
+            Rule::FirstOfNearest
         };
         assert_breaks(case, list, rule, |list| list[i].site = other);
     }
     let absent = (1..).find(|number| case.sites.iter().all(|site| site.number != *number));
     let absent = absent.expect("some number is not held");
-    let rule = Rule::LeastNumberedNearest;
+    let rule = Rule::FirstOfNearest;
     assert_breaks(case, list, rule, |list| list[i].site = absent);
 }
 
 /// Changes at an entry that is not the first.
 fn break_later_entry(case: &Case, list: &[Entry], i: usize) {
-    let rule = Rule::LeastNumberedNearest;
+    let rule = Rule::FirstOfNearest;
     let (late, early) = (inside(list, i), inside(list, i - 1));
     assert_breaks(case, list, rule, |list| list[i].start = late);
     assert_breaks(case, list, rule, |list| list[i].start = early);

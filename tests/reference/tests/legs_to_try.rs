@@ -53,10 +53,11 @@ fn the_standing_list_follows_an_addition_and_two_removals() {
     assert_eq!(answers, [Accepted, Accepted, alone.clone(), alone]);
 }
 
+/// Document 02, C-11: "that leg now lists 5".
 #[test]
-fn a_tie_along_the_leg_goes_to_the_lower_number() {
+fn a_tie_along_the_leg_goes_to_the_right_hand_side() {
     let sites = [Site::new(2, 3, 4), Site::new(5, 3, -4)];
-    assert_listed(LEG, &sites, &[Entry::new(2, 0, 1)]);
+    assert_listed(LEG, &sites, &[Entry::new(5, 0, 1)]);
 }
 
 #[test]

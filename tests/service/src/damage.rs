@@ -2,13 +2,16 @@
 
 use crate::bytes::{
     ENTRIES_LISTED, ENTRY_LEN, FREE_NODES, LEVELS, MOST_NODES, RECORD_LEN, ROOT, SITE_ARRAY,
-    SITES_HELD, STACK, STANDING_LIST, entry_at, free_at, node_at, number,
+    SITES_HELD, STACK, STANDING_LIST, entry_at, free_at, leg, listed, listed_at, node_at, number,
+    put_word, sites,
 };
 use crate::desk::{Desk, Lent};
 use crate::table::{Rule, meaning};
 use crate::{BROKEN_TABLE, Service};
 use reference::book::WRONG_LENGTH;
 use reference::grid::WORK_LEN;
+use reference::split::TieRule;
+use reference::ties::first;
 use std::ops::Range;
 
 /// Sends the commands to a service with this table. Returns the broken rules, for which 65 must
@@ -108,4 +111,15 @@ pub fn flipped(table: &[u8], at: usize, bit: usize) -> Vec<u8> {
     let mut damaged = table.to_vec();
     damaged[at] ^= 1 << bit;
     damaged
+}
+
+/// The sound table with the standing list that this tie rule gives.
+pub fn stored_by(rule: TieRule, table: &[u8]) -> Vec<u8> {
+    let mut other = table.to_vec();
+    let (sites, listed) = (sites(table), listed(table));
+    for (i, number) in listed.into_iter().enumerate() {
+        let leg = leg(table).expect("a list is that of a leg");
+        put_word(&mut other, listed_at(i), first(&leg, &sites, number, rule));
+    }
+    other
 }

@@ -8,8 +8,9 @@ use crate::table::{Meaning, meaning};
 use crate::{Answer, Service};
 use reference::book::{ALL_USED, Book, Reply, WRONG_LENGTH};
 use reference::command::{Command, LIST, PRINT};
-use reference::grid::{MOST_SITES, TABLE_LEN, WORK_LEN};
+use reference::grid::{Leg, MOST_SITES, TABLE_LEN, WORK_LEN};
 use reference::record::{ENTRY_LEN, Record};
+use reference::ties::{first, number_alone};
 use std::collections::BTreeMap;
 
 /// The bytes of the longest record, a list of 512 entries.
@@ -33,6 +34,8 @@ pub struct Tally {
     pub bytes_written: usize,
     /// Tables whose rules were all tested.
     pub checked: usize,
+    /// Those among them whose standing list numbers alone would not give.
+    pub sided: usize,
     pub accepted: usize,
     pub lists: usize,
     pub longest_list: usize,
@@ -113,17 +116,26 @@ impl<'s, S: Service> Desk<'s, S> {
             Ok(meaning) => {
                 let Meaning {
                     book,
+                    listed,
                     levels,
                     nodes,
-                    ..
                 } = meaning;
                 assert!(book == self.book, "the table holds {book:?}");
                 self.tally.checked += 1;
+                self.tally.sided += usize::from(side_decides(&book, &listed));
                 self.tally.most_levels = self.tally.most_levels.max(levels);
                 self.tally.most_nodes = self.tally.most_nodes.max(nodes);
             }
         }
     }
+}
+
+/// Whether numbers alone would give another standing list.
+fn side_decides(book: &Book, listed: &[u16]) -> bool {
+    let sites = book.sites();
+    let others = |leg: &Leg, number: u16| first(leg, &sites, number, number_alone) != number;
+    let leg = book.leg.as_ref();
+    leg.is_some_and(|leg| listed.iter().any(|number| others(leg, *number)))
 }
 
 impl Tally {
@@ -156,6 +168,7 @@ impl Tally {
         self.bytes_used += other.bytes_used;
         self.bytes_written += other.bytes_written;
         self.checked += other.checked;
+        self.sided += other.sided;
         self.accepted += other.accepted;
         self.lists += other.lists;
         self.longest_list = self.longest_list.max(other.longest_list);

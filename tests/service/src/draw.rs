@@ -2,8 +2,9 @@
 
 use reference::command;
 use reference::grid::{HALF_WIDTH, Leg, MOST_SITES, Position, Site};
-use reference::layout::{LAYOUTS, case};
+use reference::layout::{LAYOUTS, Layout, case};
 use reference::random::Random;
+use reference::ties::{mirror_image, way_back};
 
 /// Coordinates off the grid: the nearest and the farthest.
 const OFF_GRID: [i64; 4] = [-32_768, -HALF_WIDTH - 1, HALF_WIDTH + 1, 32_767];
@@ -23,16 +24,27 @@ pub struct Pool {
 }
 
 impl Pool {
-    /// The sites of one random case, its leg and some legs of other cases.
+    /// Of any layout.
     pub fn new(random: &mut Random, count: usize) -> Self {
         let layout = random.pick(&LAYOUTS);
+        Pool::of(random, layout, count)
+    }
+
+    /// The sites of one random case and their mirror images, its leg there and back, and some legs
+    /// of other cases.
+    pub fn of(random: &mut Random, layout: Layout, count: usize) -> Self {
         let own = case(random, layout, count);
         let others = LAYOUTS.map(|layout| case(random, layout, 0).leg);
+        let positions: Vec<Position> = own.sites.iter().map(|site| site.position).collect();
+        let image = |p: &Position| mirror_image(&own.leg, *p);
+        let images = positions.iter().filter_map(image).collect();
+        // The case's own leg is the one beside the sites.
+        let there = vec![own.leg; LAYOUTS.len()];
+        let back = vec![way_back(&own.leg); LAYOUTS.len() / 2];
         Pool {
             numbers: own.sites.iter().map(|site| site.number).collect(),
-            positions: own.sites.iter().map(|site| site.position).collect(),
-            // The case's own leg is the one beside the sites.
-            legs: [vec![own.leg; LAYOUTS.len()], others.to_vec()].concat(),
+            positions: [positions, images].concat(),
+            legs: [there, back, others.to_vec()].concat(),
         }
     }
 

@@ -64,7 +64,7 @@ fn questions(random: &mut Random, pool: &Pool) -> Vec<u8> {
 }
 
 fn one_flipped_bit_in_every_byte_that_counts(service: &impl Service) {
-    let mut random = Random::new(71);
+    let mut random = Random::new(711);
     let mut told: BTreeMap<&str, [usize; 2]> = BTreeMap::new();
     for count in SIZES {
         let (table, pool) = sound_table(&mut random, count);

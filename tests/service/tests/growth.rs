@@ -3,6 +3,7 @@
 use reference::command::{add, list, move_site, print, remove, stand};
 use reference::grid::{HALF_WIDTH, Leg, MOST_SITES, Position, Site, spread};
 use reference::random::Random;
+use reference::ties::way_back;
 use service::desk::{Desk, Tally};
 use service::{Service, on_each_service};
 
@@ -12,6 +13,8 @@ const CHANGES: usize = 100_000;
 const CHANGES_A_BATCH: usize = 120;
 /// After one change in so many come a 4C and a 50.
 const LISTS_ONCE_IN: i64 = 10;
+/// From west to east.
+const ACROSS: Leg = Leg::new((-HALF_WIDTH, 0), (HALF_WIDTH, 0));
 
 on_each_service!(
     growing_and_shrinking_with_a_standing_leg,
@@ -31,6 +34,8 @@ enum Places {
     OnePosition,
     /// On the grid's corners and in the middle of its edges.
     Corners,
+    /// In pairs that tie along the whole leg across the grid.
+    Mirrored,
     Wide,
 }
 
@@ -44,13 +49,14 @@ enum Leaving {
     Any,
 }
 
-const PLACES: [Places; 7] = [
+const PLACES: [Places; 8] = [
     Places::Ascending,
     Places::Outwards,
     Places::Clustered,
     Places::FewPositions,
     Places::OnePosition,
     Places::Corners,
+    Places::Mirrored,
     Places::Wide,
 ];
 const LEAVING: [Leaving; 5] = [
@@ -86,6 +92,10 @@ impl Growth {
             Places::FewPositions => Position::new(within(1) + within(1), within(2)),
             Places::OnePosition => Position::new(77, -1_234),
             Places::Corners => Position::new(HALF_WIDTH * within(1), HALF_WIDTH * within(1)),
+            Places::Mirrored => {
+                let (pair, side) = (nth / 2, 1 - 2 * (nth % 2));
+                Position::new(spread(2 * pair), side * (pair % 7))
+            }
             Places::Wide => Position::new(within(HALF_WIDTH), within(HALF_WIDTH)),
         }
     }
@@ -149,8 +159,17 @@ impl Growth {
         let (s, e) = (self.end(kind), self.end(kind));
         match kind {
             1 => Leg { s, e: s },
-            2 => Leg::new((-HALF_WIDTH, 0), (HALF_WIDTH, 0)),
+            2 => ACROSS,
             _ => Leg { s, e },
+        }
+    }
+
+    /// For as long as sites come to these places.
+    fn standing_leg(&mut self) -> Leg {
+        match self.places {
+            Places::Mirrored if self.random.once_in(2) => ACROSS,
+            Places::Mirrored => way_back(&ACROSS),
+            _ => self.leg(),
         }
     }
 
@@ -207,7 +226,7 @@ fn grow_and_shrink(service: &impl Service, seed: u64, with_leg: bool) -> Tally {
         growth.ascending_numbers = growth.random.once_in(2);
         phases += 1;
         if with_leg {
-            desk.serve(&stand(growth.leg()));
+            desk.serve(&stand(growth.standing_leg()));
             stands += 1;
         }
         while growth.held.len() != goal {
@@ -229,6 +248,7 @@ fn growing_and_shrinking_with_a_standing_leg(service: &impl Service) {
     let tally = grow_and_shrink(service, 81, true);
     assert!(tally.lists >= CHANGES / 6, "4C and 50");
     assert_eq!(tally.by_refusal[7], 0);
+    assert!(tally.sided >= tally.checked / 20);
 }
 
 fn growing_and_shrinking_without_a_standing_leg(service: &impl Service) {

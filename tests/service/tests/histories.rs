@@ -51,7 +51,7 @@ fn runs(service: &impl Service, seed: u64) {
         "{refusals:?}"
     );
     assert!(tally.accepted >= 10 * RUNS && tally.lists >= 5 * RUNS);
-    assert!(compared >= 6 * RUNS);
+    assert!(compared >= 6 * RUNS && tally.sided >= RUNS / 10);
 }
 
 fn runs_answer_as_the_book_and_as_fresh_tables(service: &impl Service) {

@@ -13,7 +13,7 @@ const LEG: Leg = Leg::new((0, 0), (10, 0));
 
 on_each_service!(
     two_sites_and_a_third_and_two_removals,
-    a_tie_along_the_leg_goes_to_the_lower_number,
+    a_tie_along_the_leg_goes_to_the_right_hand_side,
     a_site_that_touches_once_is_not_listed,
     a_tie_at_0_goes_to_the_site_nearer_after_it,
     a_tie_at_1_starts_no_entry,
@@ -54,9 +54,10 @@ fn two_sites_and_a_third_and_two_removals(service: &impl Service) {
     assert_eq!(answers, [Accepted, Accepted, alone.clone(), alone]);
 }
 
-fn a_tie_along_the_leg_goes_to_the_lower_number(service: &impl Service) {
+/// Document 02, C-11: "that leg now lists 5".
+fn a_tie_along_the_leg_goes_to_the_right_hand_side(service: &impl Service) {
     let sites = [Site::new(2, 3, 4), Site::new(5, 3, -4)];
-    assert_listed(service, LEG, &sites, &[Entry::new(2, 0, 1)]);
+    assert_listed(service, LEG, &sites, &[Entry::new(5, 0, 1)]);
 }
 
 fn a_site_that_touches_once_is_not_listed(service: &impl Service) {

@@ -5,14 +5,18 @@ use reference::command::{Command, LIST, list};
 use reference::grid::{Leg, WORK_LEN, WRONG_WORK};
 use reference::random::Random;
 use reference::record::{ACCEPTED, LISTED, REFUSED};
-use service::bytes::{
-    ENTRIES_LISTED, HEADER_KEPT, LEVELS, ROOT, STACK_END, empty_table, entry_at, number,
+use reference::ties::{
+    left_first, not_left_first, number_alone, right_by_narrow_products,
+    right_of_the_way_back_first, right_then_higher, south_first,
 };
-use service::damage::{assert_wrong_length_first, flipped, offer, regions};
+use service::bytes::{
+    ENTRIES_LISTED, HEADER_KEPT, LEVELS, ROOT, STACK_END, empty_table, entry_at, leg, number, sites,
+};
+use service::damage::{assert_wrong_length_first, flipped, offer, regions, stored_by};
 use service::history::{Size, compare_with_fresh, run};
 use service::shape::{self, Dealing};
-use service::table::meaning;
-use service::wrong::Wrong;
+use service::table::{Rule, broken_rules, meaning};
+use service::wrong::{Wrong, listing_by};
 use service::{Answer, BROKEN_TABLE, Model, Service};
 
 /// A little of what the other tests do.
@@ -20,8 +24,8 @@ fn trial(service: &impl Service) {
     for work_len in WRONG_WORK {
         assert_wrong_length_first(service, &empty_table(), work_len);
     }
-    let mut random = Random::new(111);
-    for size in [Size::Few, Size::Some].repeat(20) {
+    let mut random = Random::new(113);
+    for size in [Size::Few, Size::Some].repeat(30) {
         let mut run = run(&mut random, service, size);
         compare_with_fresh(&mut random, &mut run);
         let table = run.desk.table;
@@ -32,6 +36,7 @@ fn trial(service: &impl Service) {
             }
         }
         offer(service, &flipped(&table, STACK_END, 0), &[0x50]);
+        offer(service, &stored_by(number_alone, &table), &[0x50]);
         assert_wrong_length_first(service, &table, 0);
     }
 }
@@ -275,6 +280,94 @@ fn refuses_a_table_for_its_free_bytes() {
         if t[STACK_END] != 0 {
             w.fill(0);
             return (BROKEN_TABLE, 0, 0);
+        }
+        Model.batch(t, w, c, r)
+    }));
+}
+
+#[test]
+#[should_panic(expected = "is written, not")]
+fn lists_by_number_alone() {
+    trial(&Wrong(|t, w, c, r| listing_by(number_alone, t, w, c, r)));
+}
+
+#[test]
+#[should_panic(expected = "is written, not")]
+fn lists_the_left_hand_side_first() {
+    trial(&Wrong(|t, w, c, r| listing_by(left_first, t, w, c, r)));
+}
+
+#[test]
+#[should_panic(expected = "is written, not")]
+fn takes_the_side_of_the_way_back() {
+    trial(&Wrong(|t, w, c, r| {
+        listing_by(right_of_the_way_back_first, t, w, c, r)
+    }));
+}
+
+#[test]
+#[should_panic(expected = "is written, not")]
+fn takes_the_south_for_the_right() {
+    trial(&Wrong(|t, w, c, r| listing_by(south_first, t, w, c, r)));
+}
+
+#[test]
+#[should_panic(expected = "is written, not")]
+fn takes_the_side_by_narrow_products() {
+    trial(&Wrong(|t, w, c, r| {
+        listing_by(right_by_narrow_products, t, w, c, r)
+    }));
+}
+
+#[test]
+#[should_panic(expected = "is written, not")]
+fn lists_the_higher_number_of_a_side() {
+    trial(&Wrong(|t, w, c, r| {
+        listing_by(right_then_higher, t, w, c, r)
+    }));
+}
+
+/// No list differs where the line counts as right, so this service is not wrong.
+#[test]
+fn counts_the_line_as_right_and_passes() {
+    trial(&Wrong(|t, w, c, r| listing_by(not_left_first, t, w, c, r)));
+}
+
+#[test]
+#[should_panic(expected = "the table breaks [StandingList]")]
+fn stores_the_list_of_the_earlier_rule() {
+    trial(&Wrong(|t, w, c, r| {
+        let answer = Model.batch(t, w, c, r);
+        if meaning(t).is_ok() {
+            t.copy_from_slice(&stored_by(number_alone, t));
+        }
+        answer
+    }));
+}
+
+#[test]
+#[should_panic(expected = "reason, used and written")]
+fn judges_a_stored_list_by_the_earlier_rule() {
+    trial(&Wrong(|t, w, c, r| {
+        let sound = w.len() == WORK_LEN && meaning(t).is_ok();
+        if sound && stored_by(number_alone, t) != t {
+            w.fill(0);
+            return (BROKEN_TABLE, 0, 0);
+        }
+        Model.batch(t, w, c, r)
+    }));
+}
+
+#[test]
+#[should_panic(expected = "[StandingList]")]
+fn takes_a_stored_list_of_the_earlier_rule_too() {
+    trial(&Wrong(|t, w, c, r| {
+        if broken_rules(t) == [Rule::StandingList] {
+            let mut right = t.to_vec();
+            shape::write_standing(&mut right, &sites(t), leg(t));
+            if stored_by(number_alone, &right) == t {
+                t.copy_from_slice(&right);
+            }
         }
         Model.batch(t, w, c, r)
     }));

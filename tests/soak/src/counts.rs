@@ -65,6 +65,7 @@ impl Display for Counts {
         let (levels, nodes) = (tally.most_levels, tally.most_nodes);
         write!(f, "tables checked {}", tally.checked)?;
         writeln!(f, ", up to {levels} levels and {nodes} nodes")?;
+        writeln!(f, "  side decides {} standing lists", tally.sided)?;
         let (damaged, broken) = (self.damaged, self.broken);
         write!(f, "damaged tables {damaged}, of which {broken} broken")
     }

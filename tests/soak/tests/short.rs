@@ -17,6 +17,7 @@ fn some_years_show_no_difference(service: &impl Service) {
     assert_eq!(counts.years, YEARS);
     let tally = &counts.tally;
     assert!(tally.calls >= YEARS * 365 && tally.lists >= YEARS * 365);
+    assert!(tally.sided >= YEARS, "ties along the whole leg");
     assert!(counts.fresh_lists >= 4 * 6 * YEARS && counts.broken >= YEARS);
 }
 
