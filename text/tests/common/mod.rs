@@ -57,6 +57,24 @@ pub fn run_program(command: &mut Command, input: &[u8]) -> Ran {
     }
 }
 
+/// A table's file of this name, which is not there yet.
+pub fn table(name: &str) -> PathBuf {
+    let folder = scratch(&format!("table {name}"));
+    let _ = std::fs::remove_dir_all(&folder);
+    std::fs::create_dir_all(&folder).unwrap();
+    folder.join("kept.stops")
+}
+
+pub fn on(file: &Path, options: &[&str], input: &str) -> Ran {
+    let mut program = Command::new(PROGRAM);
+    program.arg("--table").arg(file).args(options);
+    run_program(&mut program, input.as_bytes())
+}
+
+pub fn file_mode(mode: &str, file: &Path) -> Ran {
+    run_program(Command::new(PROGRAM).arg(mode).arg(file), b"")
+}
+
 /// The batch program's output.
 pub fn batch_program(commands: &[u8]) -> Vec<u8> {
     let ran = run_program(&mut Command::new(at_root("target/bin/stops")), commands);
