@@ -6,28 +6,26 @@
 use crate::command::Command;
 use crate::desk::Desk;
 use crate::earlier::renewed;
+use crate::lists::RIGHT_FIRST;
 use crate::status::{Failure, Met};
 use crate::{store, table};
-use binding::layout::{LAYOUT, TABLE_LEN, is_earlier, word};
+use binding::layout::{LAYOUT, is_earlier, word};
 use std::ffi::OsStr;
 use std::io::Write;
 
-/// Of a table that the service takes, or that the release of an earlier layout took.
+/// Of a table that the service takes, or that an earlier release took.
 pub fn dump<W: Write, E: Write>(
     file: &OsStr,
     table: Vec<u8>,
     desk: &mut Desk<W, E>,
 ) -> Result<Met, Failure> {
-    let earlier = (table.len() == TABLE_LEN && is_earlier(&table)).then(|| word(&table, LAYOUT));
-    let service = match earlier {
-        Some(_) => store::table_of(file, renewed(table))?,
-        None => store::table_of(file, table)?,
-    };
-    if let Some(number) = earlier {
+    let renewed = renewed(&table)?;
+    let is_renewed = renewed != table;
+    let service = store::table_of(file, renewed)?;
+    if is_renewed {
         let name = file.display();
-        desk.console.say(format_args!(
-            "{name} is of layout {number}, and read as such"
-        ));
+        desk.console
+            .say(format_args!("{name} {}", how_read(&table)));
     }
     let adds = table::sites(service.table()).into_iter().map(Command::Add);
     let stand = table::leg(service.table()).map(Command::Stand);
@@ -36,4 +34,13 @@ pub fn dump<W: Write, E: Write>(
     }
     desk.flush()?;
     Ok(Met::default())
+}
+
+/// Of a table that is not read as one of this release.
+fn how_read(table: &[u8]) -> String {
+    if is_earlier(table) {
+        format!("is of layout {}, and read as such", word(table, LAYOUT))
+    } else {
+        format!("has a standing list of a release before {RIGHT_FIRST}, and is read as such")
+    }
 }

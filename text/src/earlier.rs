@@ -1,25 +1,51 @@
-//! Tables of earlier layouts. In layouts 0 and 1 all stands where it stands now, but coordinates
-//! are counted from the corner of a smaller grid.
+//! Tables of earlier releases. In layouts 0 and 1 all stands where it stands now, but coordinates
+//! are counted from the corner of a smaller grid; and before 0.9.0 the standing list had the lowest
+//! number of sites that tie.
 
+use crate::check;
+use crate::lists::{Lists, stands};
+use crate::service::Service;
+use crate::status::Failure;
 use binding::layout::{
     EARLIER_HALF_WIDTH, HALF_WIDTH, LAYOUT, LAYOUT_NUMBER, LEG_FLAG, LEG_WORDS, MOST_ENTRIES,
-    MOST_NODES, MOST_SITES, SITES_HELD, entry_at, far_edge, number, put_word, record_at, word,
+    MOST_NODES, MOST_SITES, SITES_HELD, entry_at, is_earlier, listed_at, number, put_word,
+    record_at, word,
 };
 
-/// The same sites, leg and tree in this layout, for a table of an earlier one. It is sound exactly
-/// where the table was: one with a coordinate off its own grid is left, and so refused.
-pub fn renewed(mut table: Vec<u8>) -> Vec<u8> {
-    let held = positions(&table);
-    if held.iter().any(|at| word(&table, *at) > far_edge(&table)) {
-        return table;
+/// The same sites, leg and tree as this release has them, for a table of an earlier one. It is sound
+/// exactly where the table was: one whose sites, leg or list was not is left, and so refused.
+pub fn renewed(table: &[u8]) -> Result<Vec<u8>, Failure> {
+    let mut renewed = table.to_vec();
+    if !check::has_list(table) {
+        return Ok(renewed);
     }
+    let Lists { today, earlier } = Lists::of(table)?;
+    if !stands(table, &earlier) {
+        return Ok(renewed);
+    }
+    for (i, site) in today.into_iter().enumerate() {
+        put_word(&mut renewed, listed_at(i), site);
+    }
+    if is_earlier(table) {
+        count_from_corner(&mut renewed);
+    }
+    Ok(renewed)
+}
+
+/// Whether this release refuses the table, but --dump does not.
+pub fn is_carried_over(table: &[u8]) -> Result<bool, Failure> {
+    let renewed = renewed(table)?;
+    Ok(renewed != table && Service::take_up(renewed).is_ok())
+}
+
+/// From the corner of this layout's grid.
+fn count_from_corner(table: &mut [u8]) {
     // A coordinate in the tree that is no site's is no site's then: adding is one to one.
-    for at in held.into_iter().chain(boxes()) {
-        let counted = word(&table, at).wrapping_add(HALF_WIDTH - EARLIER_HALF_WIDTH);
-        put_word(&mut table, at, counted);
+    for at in positions(table).into_iter().chain(boxes()) {
+        let counted = word(table, at).wrapping_add(HALF_WIDTH - EARLIER_HALF_WIDTH);
+        put_word(table, at, counted);
     }
-    put_word(&mut table, LAYOUT, LAYOUT_NUMBER);
-    table
+    put_word(table, LAYOUT, LAYOUT_NUMBER);
 }
 
 /// Where the coordinates of the held sites and of the standing leg stand.

@@ -16,6 +16,7 @@ mod help;
 mod input;
 mod line;
 mod lines;
+mod lists;
 mod options;
 mod output;
 mod picture;

@@ -39,6 +39,8 @@ pub enum Failure {
     Ended(u32),
     /// A file, and the reason that the service gives for refusing it as a table.
     NoTable(String, u32),
+    /// A file whose table an earlier release took, and the service refuses.
+    Earlier(String),
     /// The bytes that the service wrote are no records.
     Report,
     /// With --decode: the byte, and why it cannot be read.
@@ -51,7 +53,7 @@ impl Failure {
             Failure::Undecodable(..) => 2,
             Failure::Usage(_) => 3,
             Failure::Io(..) => 4,
-            Failure::Ended(_) | Failure::Report | Failure::NoTable(..) => 5,
+            Failure::Ended(_) | Failure::Report | Failure::NoTable(..) | Failure::Earlier(_) => 5,
         }
     }
 
@@ -78,6 +80,12 @@ impl fmt::Display for Failure {
                 write!(
                     f,
                     "{name} is no sound table: reason {reason}, {why}; --check {name} tells more"
+                )
+            }
+            Failure::Earlier(name) => {
+                write!(
+                    f,
+                    "{name} is a table of an earlier release, refused with reason 65; --dump {name} carries it over"
                 )
             }
             Failure::Report => write!(f, "the service wrote a report that cannot be read"),
@@ -145,6 +153,11 @@ mod tests {
                 Failure::NoTable("t".into(), 65),
                 5,
                 "t is no sound table: reason 65, a rule is broken in the table; --check t tells more",
+            ),
+            (
+                Failure::Earlier("t".into()),
+                5,
+                "t is a table of an earlier release, refused with reason 65; --dump t carries it over",
             ),
             (
                 Failure::Report,

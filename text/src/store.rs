@@ -1,5 +1,6 @@
 //! The file that a table is kept in.
 
+use crate::earlier;
 use crate::replace::replace;
 use crate::service::Service;
 use crate::status::Failure;
@@ -22,7 +23,12 @@ impl Store {
             held: contents(Path::new(file), create)?,
         };
         let service = match &store.held {
-            Some(table) => table_of(file, table.clone())?,
+            Some(table) => match table_of(file, table.clone()) {
+                Err(_) if earlier::is_carried_over(table)? => {
+                    return Err(Failure::Earlier(name_of(file)));
+                }
+                taken => taken?,
+            },
             None => Service::new()?,
         };
         Ok((store, service))
@@ -63,6 +69,9 @@ fn contents(file: &Path, may_be_missing: bool) -> Result<Option<Vec<u8>>, Failur
 
 /// A service on a table that it takes.
 pub fn table_of(file: &OsStr, table: Vec<u8>) -> Result<Service, Failure> {
-    let refused = |reason| Failure::NoTable(file.to_string_lossy().into_owned(), reason);
-    Service::take_up(table).map_err(refused)
+    Service::take_up(table).map_err(|reason| Failure::NoTable(name_of(file), reason))
+}
+
+fn name_of(file: &OsStr) -> String {
+    file.to_string_lossy().into_owned()
 }

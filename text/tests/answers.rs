@@ -75,7 +75,13 @@ fn legs_to_try() {
             leg,
             "0/1 (0.000, 0.000) site 1,37/100 (3.700, 0.000) site 2",
         ),
-        ("add 2 3 4\nadd 5 3 -4\n", leg, "0/1 (0.000, 0.000) site 2"),
+        // C-11 of document 02: one on the right comes first, and on the way back the other.
+        ("add 2 3 4\nadd 5 3 -4\n", leg, "0/1 (0.000, 0.000) site 5"),
+        (
+            "add 2 3 4\nadd 5 3 -4\n",
+            "leg 10 0 0 0\n",
+            "0/1 (10.000, 0.000) site 2",
+        ),
         (
             "add 1 0 0\nadd 2 10 0\nadd 3 5 5\n",
             leg,

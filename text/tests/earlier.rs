@@ -3,40 +3,220 @@
 
 mod common;
 
-use common::{at_root, file_mode, on, table};
+use common::{at_root, file_mode, in_words, on, run, table, without_points};
+use reference::book::Book;
+use reference::command::Command;
+use reference::record::Record;
+use reference::ties::{number_alone, renamed};
 use std::path::Path;
 
-/// What the stops-text of release 0.7.0 left: a table that it began empty and saved after 777
+/// What the stops-text of a release left: a table that it began empty and saved after some 700
 /// random additions, removals and moves, corners among them; its --dump; lines that ask for lists,
 /// and what it answered to them with --plain.
-fn kept(what: &str) -> Vec<u8> {
-    let file = at_root("tests/tables").join(format!("release-0.7.0.{what}"));
+fn kept(table: &str, what: &str) -> Vec<u8> {
+    let file = at_root("tests/tables").join(format!("{table}.{what}"));
     std::fs::read(&file).unwrap_or_else(|error| panic!("{}: {error}", file.display()))
+}
+
+/// Sites tie in its answers, where the right-hand rule names the same ones.
+const OF_0_7_0: &str = "release-0.7.0";
+/// Both have many sites beside a slanted standing leg, each with others that tie with it: on the
+/// same position, or mirrored across the leg. The right-hand rule names other ones of them in the
+/// standing list of the first.
+const CHANGED: &str = "release-0.8.0-changed";
+const UNCHANGED: &str = "release-0.8.0-unchanged";
+
+/// Writes the kept table; its bytes.
+fn put(file: &Path, table: &str) -> Vec<u8> {
+    let bytes = kept(table, "stops");
+    std::fs::write(file, &bytes).unwrap();
+    bytes
+}
+
+/// What the second program answers to the lines that were asked of a kept table: by the rule of
+/// then, and by that of today.
+fn second_answers(table: &str) -> [String; 2] {
+    let mut book = Book::new();
+    book.records(&[run(&["--bytes"], kept(table, "dump")).out]);
+    let asked = run(&["--bytes"], kept(table, "asked")).out;
+    let (mut asked, mut answers) = (&asked[..], [String::new(), String::new()]);
+    while !asked.is_empty() {
+        let (command, length) = Command::read(asked).unwrap();
+        asked = &asked[length..];
+        let leg = match command {
+            Command::List(leg) => leg,
+            Command::Print => book.leg.unwrap(),
+            _ => panic!("{command:?} asks for no list"),
+        };
+        let now = book.split_list(&leg);
+        let then = renamed(&leg, &book.sites(), &now, number_alone);
+        for (answers, list) in answers.iter_mut().zip([then, now]) {
+            *answers += &in_words(&Record::List(list));
+        }
+    }
+    answers.map(|answers| answers + "end 0: all commands used\n")
+}
+
+/// Asks a table of this release, with the sites and the leg of a kept one, what was asked of that:
+/// it answers by today's rule, and what was answered then was by the rule of then. So what differs
+/// is which of the sites that tie is named; whether it is so in some list.
+fn assert_answers(file: &Path, table: &str) -> bool {
+    let [then, now] = second_answers(table);
+    let asked = String::from_utf8(kept(table, "asked")).unwrap();
+    let answered = on(file, &["--plain"], &asked);
+    assert_eq!(without_points(answered.text()), now);
+    let answered_then = String::from_utf8(kept(table, "answers")).unwrap();
+    assert_eq!(without_points(&answered_then), then);
+    answered.text() != answered_then
 }
 
 /// Old table, dump, new table, same lists.
 #[test]
 fn a_table_of_release_0_7_0_is_carried_over() {
     let (old, new) = (table("of 0.7.0"), table("carried over"));
-    let bytes = kept("stops");
+    let bytes = put(&old, OF_0_7_0);
     assert_eq!(bytes[14..16], [1, 0]);
-    std::fs::write(&old, &bytes).unwrap();
-    let served = on(&old, &[], "print\n");
-    assert_eq!((served.code, served.text()), (5, ""));
-    assert!(served.err.contains("reason 65"), "{}", served.err);
+    assert_refused(&old);
     let dump = file_mode("--dump", &old);
     let told = format!(
         "stops-text: {} is of layout 1, and read as such\n",
         old.display()
     );
     assert_eq!((dump.code, &dump.err), (0, &told));
-    assert_eq!(dump.out, kept("dump"));
+    assert_eq!(dump.out, kept(OF_0_7_0, "dump"));
     assert!(std::fs::read(&old).unwrap() == bytes);
     assert_eq!(on(&new, &["--create"], dump.text()).code, 0);
-    let asked = String::from_utf8(kept("asked")).unwrap();
-    let answered = on(&new, &["--plain"], &asked);
-    assert_eq!(answered.text().as_bytes(), kept("answers"));
+    assert!(!assert_answers(&new, OF_0_7_0));
     assert_eq!(file_mode("--dump", &new).out, dump.out);
+}
+
+/// Where --dump helps.
+fn assert_refused(file: &Path) {
+    let served = on(file, &[], "print\n");
+    let told = format!(
+        "stops-text: {0} is a table of an earlier release, refused with reason 65; --dump {0} carries it over\n",
+        file.display()
+    );
+    assert_eq!((served.code, served.text()), (5, ""));
+    assert_eq!(served.err, told);
+}
+
+/// Old table, dump, new table, lists by the rule of today.
+#[test]
+fn a_table_whose_list_the_right_hand_rule_changes_is_carried_over() {
+    let (old, new) = (table("by number"), table("right first"));
+    let bytes = put(&old, CHANGED);
+    assert_eq!(bytes[14..16], [2, 0]);
+    assert_refused(&old);
+    let dump = file_mode("--dump", &old);
+    let told = format!(
+        "stops-text: {} has a standing list of a release before 0.9.0, and is read as such\n",
+        old.display()
+    );
+    assert_eq!((dump.code, &dump.err), (0, &told));
+    assert_eq!(dump.out, kept(CHANGED, "dump"));
+    assert!(std::fs::read(&old).unwrap() == bytes);
+    assert_eq!(on(&new, &["--create"], dump.text()).code, 0);
+    assert!(assert_answers(&new, CHANGED));
+    assert_eq!(file_mode("--dump", &new).out, dump.out);
+    assert_eq!(file_mode("--dump", &new).err, "");
+}
+
+/// The numbers of the standing list.
+fn listed(table: &[u8]) -> Vec<u16> {
+    let word = |at: usize| u16::from_le_bytes([table[at], table[at + 1]]);
+    let entries = usize::from(word(12));
+    (0..entries).map(|i| word(4_160 + 2 * i)).collect()
+}
+
+/// `4,160`
+fn grouped(number: usize) -> String {
+    match (number / 1_000, number % 1_000) {
+        (0, _) => number.to_string(),
+        (thousands, rest) => format!("{thousands},{rest:03}"),
+    }
+}
+
+#[test]
+fn a_list_of_an_earlier_release_is_told() {
+    let (old, new) = (table("by number"), table("right first"));
+    let bytes = put(&old, CHANGED);
+    let dump = String::from_utf8(kept(CHANGED, "dump")).unwrap();
+    assert_eq!(on(&new, &["--create"], &dump).code, 0);
+    let mut expected = "broken: the service refuses it with reason 65\n".to_string();
+    let (then, now) = (listed(&bytes), listed(&std::fs::read(&new).unwrap()));
+    assert_eq!(then.len(), now.len());
+    for (i, (then, now)) in then.iter().zip(&now).enumerate() {
+        if then != now {
+            let at = grouped(4_160 + 2 * i);
+            let (then, now) = (grouped((*then).into()), grouped((*now).into()));
+            expected += &format!(
+                "standing list, entry {i}: not the site of the leg's list, byte {at}: {then} stands there, {now} belongs there\n"
+            );
+        }
+    }
+    expected +=
+        "the standing list is that of a release before 0.9.0: --dump carries the table over\n";
+    let adds: Vec<&str> = dump
+        .lines()
+        .filter(|line| line.starts_with("add"))
+        .collect();
+    expected += &format!("sites that can still be read: {}\n", adds.len());
+    expected += &(adds.join("\n") + "\n");
+    let told = file_mode("--check", &old);
+    assert_eq!((told.code, told.text()), (5, expected.as_str()));
+    assert_eq!(told.err, "");
+}
+
+/// Many of its sites tie, and along other legs the right-hand rule names other ones.
+#[test]
+fn a_table_whose_list_the_right_hand_rule_leaves_is_taken_as_it_is() {
+    let file = table("as it is");
+    let bytes = put(&file, UNCHANGED);
+    let written = || std::fs::metadata(&file).unwrap().modified().unwrap();
+    let before = written();
+    assert_eq!(bytes[14..16], [2, 0]);
+    let told = file_mode("--check", &file);
+    assert!(told.text().starts_with("sound: no rule is broken\n"));
+    assert_eq!((told.code, told.err.as_str()), (0, ""));
+    let printed = on(&file, &["--plain"], "print\n");
+    let (list, _) = printed.text().split_once("end 0").unwrap();
+    assert!(kept(UNCHANGED, "answers").starts_with(list.as_bytes()));
+    assert!(assert_answers(&file, UNCHANGED));
+    assert!(std::fs::read(&file).unwrap() == bytes && written() == before);
+    let dump = file_mode("--dump", &file);
+    assert_eq!((dump.code, dump.err.as_str()), (0, ""));
+    assert_eq!(dump.out, kept(UNCHANGED, "dump"));
+}
+
+/// By number, as their releases listed.
+#[test]
+fn lists_in_earlier_layouts_are_by_number() {
+    let (new, old) = (table("new list"), table("old list"));
+    let lines = "add 2 3 4\nadd 5 3 -4\nstand 0 0 10 0\n";
+    assert_eq!(on(&new, &["--create"], lines).code, 0);
+    for number in [0, 1] {
+        let mut bytes = aged(&new, number);
+        assert_eq!(listed(&bytes), [5]);
+        std::fs::write(&old, &bytes).unwrap();
+        let dump = file_mode("--dump", &old);
+        assert_eq!((dump.code, dump.text()), (5, ""));
+        let told = file_mode("--check", &old);
+        let what = "\nstanding list, entry 0: not the site of the leg's list, byte 4,160: 5 stands there, 2 belongs there\nsites";
+        assert!(told.text().contains(what), "{}", told.text());
+        bytes[4_160] = 2;
+        std::fs::write(&old, &bytes).unwrap();
+        assert_refused(&old);
+        let dump = file_mode("--dump", &old);
+        assert_eq!((dump.code, dump.text()), (0, lines));
+        let layout = format!(
+            "{} is of layout {number}, and read as such\n",
+            old.display()
+        );
+        assert_eq!(dump.err, format!("stops-text: {layout}"));
+        let told = file_mode("--check", &old);
+        assert!(!told.text().contains("standing list"), "{}", told.text());
+    }
 }
 
 /// Layout 0 is layout 1 without its number. Neither is served; both are told, with their sites
@@ -45,11 +225,11 @@ fn a_table_of_release_0_7_0_is_carried_over() {
 fn tables_of_earlier_layouts_are_told_and_dumped() {
     let old = table("earlier");
     for number in [0, 1] {
-        let mut bytes = kept("stops");
+        let mut bytes = kept(OF_0_7_0, "stops");
         bytes[14] = number;
         std::fs::write(&old, &bytes).unwrap();
         let told = file_mode("--check", &old);
-        let adds = String::from_utf8(kept("dump")).unwrap();
+        let adds = String::from_utf8(kept(OF_0_7_0, "dump")).unwrap();
         let adds: String = adds
             .lines()
             .filter(|line| line.starts_with("add"))
@@ -63,7 +243,7 @@ sites that can still be read: {}
         );
         assert_eq!((told.code, told.text()), (5, expected.as_str()));
         let dump = file_mode("--dump", &old);
-        assert_eq!((dump.code, dump.out), (0, kept("dump")));
+        assert_eq!((dump.code, dump.out), (0, kept(OF_0_7_0, "dump")));
     }
 }
 
@@ -149,7 +329,7 @@ const FIRST_RECORD: usize = 64;
 fn a_table_that_its_own_release_refused_is_not_dumped() {
     let old = table("refused before");
     let word = |word: u16| word.to_le_bytes().to_vec();
-    let whole = kept("stops");
+    let whole = kept(OF_0_7_0, "stops");
     let root = 6_896 + 98 * usize::from(u16::from_le_bytes([whole[5_186], whole[5_187]]));
     let broken = [
         ("an unknown layout", 14, word(3)),

@@ -2,47 +2,13 @@
 
 mod common;
 
-use common::{lines, run, span, without_points};
+use common::{in_words, lines, run, without_points};
 use reference::book::Book;
 use reference::command::{self, Command};
-use reference::fraction::Fraction;
 use reference::grid::{Leg, Site};
 use reference::layout::{LAYOUTS, case};
 use reference::random::{self, Random};
 use reference::record::Record;
-
-const REFUSALS: [&str; 7] = [
-    "site number 0",
-    "a coordinate outside ",
-    "number already held",
-    "number not held",
-    "512 sites held",
-    "no site held",
-    "no standing leg",
-];
-
-fn in_words(record: &Record) -> String {
-    match record {
-        Record::Accepted => "accepted\n".into(),
-        Record::Refused(number) => {
-            let range = if *number == 2 { span() } else { String::new() };
-            let refusal = REFUSALS[usize::from(*number) - 1];
-            format!("refused {number}: {refusal}{range}\n")
-        }
-        Record::List(list) => {
-            let noun = if list.len() == 1 { "entry" } else { "entries" };
-            let mut text = format!("list of {} {noun}\n", list.len());
-            for entry in list {
-                let Fraction {
-                    numerator,
-                    denominator,
-                } = entry.start;
-                text += &format!("from {numerator}/{denominator} site {}\n", entry.site);
-            }
-            text
-        }
-    }
-}
 
 /// The leg of each command that got a list, in turn.
 fn listed_legs(commands: &[Vec<u8>], records: &[Record]) -> Vec<Leg> {

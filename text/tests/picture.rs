@@ -157,6 +157,22 @@ fn the_example_of_document_01() {
     );
 }
 
+/// Of two that tie, the one on the right is listed, and drawn over the others.
+#[test]
+fn of_a_tie_the_listed_site_has_the_colour() {
+    let sites = "add 2 3 1\nadd 5 3 -1\n";
+    for (leg, listed) in [("leg 0 0 10 0\n", 5), ("leg 10 0 0 0\n", 2)] {
+        let picture = picture("tie", &[], &format!("{sites}{leg}"));
+        let first = format!("site {listed} from 0/1");
+        assert_eq!(picture.texts("legend")[0], first);
+        let dots = picture.of_class("sites");
+        assert_eq!(colours(&picture), [dots[1].attributes["fill"].clone()]);
+        // North is up.
+        let is_south = dots[1].number("cy") > dots[0].number("cy");
+        assert_eq!(is_south, listed == 5);
+    }
+}
+
 #[test]
 fn sites_stand_where_the_axes_say() {
     let picture = picture("axes", &[], "add 1 -20 -10\nadd 2 40 10\n");

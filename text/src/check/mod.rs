@@ -16,9 +16,11 @@ mod tree;
 use crate::command::Command;
 use crate::desk::Desk;
 use crate::grid::{Site, grouped};
+use crate::lists::RIGHT_FIRST;
+use crate::service::Service;
 use crate::status::{Failure, Met};
 use crate::store::table_of;
-use crate::{show, table};
+use crate::{earlier, show, table};
 use binding::layout::{LAYOUT, LAYOUT_NUMBER, TABLE_LEN, word};
 use fault::Fault;
 use std::io::Write;
@@ -34,11 +36,9 @@ pub fn faults(table: &[u8]) -> Result<Vec<Fault>, Failure> {
         return Ok(vec![Fault::whole(what)]);
     }
     let mut faults = header::faults(table);
-    let of_header = faults.len();
     faults.extend(sites::faults(table));
     faults.extend(standing::leg_faults(table));
-    // A list is that of sites and a leg that can be read.
-    if faults.len() == of_header {
+    if has_list(table) {
         faults.extend(standing::list_faults(table)?);
     }
     let walk = tree::walk(table);
@@ -46,6 +46,13 @@ pub fn faults(table: &[u8]) -> Result<Vec<Fault>, Failure> {
     faults.extend(leaves::faults(table, &walk));
     faults.extend(walk.faults);
     Ok(faults)
+}
+
+/// Whether sites and leg can be read: a list is that of such.
+pub fn has_list(table: &[u8]) -> bool {
+    table.len() == TABLE_LEN
+        && sites::faults(table).is_empty()
+        && standing::leg_faults(table).is_empty()
 }
 
 /// Tells what a table holds, or what is wrong with it and which sites can still be read.
@@ -68,6 +75,9 @@ pub fn tell<W: Write, E: Write>(bytes: &[u8], desk: &mut Desk<W, E>) -> Result<M
     if faults.len() > MOST_TOLD {
         desk.say(format_args!("and {} more", faults.len() - MOST_TOLD))?;
     }
+    if let Some(note) = earlier_list(bytes)? {
+        desk.say(note)?;
+    }
     let readable = readable(bytes);
     let of_layout = if is_unknown(bytes) {
         format!(", if they stand as in layout {LAYOUT_NUMBER}")
@@ -86,6 +96,21 @@ pub fn tell<W: Write, E: Write>(bytes: &[u8], desk: &mut Desk<W, E>) -> Result<M
         unsound: true,
         ..Met::default()
     })
+}
+
+/// What is said of a table of this layout whose list is right by the earlier rule alone.
+fn earlier_list(bytes: &[u8]) -> Result<Option<String>, Failure> {
+    let renewed = earlier::renewed(bytes)?;
+    if renewed == bytes || word(bytes, LAYOUT) != LAYOUT_NUMBER {
+        return Ok(None);
+    }
+    let dump = match Service::take_up(renewed) {
+        Ok(_) => ": --dump carries the table over",
+        Err(_) => "",
+    };
+    Ok(Some(format!(
+        "the standing list is that of a release before {RIGHT_FIRST}{dump}"
+    )))
 }
 
 /// Whether the bytes have the number of a layout that this release does not know.

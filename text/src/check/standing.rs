@@ -1,11 +1,11 @@
 //! The standing leg and the numbers of its list.
 
 use super::fault::{Fault, off_grid};
-use crate::command::Command;
-use crate::service::Service;
+use crate::lists::Lists;
 use crate::status::Failure;
-use crate::table;
-use binding::layout::{ENTRIES_LISTED, LEG_FLAG, LEG_WORDS, far_edge, listed_at, number, word};
+use binding::layout::{
+    ENTRIES_LISTED, LEG_FLAG, LEG_WORDS, far_edge, is_earlier, listed_at, number, word,
+};
 
 const WORDS: [&str; 4] = [
     "easting of S",
@@ -32,9 +32,10 @@ pub fn leg_faults(table: &[u8]) -> Vec<Fault> {
     faults
 }
 
-/// Sites and leg can be read.
+/// Sites and leg can be read. The tie rule is that of the layout.
 pub fn list_faults(table: &[u8]) -> Result<Vec<Fault>, Failure> {
-    let right = right_list(table)?;
+    let Lists { today, earlier } = Lists::of(table)?;
+    let right = if is_earlier(table) { earlier } else { today };
     if number(table, ENTRIES_LISTED) != right.len() {
         let what = "the number of entries is not that of the leg's list";
         let fault = Fault::at(table, ENTRIES_LISTED, "standing list", what);
@@ -54,19 +55,4 @@ pub fn list_faults(table: &[u8]) -> Result<Vec<Fault>, Failure> {
         }
     }
     Ok(faults)
-}
-
-/// The site numbers that the service lists for the leg, over the same sites in a fresh table.
-fn right_list(table: &[u8]) -> Result<Vec<u16>, Failure> {
-    let Some(leg) = table::leg(table) else {
-        return Ok(Vec::new());
-    };
-    let mut service = Service::new()?;
-    let mut commands = Vec::new();
-    for site in table::sites(table) {
-        Command::Add(site).write(&mut commands);
-    }
-    service.serve(&commands, |_| Ok(()))?;
-    let list = service.list(&Command::List(leg))?;
-    Ok(list.into_iter().map(|entry| entry.site).collect())
 }

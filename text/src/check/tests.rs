@@ -1,21 +1,26 @@
 //! The verdict is the service's on every table tried, and each rule is told with its byte.
 
-use super::faults;
+use super::{earlier_list, faults};
+use crate::earlier::renewed;
 use crate::grid::grouped;
+use crate::lists::stands;
 use crate::service::Service;
 use binding::layout::{
-    ENTRIES_LISTED, FREE_NODES, HALF_WIDTH, HEADER_KEPT, LAYOUT, LAYOUT_NUMBER, LEG_FLAG, LEVELS,
-    MOST_LEVELS, ROOT, SITES_HELD, STACK_END, TABLE_LEN, entry_at, free_at, listed_at, node_at,
-    number, put_number, put_word, record_at, word,
+    EARLIER_HALF_WIDTH, ENTRIES_LISTED, FREE_NODES, HALF_WIDTH, HEADER_KEPT, LAYOUT, LAYOUT_NUMBER,
+    LEG_FLAG, LEG_WORDS, LEVELS, MOST_LEVELS, ROOT, SITES_HELD, STACK_END, TABLE_LEN, entry_at,
+    free_at, is_earlier, listed_at, node_at, number, put_number, put_word, record_at, word,
 };
 use reference::book::Book;
 use reference::command::{add, stand};
 use reference::grid::{Leg, MOST_SITES, Site};
+use reference::hull;
 use reference::random::Random;
-use service::damage::{flipped, regions};
+use reference::ties::{number_alone, renamed};
+use service::bytes;
+use service::damage::{flipped, nodes, regions, stored_by};
 use service::draw::Pool;
 use service::shape::{self, Dealing};
-use service::table::broken_rules;
+use service::table::{Rule, broken_rules, meaning};
 
 fn told(table: &[u8]) -> Vec<String> {
     let faults = faults(table).unwrap();
@@ -121,6 +126,169 @@ fn words_exchanged_and_rubbish() {
     for byte in [1, 6, 255] {
         assert!(!agreed(&[byte; TABLE_LEN]));
     }
+}
+
+/// The standing list before 0.9.0, by the second program.
+fn list_before(table: &[u8]) -> Vec<u16> {
+    let (sites, Some(leg)) = (bytes::sites(table), bytes::leg(table)) else {
+        return Vec::new();
+    };
+    let list = hull::split_list(&leg, &sites);
+    let list = renamed(&leg, &sites, &list, number_alone);
+    list.into_iter().map(|entry| entry.site).collect()
+}
+
+/// A table that this release refuses for its list alone.
+fn listed_before(random: &mut Random, count: usize) -> Vec<u8> {
+    loop {
+        let table = sound(random, count);
+        let before = stored_by(number_alone, &table);
+        if before != table {
+            return before;
+        }
+    }
+}
+
+/// Whether --dump takes it.
+fn dumped(table: &[u8]) -> bool {
+    Service::take_up(renewed(table).unwrap()).is_ok()
+}
+
+/// Whether an earlier release took it, a table of this layout: the checker and its list say so.
+fn was_sound(table: &[u8]) -> bool {
+    let broken = broken_rules(table);
+    broken.iter().all(|rule| *rule == Rule::StandingList) && stands(table, &list_before(table))
+}
+
+/// Whether a table of this layout is dumped; all that is said of it agrees.
+fn agreed_on_lists(table: &[u8]) -> bool {
+    let (sound, was_sound) = (agreed(table), was_sound(table));
+    assert_eq!(dumped(table), sound || was_sound);
+    let note = earlier_list(table).unwrap();
+    let carries = note.is_some_and(|note| note.ends_with(": --dump carries the table over"));
+    assert_eq!(carries, was_sound && !sound);
+    sound || was_sound
+}
+
+#[test]
+fn lists_of_earlier_releases_are_told_and_dumped() {
+    let mut random = Random::new(206);
+    for count in [2, 3, 9, 40, 200, MOST_SITES].repeat(4) {
+        let table = listed_before(&mut random, count);
+        assert!(!agreed(&table) && agreed_on_lists(&table));
+        let told = told(&table);
+        assert!(told.iter().all(|line| line.starts_with("standing list, ")));
+        assert_eq!(
+            earlier_list(&table).unwrap().unwrap(),
+            "the standing list is that of a release before 0.9.0: --dump carries the table over"
+        );
+        // Where something else is broken, it is not carried over.
+        let kept = flipped(&table, HEADER_KEPT.start, 0);
+        assert_eq!(
+            earlier_list(&kept).unwrap().unwrap(),
+            "the standing list is that of a release before 0.9.0"
+        );
+        assert!(!agreed_on_lists(&kept));
+        let sound = renewed(&table).unwrap();
+        assert!(agreed(&sound) && renewed(&sound).unwrap() == sound);
+        assert_eq!(earlier_list(&sound).unwrap(), None);
+    }
+}
+
+#[test]
+fn a_flipped_bit_in_tables_with_an_earlier_list() {
+    let mut random = Random::new(207);
+    let (mut refused, mut taken) = (0, 0);
+    for count in [2, 3, 9, 12, 40] {
+        let table = listed_before(&mut random, count);
+        for region in regions(&table) {
+            for at in region.bytes {
+                let bits = if region.name == "stack" { 1 } else { 4 };
+                for _ in 0..bits {
+                    let table = flipped(&table, at, random.index(8));
+                    // With the number of an earlier layout it may be one of that.
+                    if !is_earlier(&table) {
+                        let agreed = agreed_on_lists(&table);
+                        *if agreed { &mut taken } else { &mut refused } += 1;
+                    }
+                }
+            }
+        }
+    }
+    assert!(refused > 4_000 && taken > 10, "{refused} {taken}");
+}
+
+/// The table in an earlier layout; none where that grid does not have all of it.
+fn aged(table: &[u8], layout: u16) -> Option<Vec<u8>> {
+    let sites = 0..number(table, SITES_HELD);
+    let sites = sites.flat_map(|k| [2, 4].map(|offset| record_at(k) + offset));
+    let leg = LEG_WORDS.into_iter().filter(|_| word(table, LEG_FLAG) == 1);
+    let entries = |node| (0..number(table, node_at(node))).map(move |i| entry_at(node, i));
+    let entries = nodes(table).into_iter().flat_map(entries);
+    let edges = entries.flat_map(|at| [2, 4, 6, 8].map(|offset| at + offset));
+    let mut aged = table.to_vec();
+    for at in sites.chain(leg).chain(edges) {
+        let counted = word(table, at).checked_sub(HALF_WIDTH - EARLIER_HALF_WIDTH)?;
+        if counted > 2 * EARLIER_HALF_WIDTH {
+            return None;
+        }
+        put_word(&mut aged, at, counted);
+    }
+    put_word(&mut aged, LAYOUT, layout);
+    Some(aged)
+}
+
+/// Whether a table of an earlier layout was sound there: --check and --dump say the same.
+fn agreed_on_earlier(table: &[u8]) -> bool {
+    let told = told(table);
+    assert!(told[0].starts_with("header: the number of an earlier layout: "));
+    assert_eq!(dumped(table), told.len() == 1, "{told:?}");
+    assert_eq!(earlier_list(table).unwrap(), None);
+    told.len() == 1
+}
+
+#[test]
+fn earlier_layouts_have_lists_by_number() {
+    let mut random = Random::new(208);
+    let mut tables = 0;
+    while tables < 60 {
+        let count = 2 + random.index(60);
+        let before = listed_before(&mut random, count);
+        let sound = renewed(&before).unwrap();
+        for layout in 0..LAYOUT_NUMBER {
+            let (Some(before), Some(today)) = (aged(&before, layout), aged(&sound, layout)) else {
+                continue;
+            };
+            assert!(agreed_on_earlier(&before) && !agreed_on_earlier(&today));
+            assert_eq!(meaning(&renewed(&before).unwrap()), meaning(&sound));
+            assert!(renewed(&today).unwrap() == today);
+            tables += 1;
+        }
+    }
+}
+
+#[test]
+fn a_flipped_bit_in_earlier_layouts() {
+    let mut random = Random::new(209);
+    let (mut refused, mut taken) = (0, 0);
+    for (layout, count) in [(0, 3), (1, 3), (0, 12), (1, 40)] {
+        let table = std::iter::repeat_with(|| listed_before(&mut random, count));
+        let table = table.filter_map(|table| aged(&table, layout)).next();
+        let table = table.unwrap();
+        for region in regions(&table) {
+            for at in region.bytes {
+                let bits = if region.name == "stack" { 1 } else { 4 };
+                for _ in 0..bits {
+                    let table = flipped(&table, at, random.index(8));
+                    if is_earlier(&table) {
+                        let agreed = agreed_on_earlier(&table);
+                        *if agreed { &mut taken } else { &mut refused } += 1;
+                    }
+                }
+            }
+        }
+    }
+    assert!(refused > 3_000 && taken > 10, "{refused} {taken}");
 }
 
 #[test]

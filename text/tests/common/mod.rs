@@ -2,8 +2,10 @@
 #![allow(dead_code)] // Each test file uses its part.
 
 use reference::command::Command as Bytes;
+use reference::fraction::Fraction;
 pub use reference::grid::HALF_WIDTH;
 use reference::grid::Site;
+use reference::record::Record;
 use std::io::Write;
 use std::path::{Path, PathBuf};
 use std::process::{Command, Stdio};
@@ -122,6 +124,40 @@ pub fn line(command: &[u8]) -> String {
 
 pub fn lines(commands: &[Vec<u8>]) -> String {
     commands.iter().map(|command| line(command)).collect()
+}
+
+const REFUSALS: [&str; 7] = [
+    "site number 0",
+    "a coordinate outside ",
+    "number already held",
+    "number not held",
+    "512 sites held",
+    "no site held",
+    "no standing leg",
+];
+
+/// The answer without points that --plain gives.
+pub fn in_words(record: &Record) -> String {
+    match record {
+        Record::Accepted => "accepted\n".into(),
+        Record::Refused(number) => {
+            let range = if *number == 2 { span() } else { String::new() };
+            let refusal = REFUSALS[usize::from(*number) - 1];
+            format!("refused {number}: {refusal}{range}\n")
+        }
+        Record::List(list) => {
+            let noun = if list.len() == 1 { "entry" } else { "entries" };
+            let mut text = format!("list of {} {noun}\n", list.len());
+            for entry in list {
+                let Fraction {
+                    numerator,
+                    denominator,
+                } = entry.start;
+                text += &format!("from {numerator}/{denominator} site {}\n", entry.site);
+            }
+            text
+        }
+    }
 }
 
 /// The answers without the points of starts, as they are where the legs are not known.
