@@ -6,7 +6,7 @@ use plain::{hull, record};
 
 /// Puts the listed vertices first, and returns how many they are.
 pub fn listed(table: &[u8], n: usize, leg: Leg, hull: &mut Vec<Vertex>) -> usize {
-    hull::listed((0..n).map(|site| vertex(table, leg, site)), hull)
+    hull::listed(leg, (0..n).map(|site| vertex(table, leg, site)), hull)
 }
 
 pub fn list(table: &[u8], n: usize, leg: Leg, hull: &mut Vec<Vertex>, report: &mut [u8]) -> usize {

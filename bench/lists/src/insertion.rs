@@ -2,7 +2,7 @@
 
 use crate::shared::{ready, vertex};
 use plain::record;
-use plain::vertex::{Leg, Vertex, product, turns};
+use plain::vertex::{Leg, Vertex, product, turns, wins};
 
 /// A row of places.
 pub type Row = [u16; 512];
@@ -53,6 +53,11 @@ impl Sites<'_> {
         self.insert(row, k, n, place, x)
     }
 
+    /// Whether u hides x, which is not left of it.
+    fn hides(self, u: Vertex, x: Vertex) -> bool {
+        u.c < x.c || (u.c == x.c && (u.a < x.a || wins(self.leg, u.site, x.site)))
+    }
+
     /// Whether x may stand on the row, of which u is the last.
     fn stands(self, row: &[u16], u: Vertex, x: Vertex) -> bool {
         if x.a <= u.a || u.c <= x.c {
@@ -66,7 +71,7 @@ impl Sites<'_> {
         let mut j = row.len();
         while j > 0 {
             let u = self.vertex(row[j - 1]);
-            if hides(u, x) {
+            if self.hides(u, x) {
                 return None;
             }
             if self.stands(&row[..j], u, x) {
@@ -110,11 +115,6 @@ fn probe(low: usize, high: usize, k: usize) -> usize {
         (0, _) => 0,
         _ => low + (high - low) / 2,
     }
-}
-
-/// Whether u hides x, which is not left of it.
-fn hides(u: Vertex, x: Vertex) -> bool {
-    u.c < x.c || (u.c == x.c && (u.a < x.a || u.number <= x.number))
 }
 
 /// Whether v is as near as x at both ends, and nearer at one.

@@ -13,9 +13,9 @@ mod shared;
 
 use insertion::Row;
 use lists::{WORK_NEEDED, leg_words, probe_list, table};
-use plain::record;
 use plain::turns::take;
 use plain::vertex::Vertex;
+use plain::{record, ties};
 use reference::grid::{HALF_WIDTH, Leg, MOST_SITES, Position, Site};
 use reference::random::Random;
 use std::hint::black_box;
@@ -69,7 +69,11 @@ fn task(leg: Leg, positions: Vec<Position>, numbers: Vec<u16>) -> Task {
     let sites: Vec<Site> = sites
         .map(|(number, position)| Site { number, position })
         .collect();
-    let (table, leg) = (table(&sites), leg_words(&leg));
+    task_of(leg, &sites)
+}
+
+fn task_of(leg: Leg, sites: &[Site]) -> Task {
+    let (table, leg) = (table(sites), leg_words(&leg));
     let mut listed = Vec::new();
     let k = hull::listed(&table, MOST_SITES, leg, &mut listed);
     listed.truncate(k);
@@ -201,6 +205,9 @@ fn run(random: &mut Random, scenario: &Scenario) {
 }
 
 fn main() {
+    for case in ties::cases() {
+        entries(&task_of(case.leg, &case.sites));
+    }
     println!("One list over {MOST_SITES} sites, in microseconds.");
     println!(
         "Means over {TABLES} tables of medians of {REPEATS} repeats; the programs take turns."

@@ -13,7 +13,8 @@ mod row;
 mod search;
 
 use plain::legs::Length;
-use plain::tables::{Kind, Lie, Numbering, serve};
+use plain::tables::{Kind, Lie, Numbering, filled, serve};
+use plain::ties;
 use reference::command;
 use reference::grid::{HALF_WIDTH, Leg, MOST_SITES};
 use reference::random::Random;
@@ -245,7 +246,17 @@ fn print_head() {
     println!();
 }
 
+/// Fails if the search lists something else where sites tie along the whole leg.
+fn compare_at_ties() {
+    for case in ties::cases() {
+        let additions: Vec<_> = case.sites.into_iter().map(command::add).collect();
+        let mut table = filled(&Proved, &additions.concat());
+        measure(&mut table, &[case.leg]);
+    }
+}
+
 fn main() {
+    compare_at_ties();
     print_head();
     let mut random = Random::new(43);
     let mut largest = Largest::default();

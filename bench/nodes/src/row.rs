@@ -1,12 +1,11 @@
 //! The proved list in plain Rust (crates list_row, list_skip and list_insert): a row of vertices, each
 //! site skipped or inserted in turn.
 
+pub use plain::vertex::Leg;
+use plain::vertex::{Site, wins};
 use reference::area::outside;
 use reference::fraction::Fraction;
 use service::bytes::Entry;
-
-/// The leg's words: easting and northing of S, then of E, counted from the south-west corner.
-pub type Leg = [u16; 4];
 
 /// Least squared distances from S and from E of what lies in a box.
 #[derive(Clone, Copy)]
@@ -49,6 +48,15 @@ impl Vertex {
             site,
         }
     }
+
+    /// What the tie rule reads.
+    fn plain(self) -> Site {
+        Site {
+            number: self.site.reference,
+            east: self.site.west,
+            north: self.site.south,
+        }
+    }
 }
 
 /// Two sites that were listed when they were looked at.
@@ -65,13 +73,20 @@ impl Edge {
     }
 }
 
-/// The vertices of a list, the one nearest to S first.
-#[derive(Default)]
-pub struct Row(Vec<Vertex>);
+/// The vertices of a leg's list, the one nearest to S first.
+pub struct Row {
+    leg: Leg,
+    listed: Vec<Vertex>,
+}
 
 impl Row {
+    pub fn new(leg: Leg) -> Self {
+        let listed = Vec::new();
+        Row { leg, listed }
+    }
+
     pub fn vertices(&self) -> &[Vertex] {
-        &self.0
+        &self.listed
     }
 
     /// Where the vertex at i takes over from the one before; 0 at the first.
@@ -79,24 +94,24 @@ impl Row {
         if i == 0 {
             return Fraction::ZERO;
         }
-        let (p, q) = (self.0[i - 1].corner, self.0[i].corner);
+        let (p, q) = (self.listed[i - 1].corner, self.listed[i].corner);
         let (rise, fall) = (u64::from(q.a - p.a), u64::from(p.c - q.c));
         Fraction::new(rise, rise + fall).reduced()
     }
 
     /// How many are not right of a.
     fn cut(&self, a: u32) -> usize {
-        self.0.partition_point(|vertex| vertex.corner.a <= a)
+        self.listed.partition_point(|vertex| vertex.corner.a <= a)
     }
 
     /// The vertices about the cut of x: the last that is not right of it and the first that is; at
     /// an end of the row, that end twice.
     pub fn edge(&self, x: Corner) -> Option<Edge> {
-        let end = self.0.len().checked_sub(1)?;
+        let end = self.listed.len().checked_sub(1)?;
         let n = self.cut(x.a);
         Some(Edge {
-            left: self.0[n.saturating_sub(1)].corner,
-            right: self.0[n.min(end)].corner,
+            left: self.listed[n.saturating_sub(1)].corner,
+            right: self.listed[n.min(end)].corner,
         })
     }
 
@@ -108,23 +123,29 @@ impl Row {
     /// Inserts a site that the list does not shut out.
     pub fn insert(&mut self, x: Vertex) {
         let n = self.cut(x.corner.a);
-        let right = self.0.split_off(n);
+        let right = self.listed.split_off(n);
         self.push(x);
         right.into_iter().for_each(|vertex| self.push(vertex));
     }
 
     /// Pushes x, which is not left of any, and drops what it takes over.
     fn push(&mut self, x: Vertex) {
-        while let Some(&u) = self.0.last() {
-            if hides(u, x) {
+        while let Some(&u) = self.listed.last() {
+            if self.hides(u, x) {
                 return;
             }
             if self.stands(u.corner, x.corner) {
                 break;
             }
-            self.0.pop();
+            self.listed.pop();
         }
-        self.0.push(x);
+        self.listed.push(x);
+    }
+
+    /// Whether u hides x, which is not left of it.
+    fn hides(&self, u: Vertex, x: Vertex) -> bool {
+        let (v, y) = (u.corner, x.corner);
+        v.c < y.c || (v.c == y.c && (v.a < y.a || wins(self.leg, u.plain(), x.plain())))
     }
 
     /// Whether x may stand on the row, of which u is the last.
@@ -132,7 +153,7 @@ impl Row {
         if x.a <= u.a || u.c <= x.c {
             return false;
         }
-        self.0.len() == 1 || turns(self.0[self.0.len() - 2].corner, u, x)
+        self.listed.len() == 1 || turns(self.listed[self.listed.len() - 2].corner, u, x)
     }
 }
 
@@ -143,13 +164,6 @@ fn product(x: u32, y: u32) -> u64 {
 /// Whether the changeover from s to u comes before that from u to x.
 fn turns(s: Corner, u: Corner, x: Corner) -> bool {
     product(u.a - s.a, u.c - x.c) < product(x.a - u.a, s.c - u.c)
-}
-
-/// Whether u hides x, which is not left of it.
-fn hides(u: Vertex, x: Vertex) -> bool {
-    let by_number = u.site.reference <= x.site.reference;
-    let (u, x) = (u.corner, x.corner);
-    u.c < x.c || (u.c == x.c && (u.a < x.a || by_number))
 }
 
 /// Whether v is as low as x in both, and lower in one.

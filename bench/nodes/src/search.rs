@@ -29,7 +29,7 @@ impl<'t> Search<'t> {
         let mut search = Search {
             table,
             leg,
-            row: Row::default(),
+            row: Row::new(leg),
             read: Vec::new(),
         };
         let (height, root) = root(table);

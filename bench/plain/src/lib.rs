@@ -6,6 +6,7 @@ pub mod hull;
 pub mod legs;
 pub mod record;
 pub mod tables;
+pub mod ties;
 pub mod turns;
 pub mod verdict;
 pub mod vertex;

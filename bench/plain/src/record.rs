@@ -33,7 +33,7 @@ pub fn put(count: usize, vertex: impl Fn(usize) -> Vertex, report: &mut [u8]) ->
             0 => (0, 1),
             _ => start(vertex(i - 1), q),
         };
-        entry[..2].copy_from_slice(&q.number.to_le_bytes());
+        entry[..2].copy_from_slice(&q.site.number.to_le_bytes());
         entry[2..6].copy_from_slice(&numerator.to_le_bytes());
         entry[6..].copy_from_slice(&denominator.to_le_bytes());
     }

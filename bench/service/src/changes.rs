@@ -132,7 +132,7 @@ impl<L: Lister> Plain<L> {
         self.run(task);
         let listed = task.leg.map(|leg| self.lister.listed(&self.sites, leg));
         let vertices = listed.into_iter().flatten();
-        vertices.map(|vertex| vertex.number).collect()
+        vertices.map(|vertex| vertex.site.number).collect()
     }
 }
 

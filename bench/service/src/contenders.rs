@@ -26,7 +26,7 @@ pub struct Wrap(Vec<Vertex>);
 
 impl Lister for Wrap {
     fn listed(&mut self, sites: &[Site], leg: Leg) -> &[Vertex] {
-        wrap::listed(|| vertices(sites, leg), &mut self.0);
+        wrap::listed(leg, sites, |site| Vertex::of(leg, *site), &mut self.0);
         &self.0
     }
 }
@@ -42,7 +42,7 @@ impl Lister for Kept {
     fn listed(&mut self, sites: &[Site], leg: Leg) -> &[Vertex] {
         self.all.clear();
         self.all.extend(vertices(sites, leg));
-        wrap::listed(|| self.all.iter().copied(), &mut self.listed);
+        wrap::listed(leg, &self.all, |vertex| *vertex, &mut self.listed);
         &self.listed
     }
 }
@@ -53,7 +53,7 @@ pub struct Hull(Vec<Vertex>);
 
 impl Lister for Hull {
     fn listed(&mut self, sites: &[Site], leg: Leg) -> &[Vertex] {
-        let count = hull::listed(vertices(sites, leg), &mut self.0);
+        let count = hull::listed(leg, vertices(sites, leg), &mut self.0);
         &self.0[..count]
     }
 }

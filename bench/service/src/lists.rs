@@ -7,6 +7,7 @@ use crate::sites::{held, words};
 use crate::times::Times;
 use plain::legs::{Length, all_listed};
 use plain::tables::{Kind, filled};
+use plain::ties;
 use plain::turns::{Program, take};
 use plain::vertex::{Leg, Site};
 use reference::command;
@@ -93,26 +94,61 @@ impl<L: Lister> Program<Task> for Plain<L> {
     }
 }
 
+/// The service and the programs in plain Rust.
+struct Programs {
+    together: Together,
+    singly: Singly,
+    wrap: Plain<Wrap>,
+    kept: Plain<Kept>,
+    hull: Plain<Hull>,
+}
+
+impl Programs {
+    /// For tasks of so many legs.
+    fn new(legs: usize) -> Self {
+        Programs {
+            together: Together::new(legs),
+            singly: Singly::new(),
+            wrap: Plain::new(legs),
+            kept: Plain::new(legs),
+            hull: Plain::new(legs),
+        }
+    }
+
+    /// The bytes of the task's records. Fails if not all write the same.
+    fn compare(&mut self, task: &Task) -> usize {
+        let (_, report) = self.together.outcome(&task.calls);
+        assert!(report == self.wrap.records(task), "gift wrapping differs");
+        assert!(report == self.kept.records(task), "kept distances differ");
+        assert!(report == self.hull.records(task), "the hull differs");
+        report.len()
+    }
+}
+
+/// Fails if the programs differ where sites tie along the whole leg.
+pub fn compare_at_ties() {
+    let mut programs = Programs::new(1);
+    for case in ties::cases() {
+        let additions: Vec<_> = case.sites.into_iter().map(command::add).collect();
+        let table = filled(&Proved, &additions.concat());
+        programs.compare(&Task::new(table, vec![case.leg]));
+    }
+}
+
 /// Microseconds for a leg, and the entries of a list. Fails if not all write the same records.
 pub fn measure(tasks: &[Task], repeats: usize) -> (Times, f64) {
     let legs = tasks[0].legs.len();
-    let (mut together, mut singly) = (Together::new(legs), Singly::new());
-    let (mut wrap, mut kept) = (Plain::<Wrap>::new(legs), Plain::<Kept>::new(legs));
-    let mut hull = Plain::<Hull>::new(legs);
-    let mut written = 0;
-    for task in tasks {
-        let (_, report) = together.outcome(&task.calls);
-        assert!(report == wrap.records(task), "gift wrapping differs");
-        assert!(report == kept.records(task), "kept distances differ");
-        assert!(report == hull.records(task), "the hull differs");
-        written += report.len();
-    }
+    let mut programs = Programs::new(legs);
+    let written: usize = tasks.iter().map(|task| programs.compare(task)).sum();
+    let Programs {
+        together,
+        singly,
+        wrap,
+        kept,
+        hull,
+    } = &mut programs;
     let listed = (tasks.len() * legs) as f64;
     let entries = (written as f64 / listed - 3.0) / ENTRY_LEN as f64;
-    let times = take(
-        repeats,
-        tasks,
-        [&mut together, &mut singly, &mut wrap, &mut kept, &mut hull],
-    );
+    let times = take(repeats, tasks, [together, singly, wrap, kept, hull]);
     (Times::of(times.map(|time| time / legs as f64)), entries)
 }

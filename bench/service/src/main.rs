@@ -177,6 +177,7 @@ fn fixed(random: &mut Random, targets: &mut Targets) {
 }
 
 fn main() {
+    lists::compare_at_ties();
     print_head();
     let mut random = Random::new(47);
     let mut targets = Targets::default();
