@@ -193,6 +193,24 @@ fn the_rule_on_the_standing_list_is_named() {
     assert_eq!(without_leg, list);
 }
 
+/// Document 02, C-11: "The standing list and test 65 follow".
+#[test]
+fn a_stored_list_follows_the_tie_rule() {
+    let sites = [Site::new(2, 3, 4), Site::new(5, 3, -4)];
+    for (leg, number) in [
+        (Leg::new((0, 0), (10, 0)), 5),
+        (Leg::new((10, 0), (0, 0)), 2),
+    ] {
+        let book = Book::of(&sites, Some(leg));
+        let mut table = shape::table(&book, &mut Dealing::Even);
+        for named in [2, 5] {
+            put_word(&mut table, listed_at(0), named);
+            let sound = broken_rules(&table).is_empty();
+            assert_eq!(sound, named == number, "{leg:?} naming {named}");
+        }
+    }
+}
+
 #[test]
 fn rules_on_entries_are_named() {
     let kept = edited(|t, nodes| t[entry_at(nodes.leaf, 7) + 11] = 4);
