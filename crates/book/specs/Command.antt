@@ -10,7 +10,7 @@ use lib.Dec.{eqb, leb, ltb}
 use Rattle.words.specs.Words.{wordAt}
 use Rattle.grid.specs.declared.Position.{Position}
 use Rattle.grid.specs.declared.Leg.{Leg}
-use Rattle.grid.specs.Coordinate.{fromWord}
+use Rattle.grid.specs.Coordinate.{wordPosition}
 use Rattle.book.specs.declared.Command.{Command}
 use Rattle.book.specs.declared.Command.the-variants.{Add, Remove, Move, List as ListOf, Stand, Print}
 use Rattle.book.specs.declared.Shape.{Shape}
@@ -36,7 +36,7 @@ operandBytes TwoPositions = 8
 
 -- the position at byte i
 abbrev pub positionAt : List ℕ → ℕ → Position
-positionAt s i = record { east = fromWord (wordAt s i); north = fromWord (wordAt s (i + 2)) }
+positionAt s i = wordPosition (wordAt s i) (wordAt s (i + 2))
 
 -- the leg at byte i: "S, E"
 abbrev pub legAt : List ℕ → ℕ → Leg

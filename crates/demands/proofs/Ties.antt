@@ -12,15 +12,15 @@ use Rattle.book.specs.Reply.{listed}
 use Rattle.book.specs.Run.{Turn, afterAll}
 use Rattle.table_rules.specs.Table.{bookOf}
 use Rattle.demands.specs.Whole.{Call}
-use Rattle.demands.specs.Demands.{Answers, ListedRight, Demand2}
+use Rattle.demands.specs.Demands.{Answers, Demand2}
 
 -- a list es that was answered, an entry of it, and a held site that ties with the entry's along the leg asked for
 module _ (t : List ℕ) (c : Call) (d : Demand2 t c) (past : List Turn) (u : Turn) (a : Answers t c past u) (es : List Entry) (r : u .reply ≡ listed es) (e : Entry) (m : List·Memᴰ e es)
     (q : Site) (held : List·Memᴰ q (sitesOf (afterAll (bookOf t) past))) (tie : TieAlong (d .right past u a es r .leg) (e .site) q) where
   -- "one on the right now comes before others"
   pub right-listed : OnTheRight (d .right past u a es r .leg) (q .position) → OnTheRight (d .right past u a es r .leg) (e .site .position)
-  right-listed = d .right past u a es r .list .ties e m q held tie .right
+  right-listed = d .right past u a es r .list .ties e m q held tie .side
 
   -- "then the lower number"
   pub lower-listed : (OnTheRight (d .right past u a es r .leg) (e .site .position) → OnTheRight (d .right past u a es r .leg) (q .position)) → e .site .number ≤ q .number
-  lower-listed = d .right past u a es r .list .ties e m q held tie .lower
+  lower-listed = d .right past u a es r .list .ties e m q held tie .number

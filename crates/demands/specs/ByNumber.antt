@@ -3,13 +3,14 @@
 -- Assumes nothing.
 use mathlib.Core.Path.{_≡_}
 use mathlib.Core.Option.{Option, none, some}
-use mathlib.Core.List.{List, []}
+use mathlib.Core.List.{List, [], _∷_}
 use Prim.Native.Nat.{ℕ}
 use Rattle.limits.specs.Limits.{workBytes}
 use Rattle.grid.specs.declared.Leg.{Leg}
 use Rattle.grid.specs.declared.Site.{Site}
 use Rattle.split.specs.SplitList.{Entry}
 use Rattle.split.specs.ByNumber.{splitByNumber}
+use Rattle.split.specs.Legs.{at, atSouth, site}
 use Rattle.book.specs.Book.{Book, sitesOf, standingList}
 use Rattle.book.specs.Proper.{LegOk}
 use Rattle.table_standing.specs.Standing.{standingIn, numbersOf}
@@ -34,14 +35,21 @@ pub record SoundByNumber (t : List ℕ) : Type 0 where
   pub leg : LegOk (bookOf t .leg)
   pub list : standingIn t ≡ storedBefore (bookOf t)
 
--- C-11 leaves the stored list of such a table
-abbrev pub ListStays : List ℕ → Type 0
-ListStays t = storedBefore (bookOf t) ≡ numbersOf (standingList (bookOf t))
+-- C-11 leaves the stored list of this book
+abbrev pub ListStays : Book → Type 0
+ListStays b = storedBefore b ≡ numbersOf (standingList b)
+
+-- 65, with table and report left and the work buffer all zero
+abbrev pub Refused65 : List ℕ → Call → List ℕ → Type 0
+Refused65 t c t′ = (c .result ≡ returns 65 0 0) × (t′ ≡ t) × (c .workAfter ≡ zeros workBytes) × (c .reportAfter ≡ c .report)
 
 -- what becomes of such a table in a call with a work buffer of the right length
 pub record EarlierTable (t : List ℕ) (c : Call) (t′ : List ℕ) : Type 0 where
-  -- whose stored list C-11 changes: 65, with table and report left and the work buffer all zero
-  pub refused : ¬ ListStays t
-      → (c .result ≡ returns 65 0 0) × (t′ ≡ t) × (c .workAfter ≡ zeros workBytes) × (c .reportAfter ≡ c .report)
+  -- whose stored list C-11 changes
+  pub refused : ¬ ListStays (bookOf t) → Refused65 t c t′
   -- and every other one: it is taken as it is
-  pub taken : ListStays t → Kept t c t′
+  pub taken : ListStays (bookOf t) → Kept t c t′
+
+-- document 01's case, with this standing leg: "2 (3,4), 5 (3,-4)"
+abbrev pub twoAndFive : Leg → Book
+twoAndFive l = record { lines = site 2 (at 3 4) ∷ site 5 (atSouth 3 4) ∷ []; leg = some l }

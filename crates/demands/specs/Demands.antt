@@ -109,10 +109,10 @@ AllNearest l s [] = Unit {0}
 AllNearest l s (e ∷ es) =
     ((t : Fraction) → IsFraction t → CoversAt e es t → NearestAt l s t (e .site)) × AllNearest l s es
 
--- the list of the leg l over the sites s is document 01's
+-- the list of the leg l over the sites s is document 01's, as C-11 of document 02 changed it
 pub record RightList (l : Leg) (s : List Site) (es : List Entry) : Type 0 where
   pub is : es ≡ splitOf l s
-  -- it follows document 01's rules, which only one list does
+  -- it follows the rules of a split list, which only one list does
   pub rules : IsSplitList l s es
   -- "Each entry's site is nearest .. at every fraction that the entry covers, both ends included."
   pub nearest : AllNearest l s es
@@ -249,7 +249,7 @@ pub record Demand3On (cs : List Call) (b : Book) (t′ : List ℕ) : Type 0 wher
   -- are left
   pub lists : (l : Leg) → LegOnGrid l → sitesOf b ≢ [] → (c : Call) (t″ : List ℕ) → Asks t′ (list4C l) c t″
       → HasRoom c (recordBytes (splitOf l (sitesOf b))) → WroteReport c (recordBytes (splitOf l (sitesOf b))) × (t″ ≡ t′)
-  -- and it is the split list of document 01 over the book's sites
+  -- and it is the split list over the book's sites
   pub right : (l : Leg) → LegOnGrid l → RightList l (sitesOf b) (splitOf l (sitesOf b))
   -- the fresh table's additions are all accepted: its book has the same lines
   pub filled : (fs : List Call) (u′ : List ℕ) → Ran fs u′ → FreshOf b fs → bookOfRun fs .lines ≡ b .lines

@@ -7,7 +7,7 @@ use Prim.Native.Nat.{ℕ, _+_}
 use Rattle.grid.specs.declared.Position.{Position}
 use Rattle.grid.specs.declared.Leg.{Leg}
 use Rattle.grid.specs.declared.Fraction.{Fraction}
-use Rattle.grid.specs.Side.{turned}
+use Rattle.grid.specs.Side.{wayBack}
 use Rattle.records.specs.Bytes.{bytes2, bytes4}
 use Rattle.records.specs.Decode.{Listed}
 use Rattle.book.specs.declared.Command.{Command}
@@ -112,7 +112,7 @@ standingLines =
     (Stand ten ∷ Add 1 (at 2 3) ∷ Add 2 (at 7 1) ∷ Move 1 (at 7 1) ∷ Move 2 (at 2 3) ∷ Print ∷ [])
     (0x2B ∷ 0x2B ∷ 0x2B ∷ 0x2B ∷ 0x2B ∷ twoEntries (sinceBytes 2 0 1) (sinceBytes 1 37 100))
     ∷ line
-    (Stand ten ∷ Add 2 (at 3 4) ∷ Print ∷ Add 5 (atSouth 3 4) ∷ Print ∷ Stand (turned ten) ∷ Print ∷ Remove 2 ∷ Print ∷ [])
+    (Stand ten ∷ Add 2 (at 3 4) ∷ Print ∷ Add 5 (atSouth 3 4) ∷ Print ∷ Stand (wayBack ten) ∷ Print ∷ Remove 2 ∷ Print ∷ [])
     (0x2B ∷ 0x2B ∷ oneEntry (sinceBytes 2 0 1) ++ (0x2B ∷ oneEntry (sinceBytes 5 0 1)) ++ (0x2B ∷ oneEntry (sinceBytes 2 0 1))
     ++ (0x2B ∷ oneEntry (sinceBytes 5 0 1)))
     ∷ []

@@ -1,7 +1,7 @@
 -- The right-hand side of a leg: the form in natural numbers has the sign of the cross product as document 02 writes
 -- it, on the signed coordinates of commands.
 -- Assumes nothing.
-use mathlib.Core.Path.{_≡_, ap}
+use mathlib.Core.Path.{_≡_, ap, subst, subst⁻¹}
 use mathlib.Core.Bool.{Bool, true, false, cond, not}
 use Prim.Native.Nat.{ℕ, zero, suc, _+_, _*_, _-_, _%_, _^_, _≤_, _<_}
 use native.Mathlib.Nat.{mul-le-mul}
@@ -16,7 +16,7 @@ use Rattle.grid.specs.declared.Position.{Position}
 use Rattle.grid.specs.declared.Leg.{Leg}
 use Rattle.grid.specs.Position.{OnGrid}
 use Rattle.grid.specs.Coordinate.{fromWord, wordPosition}
-use Rattle.grid.specs.Side.{OnTheRight, Signed, crossProduct, signedOf, signedWords, turned}
+use Rattle.grid.specs.Side.{crossPlus, crossMinus, OnTheRight, crossProduct, signedOf, signedWords, wayBack}
 
 -- the product of two words
 pub words-product : (x y : ℕ) → x < 65536 → y < 65536 → x * y < 2 ^ 32
@@ -28,7 +28,7 @@ IsLess (pos n) a b = a ≡ n + b
 IsLess (negsuc n) a b = b ≡ suc n + a
 
 -- the same, from which the numbers can be read off
-record Less (z : ℤ) (a b : ℕ) : Type 0 where
+record Difference (z : ℤ) (a b : ℕ) : Type 0 where
   is : IsLess z a b
 
 -- the difference of two natural numbers
@@ -61,10 +61,10 @@ times (pos m) (negsuc n) a b c d h k = negated (pos (m * suc n)) _ _ (rw (h, k) 
 times (negsuc m) (pos n) a b c d h k = negated (pos (suc m * n)) _ _ (rw (h, k) (omega arith))
 times (negsuc m) (negsuc n) a b c d h k = rw (h, k) (omega arith)
 
-subtracted : {y z : ℤ} {a b c d : ℕ} → Less y a b → Less z c d → Less (y -ℤ z) (a + d) (b + c)
+subtracted : {y z : ℤ} {a b c d : ℕ} → Difference y a b → Difference z c d → Difference (y -ℤ z) (a + d) (b + c)
 subtracted {y} {z} h k = record { is = sum y (negℤ z) _ _ _ _ (h .is) (negated z _ _ (k .is)) }
 
-multiplied : {y z : ℤ} {a b c d : ℕ} → Less y a b → Less z c d → Less (y *ℤ z) (a * c + b * d) (a * d + b * c)
+multiplied : {y z : ℤ} {a b c d : ℕ} → Difference y a b → Difference z c d → Difference (y *ℤ z) (a * c + b * d) (a * d + b * c)
 multiplied {y} {z} h k = record { is = times y z _ _ _ _ (h .is) (k .is) }
 
 -- "is below zero"
@@ -73,23 +73,12 @@ below-zero (pos n) a b h = (λ l. absurd (omega (arith, ltb→lt n 0 (l .lt))), 
 below-zero (negsuc n) a b h = (λ l. omega arith, λ l. ltZ-yes tt)
 
 -- a coordinate, counted from the grid's middle
-counted : (x : ℕ) → Less (pos x -ℤ pos halfWidth) x halfWidth
+counted : (x : ℕ) → Difference (pos x -ℤ pos halfWidth) x halfWidth
 counted x = record { is = natural x halfWidth }
 
 -- the difference of two coordinates
-across : (x y : ℕ) → Less ((pos x -ℤ pos halfWidth) -ℤ (pos y -ℤ pos halfWidth)) (x + halfWidth) (halfWidth + y)
+across : (x y : ℕ) → Difference ((pos x -ℤ pos halfWidth) -ℤ (pos y -ℤ pos halfWidth)) (x + halfWidth) (halfWidth + y)
 across x y = subtracted (counted x) (counted y)
-
--- RIGHT OF THE LEG exactly where the cross product "is below zero"
-pub right-is : (l : Leg) (p : Position)
-    → (OnTheRight l p → crossProduct (signedOf (l .s)) (signedOf (l .e)) (signedOf p) <ℤ pos 0)
-    × (crossProduct (signedOf (l .s)) (signedOf (l .e)) (signedOf p) <ℤ pos 0 → OnTheRight l p)
-unfolding OnTheRight
-right-is l p =
-    let first = multiplied (across (l .e .east) (l .s .east)) (across (p .north) (l .s .north)) in
-    let second = multiplied (across (l .e .north) (l .s .north)) (across (p .east) (l .s .east)) in
-    let b = below-zero (crossProduct (signedOf (l .s)) (signedOf (l .e)) (signedOf p)) _ _ (subtracted first second .is) in
-    (λ h. b .1 (omega arith), λ h. let k = b .0 h in omega arith)
 
 -- a difference is one integer
 one-difference : (y z : ℤ) (a b : ℕ) → IsLess y a b → IsLess z a b → y ≡ z
@@ -97,6 +86,34 @@ one-difference (pos m) (pos n) a b h k = ap pos (omega arith)
 one-difference (pos m) (negsuc n) a b h k = absurd (omega arith)
 one-difference (negsuc m) (pos n) a b h k = absurd (omega arith)
 one-difference (negsuc m) (negsuc n) a b h k = ap negsuc (omega arith)
+
+whole : (x : ℕ) → Difference (pos x) x 0
+whole x = record { is = omega arith }
+
+-- the difference of two natural numbers as integers
+written : (x y : ℕ) → Difference (pos x -ℤ pos y) (x + 0) (0 + y)
+written x y = subtracted (whole x) (whole y)
+
+-- THE CROSS PRODUCT multiplied out is the difference of the two sides
+pub cross-is : (l : Leg) (p : Position)
+    → crossProduct (signedOf (l .s)) (signedOf (l .e)) (signedOf p) ≡ pos (crossPlus l p) -ℤ pos (crossMinus l p)
+cross-is l p =
+    let first = multiplied (across (l .e .east) (l .s .east)) (across (p .north) (l .s .north)) in
+    let second = multiplied (across (l .e .north) (l .s .north)) (across (p .east) (l .s .east)) in
+    let z = crossProduct (signedOf (l .s)) (signedOf (l .e)) (signedOf p) in
+    one-difference z _ (crossPlus l p + 0) (0 + crossMinus l p)
+    (same z _ _ _ _ (subtracted first second .is) (omega arith)) (written (crossPlus l p) (crossMinus l p) .is)
+
+-- RIGHT OF THE LEG exactly where the cross product "is below zero"
+pub right-by-cross : (l : Leg) (p : Position)
+    → (OnTheRight l p → crossProduct (signedOf (l .s)) (signedOf (l .e)) (signedOf p) <ℤ pos 0)
+    × (crossProduct (signedOf (l .s)) (signedOf (l .e)) (signedOf p) <ℤ pos 0 → OnTheRight l p)
+unfolding OnTheRight
+right-by-cross l p =
+    let b = below-zero (pos (crossPlus l p) -ℤ pos (crossMinus l p)) _ _ (written (crossPlus l p) (crossMinus l p) .is) in (
+      λ h. subst⁻¹ (λ (z : ℤ). z <ℤ pos 0) (cross-is l p) (b .1 (omega arith)),
+      λ h. let k = b .0 (subst (λ (z : ℤ). z <ℤ pos 0) (cross-is l p) h) in omega arith,
+    )
 
 -- a coordinate on the grid is the signed number that its word stands for
 word-is : (w : ℕ) → w < 65536 → fromWord w ≤ gridWidth → IsLess (toZ w16 w) (fromWord w) halfWidth
@@ -121,6 +138,6 @@ unfolding OnTheRight
 no-length p q h = omega arith
 
 -- what is on the right is not on the right of the leg turned round
-pub turned-round : (l : Leg) (p : Position) → OnTheRight l p → OnTheRight (turned l) p → ⊥
+pub turned-round : (l : Leg) (p : Position) → OnTheRight l p → OnTheRight (wayBack l) p → ⊥
 unfolding OnTheRight
 turned-round l p h k = omega arith

@@ -46,5 +46,5 @@ abbrev pub signedWords : ℕ → ℕ → Signed
 signedWords e n = record { east = toZ w16 e; north = toZ w16 n }
 
 -- the leg turned round
-abbrev pub turned : Leg → Leg
-turned l = record { s = l .e; e = l .s }
+abbrev pub wayBack : Leg → Leg
+wayBack l = record { s = l .e; e = l .s }

@@ -1,19 +1,17 @@
 -- What C-11 of document 02 changed: nothing but which of the sites that tie along the whole leg is named.
 -- Assumes nothing.
-use mathlib.Core.Path.{_≡_, refl, sym, ap, _∙_}
+use mathlib.Core.Path.{_≡_, refl, sym, _∙_}
 use mathlib.Core.List.{List, [], _∷_, List·Memᴰ, List·Memᴰ·head, List·Memᴰ·tail}
-use Prim.Native.Nat.{ℕ, _+_, _*_, _-_, _≤_, _<_}
+use Prim.Native.Nat.{_-_, _≤_}
 use native.Mathlib.Decide.{decLe}
 use native.Mathlib.Omega.{arith}
 use Rattle.grid.specs.declared.Fraction.{Fraction}
 use Rattle.grid.specs.declared.Site.{Site}
 use Rattle.grid.specs.declared.Leg.{Leg}
 use Rattle.grid.specs.Position.{distance}
-use Rattle.grid.specs.Fraction.{lowest}
 use Rattle.split.specs.SplitList.{Entry}
-use Rattle.split.specs.Ties.{TieAlong}
-use Rattle.split.specs.Hull.{Point, pointOf, points, RightBelow, In, Under, Convex, IsHull}
-use Rattle.split.specs.SplitOf.{Hides, hides?, under?, push, insert, build, changeover, entriesAfter, entriesAlong, onto, entriesOf, splitOf}
+use Rattle.split.specs.Hull.{Point, pointOf, points, RightBelow, In, Under, Convex}
+use Rattle.split.specs.SplitOf.{Hides, hides?, under?, push, insert, build, entriesAfter, entriesAlong, onto, splitOf}
 use Rattle.split.specs.ByNumber.{numberPoints, splitByNumber, SameStretch, SameStretches, NoTie}
 use Rattle.split.specs.Choice.{pick}
 use Rattle.split.proofs.HullLaws.{under-step}
@@ -143,9 +141,9 @@ module _ (l : Leg) where
   onto-twins s (u ∷ h) (v ∷ r) j k t e = onto-twins s h r (u ∷ j) (v ∷ k) (t .1) (t .0, e)
 
   -- two points at one place name sites that tie
-  stretch : (s : List Site) (u v : Point) → Twin l s u v → (f g : Fraction) → f ≡ g
+  same-stretch : (s : List Site) (u v : Point) → Twin l s u v → (f g : Fraction) → f ≡ g
       → SameStretch l s (record { site = u .site; start = f }) (record { site = v .site; start = g })
-  stretch s u v t f g e =
+  same-stretch s u v t f g e =
       record {
         start = e;
         held = (t .left .held, t .right .held);
@@ -155,11 +153,11 @@ module _ (l : Leg) where
   after-twins : (s : List Site) (u v : Point) (h r : List Point) → Twin l s u v → Twins l s h r → SameStretches l s (entriesAfter u h) (entriesAfter v r)
   after-twins s u v [] [] t e = tt
   after-twins s u v (w ∷ h) (z ∷ r) t e =
-      (stretch s w z (e .0) _ _ (rw (t .a, t .c, e .0 .a, e .0 .c) refl), after-twins s w z h r (e .0) (e .1))
+      (same-stretch s w z (e .0) _ _ (rw (t .a, t .c, e .0 .a, e .0 .c) refl), after-twins s w z h r (e .0) (e .1))
 
   along-twins : (s : List Site) (h r : List Point) → Twins l s h r → SameStretches l s (entriesAlong h) (entriesAlong r)
   along-twins s [] [] t = tt
-  along-twins s (u ∷ h) (v ∷ r) t = (stretch s u v (t .0) _ _ refl, after-twins s u v h r (t .0) (t .1))
+  along-twins s (u ∷ h) (v ∷ r) t = (same-stretch s u v (t .0) _ _ refl, after-twins s u v h r (t .0) (t .1))
 
   -- C-11 CHANGES NOTHING but which of the sites that tie along the whole leg is named
   pub ties-alone : (s : List Site) → SameStretches l s (splitOf l s) (splitByNumber l s)

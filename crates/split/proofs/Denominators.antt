@@ -14,7 +14,7 @@ use Rattle.grid.specs.Fraction.{IsFraction, Below, Reduced}
 use Rattle.grid.specs.Position.{LegOnGrid, distance}
 use Rattle.grid.proofs.Order.{cancel-eq, Common, common, mid, mid-fraction}
 use Rattle.split.specs.Hull.{weigh}
-use Rattle.split.specs.SplitList.{distanceAt, Leads, Entry, endOf, Stretches, IsSplitList, Numbered, SitesOnGrid}
+use Rattle.split.specs.SplitList.{Leads, Entry, endOf, Stretches, IsSplitList, Numbered, SitesOnGrid}
 use Rattle.split.specs.Bounds.{Bounded}
 use Rattle.split.proofs.Bounds.{on-grid-bounded}
 use Rattle.split.proofs.Closed.{closed}

@@ -104,6 +104,33 @@ short : (m n : ℕ) (v : Point) (r : List Point) → n * fallTo v r < riseTo v r
 short m n v [] h = tt
 short m n v (w ∷ r) h = omega arith
 
+positive-rise : (r : List Point) (v : Point) (k : List Point) → Convex (onto r (v ∷ k)) → 0 < riseOn v k + riseTo v r
+positive-rise [] v k h = omega arith
+positive-rise (w ∷ r) v k h = omega (arith, under-step k (convex-prefix r (w ∷ v ∷ k) h .0) .right)
+
+-- of the points at its place, a vertex has the least order
+pub vertex-first : {Q : List Point} (r : List Point) (v : Point) (k : List Point) → IsHull Q (onto r (v ∷ k))
+    → (q : Point) → In q Q → v .a ≡ q .a → v .c ≡ q .c → v .order ≤ q .order
+vertex-first {Q} r v k h q i a c = go (b .first q i)
+  where
+    m : ℕ
+    m = fallOn v k + fallTo v r
+
+    n : ℕ
+    n = riseOn v k + riseTo v r
+
+    cv : Convex (v ∷ k)
+    cv = convex-prefix r (v ∷ k) (h .convex)
+
+    b : Best m n v Q
+    b = stretch-best m n (omega (arith, start-falls v k cv)) (positive-rise r v k (h .convex)) r v k h
+        (short m n v r (omega (arith, rises r v k (h .convex))))
+        (past m n v k (omega (arith, rises r v k (h .convex))))
+
+    go : Precedes m n v q → v .order ≤ q .order
+    go (inl l) = absurd (omega (arith, l, ap (λ (x : ℕ). m * x) a, ap (λ (x : ℕ). n * x) c))
+    go (inr e) = e .1
+
 positive-left : (a b c d : ℕ) → a * b < c * d → 0 < c
 positive-left a b zero d h = absurd (omega arith)
 positive-left a b (suc c) d h = omega arith

@@ -37,7 +37,7 @@ hidden u x h k m n pm pn =
       then-order = λ e f. k .1 f (le-of-mul-le-mul-left {k = m} (omega (arith, mul-le-mul-left n (k .0))) pm);
     }
 
--- Of two points at one height, neither hidden by u: x is at u's place, with the lower id.
+-- Of two points at one height, neither hidden by u: x is at u's place, with the lower order.
 pub same-place : (u x : Point) → ¬ Hides u x → u .c ≤ x .c → (x .c ≤ u .c) × (x .a ≤ u .a) × (x .order < u .order)
 same-place u x h k = (
   by-dec (decLe (x .c) (u .c)) (λ g. h (k, λ e f. absurd (g e))),

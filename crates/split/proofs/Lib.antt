@@ -23,3 +23,4 @@ pub mod Dealing
 pub mod Starred
 pub mod Moved
 pub mod ByNumber
+pub mod Lowest

@@ -18,11 +18,11 @@ module _ (l : Leg) (p q : Site) (hp : p .number ≤ maxNumber) (hq : q .number �
     where
       go : (d : Dec (OnTheRight l (p .position))) (f : Dec (OnTheRight l (q .position)))
           → (rankBy d (p .number) ≤ rankBy f (q .number) → ComesFirst l p q) × (ComesFirst l p q → rankBy d (p .number) ≤ rankBy f (q .number))
-      go (yes a) (yes b) = (λ h. record { right = λ _. a; lower = λ _. omega arith }, λ c. omega (arith, c .lower (λ _. b)))
-      go (yes a) (no b) = (λ h. record { right = λ _. a; lower = λ k. absurd (b (k a)) }, λ c. omega arith)
-      go (no a) (yes b) = (λ h. absurd (omega arith), λ c. absurd (a (c .right b)))
+      go (yes a) (yes b) = (λ h. record { side = λ _. a; number = λ _. omega arith }, λ c. omega (arith, c .number (λ _. b)))
+      go (yes a) (no b) = (λ h. record { side = λ _. a; number = λ k. absurd (b (k a)) }, λ c. omega arith)
+      go (no a) (yes b) = (λ h. absurd (omega arith), λ c. absurd (a (c .side b)))
       go (no a) (no b) =
-          (λ h. record { right = λ k. absurd (b k); lower = λ _. omega arith }, λ c. omega (arith, c .lower (λ k. absurd (a k))))
+          (λ h. record { side = λ k. absurd (b k); number = λ _. omega arith }, λ c. omega (arith, c .number (λ k. absurd (a k))))
 
   -- a rank is that of one number
   pub rank-number : rank l p ≡ rank l q → p .number ≡ q .number

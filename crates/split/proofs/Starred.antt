@@ -23,9 +23,9 @@ unfolding splitOf build insert push hides? under? rightBelow? decLe decLt distan
 starred = refl
 
 -- TIES ALONG THE WHOLE LEG
-pub tied : computed tiedLegs ≡ listed tiedLegs
+pub tied-legs : computed tiedLegs ≡ listed tiedLegs
 unfolding splitOf build insert push hides? under? rightBelow? decLe decLt distance squaredDifference rank onTheRight? lowest gcdOf gcdBy
-tied = refl
+tied-legs = refl
 
 -- two sites
 module _ (p q : Site) where

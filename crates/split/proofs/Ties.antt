@@ -1,7 +1,7 @@
 -- Of the sites that tie along the whole leg, a list names the first by the tie rule of document 02, C-11.
 -- Assumes nothing.
 use mathlib.Core.Path.{_≡_, subst⁻¹}
-use mathlib.Core.List.{List, [], _∷_, List·Memᴰ, List·Memᴰ·head, List·Memᴰ·tail}
+use mathlib.Core.List.{List, _∷_, List·Memᴰ, List·Memᴰ·head, List·Memᴰ·tail}
 use Prim.Native.Nat.{_-_, _<_}
 use native.Mathlib.Omega.{arith}
 use Rattle.grid.specs.declared.Fraction.{Fraction}

@@ -2,7 +2,7 @@
 -- Assumes nothing.
 use mathlib.Core.Path.{_≡_, refl, ap, sym, subst, _∙_}
 use mathlib.Core.List.{List, [], _∷_, List·Memᴰ, List·Memᴰ·head, List·Memᴰ·not-nil}
-use Prim.Native.Nat.{_*_, _≤_, _<_}
+use Prim.Native.Nat.{_*_, _<_}
 use native.Mathlib.Decide.{decLt}
 use native.Mathlib.Omega.{arith}
 use Rattle.grid.specs.declared.Fraction.{Fraction}
@@ -10,7 +10,7 @@ use Rattle.grid.specs.declared.Leg.{Leg}
 use Rattle.grid.specs.declared.Site.{Site}
 use Rattle.grid.specs.Fraction.{IsFraction, Below}
 use Rattle.grid.proofs.Order.{same-fraction, below-trans, Shared, overlap}
-use Rattle.split.specs.SplitList.{distanceAt, rank, Leads, Entry, endOf, Stretches, Opens, IsSplitList, Numbered, SameSites}
+use Rattle.split.specs.SplitList.{distanceAt, Leads, Entry, endOf, Stretches, Opens, IsSplitList, Numbered, SameSites}
 use Rattle.split.proofs.Ranks.{rank-number}
 
 -- the order of the sites does not matter

@@ -2,27 +2,30 @@
 -- 02: it says what that request changed and what it left. All but what decides a tie is as in SplitOf.antt.
 -- Assumes nothing.
 use mathlib.Core.Path.{_≡_}
-use mathlib.Core.List.{List, [], _∷_, List·Memᴰ}
+use mathlib.Core.List.{List, [], _∷_, map, List·Memᴰ}
+use Prim.Native.Nat.{_≤_}
 use Rattle.grid.specs.declared.Site.{Site}
 use Rattle.grid.specs.declared.Leg.{Leg}
-use Rattle.grid.specs.Position.{distance}
 use Rattle.split.specs.SplitList.{Entry}
-use Rattle.split.specs.Ties.{TieAlong}
-use Rattle.split.specs.Hull.{Point}
+use Rattle.split.specs.Ties.{TieAlong, FirstBy}
+use Rattle.split.specs.Hull.{Point, pointWith}
 use Rattle.split.specs.SplitOf.{build, entriesOf}
 
 -- a site as a point, where the number decides a tie
 abbrev pub numberPoint : Leg → Site → Point
-numberPoint l p = record { a = distance (p .position) (l .s); c = distance (p .position) (l .e); order = p .number; site = p }
+numberPoint l p = pointWith l (p .number) p
 
 -- sites as such points
 abbrev pub numberPoints : Leg → List Site → List Point
-numberPoints l [] = []
-numberPoints l (p ∷ s) = numberPoint l p ∷ numberPoints l s
+numberPoints l s = map (numberPoint l) s
 
 -- THE SPLIT LIST BEFORE C-11, computed
 unfoldable pub splitByNumber : Leg → List Site → List Entry
 splitByNumber l s = entriesOf (build (numberPoints l s))
+
+-- "the least-numbered": of the sites that tie with it along the whole leg, each entry's site has the lowest number
+abbrev pub LowestOfTies : Leg → List Site → List Entry → Type 0
+LowestOfTies l s es = FirstBy (λ p q. p .number ≤ q .number) l s es
 
 -- two entries that differ by the tie rule alone: they start together, and name sites that tie along the whole leg
 pub record SameStretch (l : Leg) (s : List Site) (e f : Entry) : Type 0 where

@@ -18,9 +18,13 @@ pub record Point : Type 0 where
   pub order : ℕ
   pub site : Site
 
+-- a site as a point, where k decides a tie
+abbrev pub pointWith : Leg → ℕ → Site → Point
+pointWith l k p = record { a = distance (p .position) (l .s); c = distance (p .position) (l .e); order = k; site = p }
+
 -- a site as a point
 abbrev pub pointOf : Leg → Site → Point
-pointOf l p = record { a = distance (p .position) (l .s); c = distance (p .position) (l .e); order = rank l p; site = p }
+pointOf l p = pointWith l (rank l p) p
 
 -- sites as points
 abbrev pub points : Leg → List Site → List Point

@@ -7,7 +7,7 @@ use Rattle.limits.specs.Limits.{halfWidth}
 use Rattle.grid.specs.declared.Position.{Position}
 use Rattle.grid.specs.declared.Site.{Site}
 use Rattle.grid.specs.declared.Leg.{Leg}
-use Rattle.grid.specs.Side.{turned}
+use Rattle.grid.specs.Side.{wayBack}
 use Rattle.split.specs.SplitList.{Entry}
 use Rattle.split.specs.SplitOf.{splitOf}
 
@@ -97,7 +97,7 @@ legs =
 -- side; a leg of no length, where nothing is on the right
 abbrev pub tiedLegs : List Try
 tiedLegs =
-    try (turned ten) (site 2 (at 3 4) ∷ site 5 (atSouth 3 4) ∷ []) (since (site 2 (at 3 4)) 0 1 ∷ [])
+    try (wayBack ten) (site 2 (at 3 4) ∷ site 5 (atSouth 3 4) ∷ []) (since (site 2 (at 3 4)) 0 1 ∷ [])
     ∷ try ten (site 5 (atSouth 3 4) ∷ site 2 (atSouth 3 4) ∷ []) (since (site 2 (atSouth 3 4)) 0 1 ∷ [])
     ∷ try ten (site 5 (at 3 4) ∷ site 2 (at 3 4) ∷ []) (since (site 2 (at 3 4)) 0 1 ∷ [])
     ∷ try ten (site 5 (at 3 0) ∷ site 2 (at 3 0) ∷ []) (since (site 2 (at 3 0)) 0 1 ∷ [])

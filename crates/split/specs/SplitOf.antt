@@ -1,5 +1,5 @@
 -- The split list of a leg, computed: every site is inserted into the empty hull, then the starts are attached.
--- That it is document 01's list, and the only one, is proved in proofs/Exists.antt.
+-- That it follows the rules of SplitList.antt, as only one list does, is proved in proofs/Exists.antt.
 -- Assumes nothing.
 use mathlib.Core.List.{List, [], _∷_}
 use Prim.Native.Nat.{_+_, _*_, _≤_, _<_}

@@ -18,11 +18,15 @@ TieAlong l p q = (t : Fraction) → IsFraction t → distanceAt l t p ≡ distan
 -- p comes before q, or has the same number and side
 pub record ComesFirst (l : Leg) (p q : Site) : Type 0 where
   -- "one on the right now comes before others"
-  pub right : OnTheRight l (q .position) → OnTheRight l (p .position)
+  pub side : OnTheRight l (q .position) → OnTheRight l (p .position)
   -- "then the lower number": of two on the right, and of two that are not
-  pub lower : (OnTheRight l (p .position) → OnTheRight l (q .position)) → p .number ≤ q .number
+  pub number : (OnTheRight l (p .position) → OnTheRight l (q .position)) → p .number ≤ q .number
 
--- of the sites that tie with it along the whole leg, each entry's site comes first
+-- of the sites that tie with it along the whole leg, each entry's site is the first by R
+abbrev pub FirstBy : (Site → Site → Type 0) → Leg → List Site → List Entry → Type 0
+FirstBy R l s es =
+    (e : Entry) → List·Memᴰ e es → (q : Site) → List·Memᴰ q s → TieAlong l (e .site) q → R (e .site) q
+
+-- and by document 02's rule
 abbrev pub FirstOfTies : Leg → List Site → List Entry → Type 0
-FirstOfTies l s es =
-    (e : Entry) → List·Memᴰ e es → (q : Site) → List·Memᴰ q s → TieAlong l (e .site) q → ComesFirst l (e .site) q
+FirstOfTies l s es = FirstBy (ComesFirst l) l s es
