@@ -8,6 +8,8 @@ use reference::book::Book;
 use reference::command::Command;
 use reference::record::Record;
 use reference::ties::{number_alone, renamed};
+use service::bytes::listed;
+use service::damage::aged;
 use std::path::Path;
 
 /// What the stops-text of a release left: a table that it began empty and saved after some 700
@@ -122,13 +124,6 @@ fn a_table_whose_list_the_right_hand_rule_changes_is_carried_over() {
     assert_eq!(file_mode("--dump", &new).err, "");
 }
 
-/// The numbers of the standing list.
-fn listed(table: &[u8]) -> Vec<u16> {
-    let word = |at: usize| u16::from_le_bytes([table[at], table[at + 1]]);
-    let entries = usize::from(word(12));
-    (0..entries).map(|i| word(4_160 + 2 * i)).collect()
-}
-
 /// `4,160`
 fn grouped(number: usize) -> String {
     match (number / 1_000, number % 1_000) {
@@ -196,7 +191,7 @@ fn lists_in_earlier_layouts_are_by_number() {
     let lines = "add 2 3 4\nadd 5 3 -4\nstand 0 0 10 0\n";
     assert_eq!(on(&new, &["--create"], lines).code, 0);
     for number in [0, 1] {
-        let mut bytes = aged(&new, number);
+        let mut bytes = aged(&std::fs::read(&new).unwrap(), number);
         assert_eq!(listed(&bytes), [5]);
         std::fs::write(&old, &bytes).unwrap();
         let dump = file_mode("--dump", &old);
@@ -247,32 +242,6 @@ sites that can still be read: {}
     }
 }
 
-/// The table in an earlier layout: coordinates counted from the corner at -8,000.
-fn aged(file: &Path, number: u16) -> Vec<u8> {
-    let mut table = std::fs::read(file).unwrap();
-    let mut less = |at: usize| {
-        let word = u16::from_le_bytes([table[at], table[at + 1]]);
-        let counted = word.checked_sub(4_000).expect("on the earlier grid");
-        table[at..at + 2].copy_from_slice(&counted.to_le_bytes());
-    };
-    let words =
-        |bytes: &[u8], at: usize| usize::from(u16::from_le_bytes([bytes[at], bytes[at + 1]]));
-    let whole = std::fs::read(file).unwrap();
-    let (held, leg) = (words(&whole, 0), words(&whole, 2));
-    (0..held).for_each(|k| [66, 68].into_iter().for_each(|at| less(at + 8 * k)));
-    (0..leg).for_each(|_| (4..12).step_by(2).for_each(&mut less));
-    for node in 0..264 {
-        let at = 6_896 + 98 * node;
-        for entry in 0..words(&whole, at) {
-            (4..12)
-                .step_by(2)
-                .for_each(|edge| less(at + 12 * entry + edge));
-        }
-    }
-    table[14..16].copy_from_slice(&number.to_le_bytes());
-    table
-}
-
 /// With a site on the edge of the earlier grid, without a leg, and empty; layouts 0 and 1.
 #[test]
 fn tables_of_every_kind_are_carried_over() {
@@ -290,8 +259,9 @@ fn tables_of_every_kind_are_carried_over() {
     ] {
         let (new, old) = (table("new kind"), table("old kind"));
         assert_eq!(on(&new, &["--create"], lines).code, 0);
+        let bytes = std::fs::read(&new).unwrap();
         for number in [0, 1] {
-            std::fs::write(&old, aged(&new, number)).unwrap();
+            std::fs::write(&old, aged(&bytes, number)).unwrap();
             assert_eq!(on(&old, &[], "").code, 5);
             let dump = file_mode("--dump", &old);
             assert_eq!((dump.code, dump.text()), (0, lines));
@@ -313,7 +283,8 @@ fn positions_off_the_earlier_grid_are_not_dumped() {
     ] {
         let (new, old) = (table("new far"), table("old far"));
         assert_eq!(on(&new, &["--create"], lines).code, 0);
-        std::fs::write(&old, aged(&new, 1)).unwrap();
+        let bytes = std::fs::read(&new).unwrap();
+        std::fs::write(&old, aged(&bytes, 1)).unwrap();
         let dump = file_mode("--dump", &old);
         assert_eq!((dump.code, dump.text()), (5, ""), "{lines}");
         let told = file_mode("--check", &old);

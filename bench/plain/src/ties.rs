@@ -2,15 +2,10 @@
 //! compared on these before.
 
 use reference::grid::MOST_SITES;
-use reference::layout::{Case, Layout, case};
+use reference::layout::{Case, MIRRORED, case};
 use reference::random::Random;
 use reference::ties::way_back;
 
-const LAYOUTS: [Layout; 3] = [
-    Layout::Mirrored,
-    Layout::MirroredCrowd,
-    Layout::MirroredWide,
-];
 /// Of each layout.
 const CASES: usize = 20;
 
@@ -22,6 +17,6 @@ pub fn cases() -> Vec<Case> {
         let (leg, sites) = (way_back(&there.leg), there.sites.clone());
         [there, Case { leg, sites }]
     };
-    let layouts = LAYOUTS.repeat(CASES);
+    let layouts = MIRRORED.repeat(CASES);
     layouts.into_iter().flat_map(&mut there_and_back).collect()
 }

@@ -43,6 +43,13 @@ pub const LAYOUTS: [Layout; 10] = [
     Layout::Wide,
 ];
 
+/// Those whose sites are mirror images across the leg.
+pub const MIRRORED: [Layout; 3] = [
+    Layout::Mirrored,
+    Layout::MirroredCrowd,
+    Layout::MirroredWide,
+];
+
 #[derive(Clone, Debug)]
 pub struct Case {
     pub leg: Leg,

@@ -1,9 +1,9 @@
 //! Tables that nobody vouches for: what the checker says of them, the service has to say.
 
 use crate::bytes::{
-    ENTRIES_LISTED, ENTRY_LEN, FREE_NODES, LEVELS, MOST_NODES, RECORD_LEN, ROOT, SITE_ARRAY,
-    SITES_HELD, STACK, STANDING_LIST, entry_at, free_at, leg, listed, listed_at, node_at, number,
-    put_word, sites,
+    EARLIER_HALF_WIDTH, ENTRIES_LISTED, ENTRY_LEN, FREE_NODES, HALF_WIDTH, LAYOUT, LEG_FLAG,
+    LEG_WORDS, LEVELS, MOST_NODES, RECORD_LEN, ROOT, SITE_ARRAY, SITES_HELD, STACK, STANDING_LIST,
+    entry_at, free_at, leg, listed, listed_at, node_at, number, put_word, record_at, sites, word,
 };
 use crate::desk::{Desk, Lent};
 use crate::table::{Rule, meaning};
@@ -122,4 +122,22 @@ pub fn stored_by(rule: TieRule, table: &[u8]) -> Vec<u8> {
         put_word(&mut other, listed_at(i), first(&leg, &sites, number, rule));
     }
     other
+}
+
+/// The table in an earlier layout: coordinates are counted from the corner of a smaller grid. A
+/// position that this does not have is off it there, too.
+pub fn aged(table: &[u8], layout: u16) -> Vec<u8> {
+    let sites = 0..number(table, SITES_HELD);
+    let sites = sites.flat_map(|k| [2, 4].map(|offset| record_at(k) + offset));
+    let leg = LEG_WORDS.into_iter().filter(|_| word(table, LEG_FLAG) == 1);
+    let entries = |node| (0..number(table, node_at(node))).map(move |i| entry_at(node, i));
+    let entries = nodes(table).into_iter().flat_map(entries);
+    let edges = entries.flat_map(|at| [2, 4, 6, 8].map(|offset| at + offset));
+    let mut aged = table.to_vec();
+    for at in sites.chain(leg).chain(edges) {
+        let counted = word(table, at).wrapping_sub(HALF_WIDTH - EARLIER_HALF_WIDTH);
+        put_word(&mut aged, at, counted);
+    }
+    put_word(&mut aged, LAYOUT, layout);
+    aged
 }

@@ -4,13 +4,14 @@
 //! what stands in each lent buffer afterwards.
 
 use crate::bytes::empty_table;
+use crate::damage::stored_by;
 use crate::table::{Meaning, meaning};
 use crate::{Answer, Service};
 use reference::book::{ALL_USED, Book, Reply, WRONG_LENGTH};
 use reference::command::{Command, LIST, PRINT};
-use reference::grid::{Leg, MOST_SITES, TABLE_LEN, WORK_LEN};
+use reference::grid::{MOST_SITES, TABLE_LEN, WORK_LEN};
 use reference::record::{ENTRY_LEN, Record};
-use reference::ties::{first, number_alone};
+use reference::ties::number_alone;
 use std::collections::BTreeMap;
 
 /// The bytes of the longest record, a list of 512 entries.
@@ -116,26 +117,19 @@ impl<'s, S: Service> Desk<'s, S> {
             Ok(meaning) => {
                 let Meaning {
                     book,
-                    listed,
                     levels,
                     nodes,
+                    ..
                 } = meaning;
                 assert!(book == self.book, "the table holds {book:?}");
                 self.tally.checked += 1;
-                self.tally.sided += usize::from(side_decides(&book, &listed));
+                let by_number = stored_by(number_alone, &self.table);
+                self.tally.sided += usize::from(by_number != self.table);
                 self.tally.most_levels = self.tally.most_levels.max(levels);
                 self.tally.most_nodes = self.tally.most_nodes.max(nodes);
             }
         }
     }
-}
-
-/// Whether numbers alone would give another standing list.
-fn side_decides(book: &Book, listed: &[u16]) -> bool {
-    let sites = book.sites();
-    let others = |leg: &Leg, number: u16| first(leg, &sites, number, number_alone) != number;
-    let leg = book.leg.as_ref();
-    leg.is_some_and(|leg| listed.iter().any(|number| others(leg, *number)))
 }
 
 impl Tally {

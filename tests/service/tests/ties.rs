@@ -4,7 +4,7 @@
 use reference::book::Book;
 use reference::command::{add, list, move_site, print, remove, stand};
 use reference::grid::{Leg, Position, Site};
-use reference::layout::{Case, Layout, case};
+use reference::layout::{Case, MIRRORED, case};
 use reference::random::Random;
 use reference::record::Record::{self, Accepted, List};
 use reference::split::Entry;
@@ -25,11 +25,6 @@ const RIGHT: Site = Site::new(5, 3, -4);
 const STANDING_LEGS: usize = 400;
 const CHANGES: usize = 40;
 const STORED_LISTS: usize = 3_000;
-const MIRRORED: [Layout; 3] = [
-    Layout::Mirrored,
-    Layout::MirroredCrowd,
-    Layout::MirroredWide,
-];
 
 on_each_service!(
     ties_to_try,

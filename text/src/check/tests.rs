@@ -7,17 +7,17 @@ use crate::lists::stands;
 use crate::service::Service;
 use binding::layout::{
     EARLIER_HALF_WIDTH, ENTRIES_LISTED, FREE_NODES, HALF_WIDTH, HEADER_KEPT, LAYOUT, LAYOUT_NUMBER,
-    LEG_FLAG, LEG_WORDS, LEVELS, MOST_LEVELS, ROOT, SITES_HELD, STACK_END, TABLE_LEN, entry_at,
-    free_at, is_earlier, listed_at, node_at, number, put_number, put_word, record_at, word,
+    LEG_FLAG, LEVELS, MOST_LEVELS, ROOT, SITES_HELD, STACK_END, TABLE_LEN, entry_at, free_at,
+    is_earlier, listed_at, node_at, number, put_number, put_word, record_at, word,
 };
 use reference::book::Book;
 use reference::command::{add, stand};
-use reference::grid::{Leg, MOST_SITES, Site};
+use reference::grid::{Leg, MOST_SITES, Position, Site};
 use reference::hull;
 use reference::random::Random;
 use reference::ties::{number_alone, renamed};
 use service::bytes;
-use service::damage::{flipped, nodes, regions, stored_by};
+use service::damage::{aged, flipped, regions, stored_by};
 use service::draw::Pool;
 use service::shape::{self, Dealing};
 use service::table::{Rule, broken_rules, meaning};
@@ -218,24 +218,17 @@ fn a_flipped_bit_in_tables_with_an_earlier_list() {
     assert!(refused > 4_000 && taken > 10, "{refused} {taken}");
 }
 
-/// The table in an earlier layout; none where that grid does not have all of it.
-fn aged(table: &[u8], layout: u16) -> Option<Vec<u8>> {
-    let sites = 0..number(table, SITES_HELD);
-    let sites = sites.flat_map(|k| [2, 4].map(|offset| record_at(k) + offset));
-    let leg = LEG_WORDS.into_iter().filter(|_| word(table, LEG_FLAG) == 1);
-    let entries = |node| (0..number(table, node_at(node))).map(move |i| entry_at(node, i));
-    let entries = nodes(table).into_iter().flat_map(entries);
-    let edges = entries.flat_map(|at| [2, 4, 6, 8].map(|offset| at + offset));
-    let mut aged = table.to_vec();
-    for at in sites.chain(leg).chain(edges) {
-        let counted = word(table, at).checked_sub(HALF_WIDTH - EARLIER_HALF_WIDTH)?;
-        if counted > 2 * EARLIER_HALF_WIDTH {
-            return None;
+/// A table that this release refuses for its list alone, with all of it on the earlier grid.
+fn listed_on_earlier_grid(random: &mut Random, count: usize) -> Vec<u8> {
+    let on_grid = |p: Position| p.east.abs().max(p.north.abs()) <= EARLIER_HALF_WIDTH.into();
+    loop {
+        let table = listed_before(random, count);
+        let leg = bytes::leg(&table).expect("a list is that of a leg");
+        let sites = bytes::sites(&table).into_iter().map(|site| site.position);
+        if sites.chain([leg.s, leg.e]).all(on_grid) {
+            return table;
         }
-        put_word(&mut aged, at, counted);
     }
-    put_word(&mut aged, LAYOUT, layout);
-    Some(aged)
 }
 
 /// Whether a table of an earlier layout was sound there: --check and --dump say the same.
@@ -250,19 +243,15 @@ fn agreed_on_earlier(table: &[u8]) -> bool {
 #[test]
 fn earlier_layouts_have_lists_by_number() {
     let mut random = Random::new(208);
-    let mut tables = 0;
-    while tables < 60 {
+    for _ in 0..30 {
         let count = 2 + random.index(60);
-        let before = listed_before(&mut random, count);
+        let before = listed_on_earlier_grid(&mut random, count);
         let sound = renewed(&before).unwrap();
         for layout in 0..LAYOUT_NUMBER {
-            let (Some(before), Some(today)) = (aged(&before, layout), aged(&sound, layout)) else {
-                continue;
-            };
+            let (before, today) = (aged(&before, layout), aged(&sound, layout));
             assert!(agreed_on_earlier(&before) && !agreed_on_earlier(&today));
             assert_eq!(meaning(&renewed(&before).unwrap()), meaning(&sound));
             assert!(renewed(&today).unwrap() == today);
-            tables += 1;
         }
     }
 }
@@ -272,9 +261,7 @@ fn a_flipped_bit_in_earlier_layouts() {
     let mut random = Random::new(209);
     let (mut refused, mut taken) = (0, 0);
     for (layout, count) in [(0, 3), (1, 3), (0, 12), (1, 40)] {
-        let table = std::iter::repeat_with(|| listed_before(&mut random, count));
-        let table = table.filter_map(|table| aged(&table, layout)).next();
-        let table = table.unwrap();
+        let table = aged(&listed_on_earlier_grid(&mut random, count), layout);
         for region in regions(&table) {
             for at in region.bytes {
                 let bits = if region.name == "stack" { 1 } else { 4 };
