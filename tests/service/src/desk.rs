@@ -121,7 +121,11 @@ impl<'s, S: Service> Desk<'s, S> {
                     nodes,
                     ..
                 } = meaning;
-                assert!(book == self.book, "the table holds {book:?}");
+                let expected = &self.book;
+                assert!(
+                    book == *expected,
+                    "the table holds {book:?}, not {expected:?}"
+                );
                 self.tally.checked += 1;
                 let by_number = stored_by(number_alone, &self.table);
                 self.tally.sided += usize::from(by_number != self.table);

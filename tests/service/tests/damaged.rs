@@ -6,7 +6,7 @@ use reference::command::{add, list, print, remove, stand};
 use reference::grid::{Leg, MOST_SITES, Site, TABLE_LEN, WRONG_WORK};
 use reference::random::Random;
 use service::bytes::{
-    ENTRY_LEN, FREE_NODES, HALF_WIDTH, LEVELS, NODE_POOL, ROOT, SITE_ARRAY, STACK_END,
+    ENTRY_LEN, FREE_NODES, HALF_WIDTH, LEVELS, NODE_POOL, ROOT, SITE_ARRAY, SITES_HELD, STACK_END,
     STANDING_LIST, empty_table, entry_at, leaf_entry, node_at, number, put_number,
 };
 use service::damage::{assert_wrong_length_first, flipped, nodes, offer, regions};
@@ -20,7 +20,8 @@ use std::collections::BTreeMap;
 const SIZES: [usize; 17] = [
     0, 0, 1, 1, 2, 3, 3, 8, 9, 9, 17, 17, 40, 40, 100, 300, MOST_SITES,
 ];
-/// Up to this many sites all eight bits of a byte are flipped, above and on the stack one.
+/// Up to this many sites, and in every standing list, all eight bits of a byte are flipped; above
+/// and on the stack one.
 const FEW_SITES: usize = 9;
 const WORDS_CHANGED: usize = 6_000;
 const ENTRIES_SWAPPED: usize = 2_000;
@@ -55,6 +56,16 @@ fn sound_table(random: &mut Random, count: usize) -> (Vec<u8>, Pool) {
     (table, pool)
 }
 
+/// Nine sites in a row along the standing leg, all listed.
+fn row() -> Vec<u8> {
+    let mut book = Book::new();
+    for number in 1..=9 {
+        book.records(&[add(Site::new(number, 100 * i64::from(number), 3))]);
+    }
+    book.records(&[stand(Leg::new((0, 0), (1_000, 0)))]);
+    shape::table(&book, &mut Dealing::Even)
+}
+
 /// Commands that read all of the book and change it.
 fn questions(random: &mut Random, pool: &Pool) -> Vec<u8> {
     let mut commands = vec![list(pool.leg(random)), print(), list(pool.leg(random))];
@@ -64,14 +75,18 @@ fn questions(random: &mut Random, pool: &Pool) -> Vec<u8> {
 }
 
 fn one_flipped_bit_in_every_byte_that_counts(service: &impl Service) {
-    let mut random = Random::new(711);
+    let mut random = Random::new(71);
     let mut told: BTreeMap<&str, [usize; 2]> = BTreeMap::new();
-    for count in SIZES {
-        let (table, pool) = sound_table(&mut random, count);
+    let tables = SIZES.map(|count| sound_table(&mut random, count));
+    // Other lists may be short; this one and its leg have bits enough.
+    let row = (row(), Pool::new(&mut random, FEW_SITES));
+    for (table, pool) in tables.into_iter().chain([row]) {
+        let few = number(&table, SITES_HELD) <= FEW_SITES;
         for region in regions(&table) {
             let outcome = told.entry(region.name).or_default();
+            let all = region.name == "standing list" || few && region.name != "stack";
             for at in region.bytes {
-                let bits = if count <= FEW_SITES && region.name != "stack" {
+                let bits = if all {
                     (0..8).collect()
                 } else {
                     vec![random.index(8)]

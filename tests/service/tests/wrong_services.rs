@@ -19,13 +19,16 @@ use service::table::{Rule, broken_rules, meaning};
 use service::wrong::{Wrong, listing_by};
 use service::{Answer, BROKEN_TABLE, Model, Service};
 
+/// Of each size, so many that the rarest fault shows: the side by narrow products.
+const ROUNDS: usize = 200;
+
 /// A little of what the other tests do.
 fn trial(service: &impl Service) {
     for work_len in WRONG_WORK {
         assert_wrong_length_first(service, &empty_table(), work_len);
     }
-    let mut random = Random::new(113);
-    for size in [Size::Few, Size::Some].repeat(30) {
+    let mut random = Random::new(111);
+    for size in [Size::Few, Size::Some].repeat(ROUNDS) {
         let mut run = run(&mut random, service, size);
         compare_with_fresh(&mut random, &mut run);
         let table = run.desk.table;
@@ -62,8 +65,9 @@ fn accepts_additions_and_holds_none() {
     trial(&Wrong(|t, w, c, r| Model.batch(&mut t.to_vec(), w, c, r)));
 }
 
+/// What is written shows it, or the table where all the rest would be accepted.
 #[test]
-#[should_panic(expected = "is written, not")]
+#[should_panic(expected = ", not ")]
 fn carries_out_the_first_command_and_writes_2b_for_the_rest() {
     trial(&Wrong(|t, w, c, r| {
         let answer = Model.batch(&mut t.to_vec(), w, c, r);
@@ -74,8 +78,9 @@ fn carries_out_the_first_command_and_writes_2b_for_the_rest() {
     }));
 }
 
+/// Other bytes are written, or more or fewer of them.
 #[test]
-#[should_panic(expected = "is written, not")]
+#[should_panic(expected = "written")]
 fn prints_one_list_for_all_legs() {
     trial(&Wrong(|t, w, c, r| {
         let mut commands = c.to_vec();
