@@ -13,10 +13,10 @@ use binding::layout::{
 };
 
 /// The same sites, leg and tree as this release has them, for a table of an earlier one. It is sound
-/// exactly where the table was: one whose sites, leg or list was not is left, and so refused.
+/// exactly where the table is sound now or was in its release: one without a list of then is left.
 pub fn renewed(table: &[u8]) -> Result<Vec<u8>, Failure> {
     let mut renewed = table.to_vec();
-    if !check::has_list(table) {
+    if !check::is_readable(table) {
         return Ok(renewed);
     }
     let Lists { today, earlier } = Lists::of(table)?;

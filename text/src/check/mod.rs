@@ -36,11 +36,13 @@ pub fn faults(table: &[u8]) -> Result<Vec<Fault>, Failure> {
         return Ok(vec![Fault::whole(what)]);
     }
     let mut faults = header::faults(table);
-    faults.extend(sites::faults(table));
-    faults.extend(standing::leg_faults(table));
-    if has_list(table) {
-        faults.extend(standing::list_faults(table)?);
-    }
+    let unreadable = unreadable(table);
+    // A list is that of sites and a leg that can be read.
+    faults.extend(if unreadable.is_empty() {
+        standing::list_faults(table)?
+    } else {
+        unreadable
+    });
     let walk = tree::walk(table);
     faults.extend(pool::faults(table, &walk));
     faults.extend(leaves::faults(table, &walk));
@@ -48,11 +50,16 @@ pub fn faults(table: &[u8]) -> Result<Vec<Fault>, Failure> {
     Ok(faults)
 }
 
-/// Whether sites and leg can be read: a list is that of such.
-pub fn has_list(table: &[u8]) -> bool {
-    table.len() == TABLE_LEN
-        && sites::faults(table).is_empty()
-        && standing::leg_faults(table).is_empty()
+/// Whether sites and leg can be read.
+pub fn is_readable(table: &[u8]) -> bool {
+    table.len() == TABLE_LEN && unreadable(table).is_empty()
+}
+
+/// What speaks against sites and leg.
+fn unreadable(table: &[u8]) -> Vec<Fault> {
+    let mut faults = sites::faults(table);
+    faults.extend(standing::leg_faults(table));
+    faults
 }
 
 /// Tells what a table holds, or what is wrong with it and which sites can still be read.
