@@ -1,4 +1,4 @@
-//! A table as lines that make the same lists anew, in any table.
+//! A table as lines that make it anew, in any table.
 //!
 //! Document 01: the lists follow from the held sites and the standing leg alone, so these are all
 //! that has to be carried over; the tree's shape is not.
