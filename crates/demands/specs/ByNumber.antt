@@ -41,7 +41,8 @@ ListStays b = storedBefore b ≡ numbersOf (standingList b)
 
 -- 65, with table and report left and the work buffer all zero
 abbrev pub Refused65 : List ℕ → Call → List ℕ → Type 0
-Refused65 t c t′ = (c .result ≡ returns 65 0 0) × (t′ ≡ t) × (c .workAfter ≡ zeros workBytes) × (c .reportAfter ≡ c .report)
+Refused65 t c t′ =
+    (c .result ≡ returns 65 0 0) × (t′ ≡ t) × (c .workAfter ≡ zeros workBytes) × (c .reportAfter ≡ c .report)
 
 -- what becomes of such a table in a call with a work buffer of the right length
 pub record EarlierTable (t : List ℕ) (c : Call) (t′ : List ℕ) : Type 0 where

@@ -100,9 +100,9 @@ abbrev pub given : List Line → List (List ℕ)
 given [] = []
 given (x ∷ xs) = records (run (bytesOf (x .commands)) 1000 emptyBook .turns) ∷ given xs
 
--- the standing leg: printed with sites 1 and 2, when 2 is removed, and when 1 is removed too; with the two sites changed
--- over by moves; and with sites 2 and 5 that tie along the whole leg (C-11): 2 alone, with 5 on the right, with the leg
--- turned round, and when 2 is removed
+-- the standing leg: printed with sites 1 and 2, when 2 is removed, and when 1 is removed too; with the two sites
+-- changed over by moves; and with sites 2 and 5 that tie along the whole leg (C-11): 2 alone, with 5 on the right, with
+-- the leg turned round, and when 2 is removed
 abbrev pub standingLines : List Line
 standingLines =
     line
@@ -112,9 +112,10 @@ standingLines =
     (Stand ten ∷ Add 1 (at 2 3) ∷ Add 2 (at 7 1) ∷ Move 1 (at 7 1) ∷ Move 2 (at 2 3) ∷ Print ∷ [])
     (0x2B ∷ 0x2B ∷ 0x2B ∷ 0x2B ∷ 0x2B ∷ twoEntries (sinceBytes 2 0 1) (sinceBytes 1 37 100))
     ∷ line
-    (Stand ten ∷ Add 2 (at 3 4) ∷ Print ∷ Add 5 (atSouth 3 4) ∷ Print ∷ Stand (wayBack ten) ∷ Print ∷ Remove 2 ∷ Print ∷ [])
-    (0x2B ∷ 0x2B ∷ oneEntry (sinceBytes 2 0 1) ++ (0x2B ∷ oneEntry (sinceBytes 5 0 1)) ++ (0x2B ∷ oneEntry (sinceBytes 2 0 1))
-    ++ (0x2B ∷ oneEntry (sinceBytes 5 0 1)))
+    (Stand ten ∷ Add 2 (at 3 4) ∷ Print ∷ Add 5 (atSouth 3 4) ∷ Print
+    ∷ Stand (wayBack ten) ∷ Print ∷ Remove 2 ∷ Print ∷ [])
+    (0x2B ∷ 0x2B ∷ oneEntry (sinceBytes 2 0 1) ++ (0x2B ∷ oneEntry (sinceBytes 5 0 1))
+    ++ (0x2B ∷ oneEntry (sinceBytes 2 0 1)) ++ (0x2B ∷ oneEntry (sinceBytes 5 0 1)))
     ∷ []
 
 -- the fractions 0, 36/100, 37/100, 99/100 and 1

@@ -1,5 +1,5 @@
--- The right-hand side of a leg: the form in natural numbers has the sign of the cross product as document 02 writes
--- it, on the signed coordinates of commands.
+-- The right-hand side of a leg: the two sides of the form in natural numbers differ by the cross product as document 02
+-- writes it, on the signed coordinates of commands.
 -- Assumes nothing.
 use mathlib.Core.Path.{_≡_, ap, subst, subst⁻¹}
 use mathlib.Core.Bool.{Bool, true, false, cond, not}

@@ -1,6 +1,6 @@
 -- The right-hand side of a leg. Document 02, C-11: "Right means that (E.east - S.east) × (p.north - S.north) -
--- (E.north - S.north) × (p.east - S.east) is below zero." Here with natural numbers; proofs/CrossProduct.antt shows that it is
--- just that sign, on the signed coordinates of commands.
+-- (E.north - S.north) × (p.east - S.east) is below zero." Here with natural numbers, and as it is written there;
+-- proofs/CrossProduct.antt shows that the two are one, on the signed coordinates of commands.
 -- Assumes nothing.
 use Prim.Native.Nat.{ℕ, _+_, _*_, _<_}
 use native.Mathlib.Decide.{decLt}

@@ -1,5 +1,5 @@
--- The list by document 01's own tie rule, "the least-numbered of the nearest sites", which stood before C-11 of document
--- 02: it says what that request changed and what it left. All but what decides a tie is as in SplitOf.antt.
+-- The list by document 01's own tie rule, "the least-numbered of the nearest sites", which stood before C-11 of
+-- document 02: to say what that request changed and what it left. All but what decides a tie is as in SplitOf.antt.
 -- Assumes nothing.
 use mathlib.Core.Path.{_≡_}
 use mathlib.Core.List.{List, [], _∷_, map, List·Memᴰ}

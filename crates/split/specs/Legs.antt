@@ -102,10 +102,13 @@ tiedLegs =
     ∷ try ten (site 5 (at 3 4) ∷ site 2 (at 3 4) ∷ []) (since (site 2 (at 3 4)) 0 1 ∷ [])
     ∷ try ten (site 5 (at 3 0) ∷ site 2 (at 3 0) ∷ []) (since (site 2 (at 3 0)) 0 1 ∷ [])
     ∷ try ten (site 5 (at 12 0) ∷ site 2 (at 12 0) ∷ []) (since (site 2 (at 12 0)) 0 1 ∷ [])
-    ∷ try ten (site 1 (at 3 4) ∷ site 9 (atSouth 3 4) ∷ site 2 (at 3 4) ∷ site 7 (atSouth 3 4) ∷ []) (since (site 7 (atSouth 3 4)) 0 1 ∷ [])
+    ∷ try ten (site 1 (at 3 4) ∷ site 9 (atSouth 3 4) ∷ site 2 (at 3 4) ∷ site 7 (atSouth 3 4) ∷ [])
+    (since (site 7 (atSouth 3 4)) 0 1 ∷ [])
     ∷ try (leg (at 0 0) (at 4 2)) (site 2 (at 1 3) ∷ site 5 (atSouth 3 1) ∷ []) (since (site 5 (atSouth 3 1)) 0 1 ∷ [])
-    ∷ try ten (site 1 (at 2 3) ∷ site 2 (at 7 1) ∷ site 3 (atSouth 2 3) ∷ site 4 (atSouth 7 1) ∷ []) (since (site 3 (atSouth 2 3)) 0 1 ∷ since (site 4 (atSouth 7 1)) 37 100 ∷ [])
-    ∷ try (leg (at 4 4) (at 4 4)) (site 2 (at 4 5) ∷ site 1 (at 4 3) ∷ site 3 (at 5 4) ∷ []) (since (site 1 (at 4 3)) 0 1 ∷ [])
+    ∷ try ten (site 1 (at 2 3) ∷ site 2 (at 7 1) ∷ site 3 (atSouth 2 3) ∷ site 4 (atSouth 7 1) ∷ [])
+    (since (site 3 (atSouth 2 3)) 0 1 ∷ since (site 4 (atSouth 7 1)) 37 100 ∷ [])
+    ∷ try (leg (at 4 4) (at 4 4)) (site 2 (at 4 5) ∷ site 1 (at 4 3) ∷ site 3 (at 5 4) ∷ [])
+    (since (site 1 (at 4 3)) 0 1 ∷ [])
     ∷ []
 
 -- the lists as the documents have them

@@ -57,8 +57,8 @@ Changes e [] = Unit {0}
 Changes e (f ∷ fs) = e .site .number ≢ f .site .number
 
 -- the rules of an entry that is followed by rest: "Starts rise strictly", "each start is less than 1", "without
--- common factor"; "At every t strictly inside an entry's stretch its site is" the first of the nearest sites, by the tie
--- rule of C-11 where document 01 had the "least-numbered"
+-- common factor"; "At every t strictly inside an entry's stretch its site is" the first of the nearest sites, by the
+-- tie rule of C-11 where document 01 had the "least-numbered"
 pub record Stretch (l : Leg) (sites : List Site) (e : Entry) (rest : List Entry) : Type 0 where
   pub below1 : e .start .num < e .start .den
   pub reduced : Reduced (e .start)
