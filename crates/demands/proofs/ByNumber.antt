@@ -8,6 +8,7 @@ use Prim.Native.Nat.{ℕ}
 use native.Mathlib.Decide.{decLe, decLt}
 use native.Mathlib.Omega.{arith}
 use lib.ListN.{getD}
+use Rattle.limits.specs.Limits.{workBytes}
 use Rattle.grid.specs.declared.Leg.{Leg}
 use Rattle.grid.specs.Position.{squaredDifference, distance}
 use Rattle.grid.specs.Side.{onTheRight?, wayBack}
@@ -20,10 +21,11 @@ use Rattle.split.proofs.ByNumber.{no-tie-same}
 use Rattle.book.specs.Book.{Book, sitesOf, listOf}
 use Rattle.table_standing.specs.Standing.{numbersOf}
 use Rattle.table_rules.specs.Table.{bookOf}
-use Rattle.demands.specs.Batch.{lengthsOk}
+use Rattle.table_empty.specs.EmptyTable.{zeros}
+use Rattle.demands.specs.Batch.{returns, lengthsOk}
 use Rattle.demands.specs.Whole.{Call, MadeOn}
 use Rattle.demands.specs.Demands.{Kept}
-use Rattle.demands.specs.ByNumber.{listByNumber, SoundByNumber, ListStays, Refused65, EarlierTable, twoAndFive}
+use Rattle.demands.specs.ByNumber.{listByNumber, SoundByNumber, ListStays, EarlierTable, twoAndFive}
 use Rattle.demands.proofs.Demand1.{demand1}
 
 -- document 01's case: 2 was stored, and 5 is listed now; on the way back 2 is listed still
@@ -58,8 +60,11 @@ module _ (t : List ℕ) (c : Call) (t′ : List ℕ) (made : MadeOn t c t′) (o
   pub no-tie-taken : ((l : Leg) → bookOf t .leg ≡ some l → NoTie l (sitesOf (bookOf t))) → Kept t c t′
   no-tie-taken n = earlier-tables .taken (no-tie-stays (bookOf t) n)
 
-  -- DOCUMENT 01'S CASE is refused, and taken where the leg is turned round
-  pub two-and-five : (bookOf t ≡ twoAndFive ten → Refused65 t c t′) × (bookOf t ≡ twoAndFive (wayBack ten) → Kept t c t′)
+  -- DOCUMENT 01'S CASE is refused, with everything left that 65 leaves, and taken where the leg is turned round
+  pub two-and-five :
+      (bookOf t ≡ twoAndFive ten
+      → (c .result ≡ returns 65 0 0) × (t′ ≡ t) × (c .workAfter ≡ zeros workBytes) × (c .reportAfter ≡ c .report))
+      × (bookOf t ≡ twoAndFive (wayBack ten) → Kept t c t′)
   two-and-five = (
     λ e. earlier-tables .refused (subst⁻¹ (λ (b : Book). ¬ ListStays b) e changes),
     λ e. earlier-tables .taken (subst⁻¹ ListStays e stays),
