@@ -17,12 +17,13 @@ use Rattle.grid.specs.Position.{OnGrid, LegOnGrid}
 use Rattle.split.specs.SplitList.{Entry}
 use Rattle.split.specs.SplitOf.{splitOf}
 use Rattle.book.specs.declared.Command.{Command}
-use Rattle.book.specs.declared.Command.the-variants.{Add, Remove, Move, List as ListOf, Stand, Print}
+use Rattle.book.specs.declared.Command.the-variants.{Add, Remove, Move, List as ListOf, Stand, Print, Begin, Corner}
 use Rattle.book.specs.declared.Cause.{Cause}
-use Rattle.book.specs.declared.Cause.the-variants.{NumberZero, OffGrid, Held, NotHeld, Full, NoSite, NoLeg}
+use Rattle.book.specs.declared.Cause.the-variants.{NumberZero, OffGrid, Held, NotHeld, Full, NoSite, NoLeg, NoTour}
+use Rattle.book.specs.Tour.{Tour, legTo, tourLeg, remembered, leftOut}
 use Rattle.book.specs.Book.{Book, sitesOf, listOf, holds}
 use Rattle.book.specs.Reply.{Reply, done, refused, listed}
-use Rattle.book.specs.Answer.{Test, offGrid, legOffGrid, legless, tests, firstCause, accepted, answer}
+use Rattle.book.specs.Answer.{Test, offGrid, legOffGrid, legless, tourless, tests, firstCause, accepted, answer}
 
 -- ---- the tests on positions, as facts
 
@@ -180,6 +181,43 @@ module _ (b : Book) where
   unfolding answer
   answer-print-done l h e = rw (h, ne-eqb (length (sitesOf b)) 0 e) refl
 
+-- ---- 42: a tour begins
+
+module _ (b : Book) (p : Position) where
+  -- cause 2: off the grid
+  pub answer-begin-off : ¬ OnGrid p → answer b (Begin p) ≡ refused OffGrid
+  unfolding answer
+  answer-begin-off g = rw (off-grid p g) refl
+
+  -- no cause
+  pub answer-begin-done : OnGrid p → answer b (Begin p) ≡ done
+  unfolding answer
+  answer-begin-done g = rw (on-grid p g) refl
+
+  -- ---- 43: a tour's next leg
+
+  -- cause 8: no tour
+  pub answer-corner-tourless : b .tour ≡ none → answer b (Corner p) ≡ refused NoTour
+  unfolding answer
+  answer-corner-tourless h = rw h refl
+
+  module _ (k : Tour) (h : b .tour ≡ some k) where
+    -- cause 2: off the grid
+    pub answer-corner-off : ¬ OnGrid p → answer b (Corner p) ≡ refused OffGrid
+    unfolding answer
+    answer-corner-off g = rw (h, off-grid p g) refl
+
+    -- cause 6: no site is held
+    pub answer-corner-empty : OnGrid p → length (sitesOf b) ≡ 0 → answer b (Corner p) ≡ refused NoSite
+    unfolding answer
+    answer-corner-empty g e = rw (h, on-grid p g, eq-eqb (length (sitesOf b)) 0 e) refl
+
+    -- no cause: the list of the leg, without what is left out
+    pub answer-corner-done : OnGrid p → length (sitesOf b) ≢ 0
+        → answer b (Corner p) ≡ listed (leftOut (k .last) (splitOf (legTo k p) (sitesOf b)))
+    unfolding answer
+    answer-corner-done g e = rw (h, on-grid p g, ne-eqb (length (sitesOf b)) 0 e) refl
+
 -- ---- what an answer says
 
 done-not-refused : (x : Cause) → refused x ≢ done
@@ -265,3 +303,34 @@ print-accepted b es h =
       some-site = eqb-false _ 0 (m .1 .0);
       is = sym (listed-one _ es q) ∙ ap (λ (o : Option Leg). listOf o (sitesOf b)) e;
     }
+
+-- A LEG OF A TOUR THAT IS ANSWERED
+pub record CornerFits (b : Book) (p : Position) (es : List Entry) : Type 0 where
+  pub tour : Tour
+  pub runs : b .tour ≡ some tour
+  pub onGrid : OnGrid p
+  pub some-site : length (sitesOf b) ≢ 0
+  pub is : es ≡ leftOut (tour .last) (splitOf (legTo tour p) (sitesOf b))
+
+-- a tour is under way
+tour-runs : (o : Option Tour) → tourless o ≡ false → (k : Tour) × (o ≡ some k)
+tour-runs none h = absurd (true≢false h)
+tour-runs (some k) h = (k, refl)
+
+-- every list that 43 is answered with is given so
+pub corner-accepted : (b : Book) (p : Position) (es : List Entry) → answer b (Corner p) ≡ listed es → CornerFits b p es
+corner-accepted b p es h =
+    let (m, q) = none-listed b (Corner p) es h in
+    let (k, e) = tour-runs (b .tour) (m .0) in
+    record {
+      tour = k;
+      runs = e;
+      onGrid = grid-on p (m .1 .0);
+      some-site = eqb-false _ 0 (m .1 .1 .0);
+      is = sym (listed-one _ es q) ∙ ap (λ (o : Option Tour). leftOut (remembered o) (listOf (tourLeg o p) (sitesOf b))) e;
+    }
+
+-- 43 is never answered by a bare acceptance
+pub corner-not-done : (b : Book) (p : Position) → answer b (Corner p) ≢ done
+unfolding answer
+corner-not-done b p h = done-not-listed _ (sym (none-met (tests b (Corner p)) (accepted b (Corner p)) done done-not-refused h .1))

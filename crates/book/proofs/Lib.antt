@@ -1,10 +1,13 @@
 pub mod Lines
 pub mod Answers
 pub mod ProperBooks
+pub mod LegRecords
 pub mod Lists
 pub mod Parsing
 pub mod Runs
 pub mod ReadBack
 pub mod Orders
+pub mod Hearing
+pub mod Tours
 pub mod Refill
 pub mod Prefixes

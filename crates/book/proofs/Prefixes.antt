@@ -18,7 +18,7 @@ use Rattle.book.specs.declared.Reason.{Reason}
 use Rattle.book.specs.declared.Reason.the-variants.{AllUsed, UnknownCommand, CutShort, NoRoom}
 use Rattle.book.specs.Numbers.{reasonNumber}
 use Rattle.book.specs.declared.Shape.{Shape}
-use Rattle.book.specs.declared.Shape.the-variants.{Nothing, Number, NumberPosition, TwoPositions}
+use Rattle.book.specs.declared.Shape.the-variants.{Nothing, Number, OnePosition, NumberPosition, TwoPositions}
 use Rattle.book.specs.Command.{Maker, operandBytes, positionAt, legAt, madeAt, Form, formBytes, formOf, whole, commandAt, parseAt}
 use Rattle.book.specs.Book.{Book}
 use Rattle.book.specs.Encode.{commandBytes}
@@ -52,6 +52,7 @@ module _ (s more : List ℕ) where
   made-front : (x : Shape) (f : Maker x) (i : ℕ) → i + operandBytes x ≤ length s → madeAt x f (s ++ more) i ≡ madeAt x f s i
   made-front Nothing f i h = refl
   made-front Number f i h = ap f (word-front i h)
+  made-front OnePosition f i h = ap f (position-front i h)
   made-front NumberPosition f i h = λ j. f (word-front i (omega arith) j) (position-front (i + 2) (omega arith) j)
   made-front TwoPositions f i h = ap f (leg-front i h)
 

@@ -16,11 +16,11 @@ use Rattle.grid.proofs.Signed.{word-of}
 use Rattle.records.specs.Bytes.{bytes2}
 use Rattle.records.proofs.ReadBack.{bytes2-hold}
 use Rattle.book.specs.declared.Command.{Command}
-use Rattle.book.specs.declared.Command.the-variants.{Add, Remove, Move, List as ListOf, Stand, Print}
+use Rattle.book.specs.declared.Command.the-variants.{Add, Remove, Move, List as ListOf, Stand, Print, Begin, Corner}
 use Rattle.book.specs.declared.Parsed.the-variants.{End, Whole}
 use Rattle.book.specs.declared.Reason.the-variants.{AllUsed, NoRoom}
 use Rattle.book.specs.declared.Shape.{Shape}
-use Rattle.book.specs.declared.Shape.the-variants.{Nothing, Number, NumberPosition, TwoPositions}
+use Rattle.book.specs.declared.Shape.the-variants.{Nothing, Number, OnePosition, NumberPosition, TwoPositions}
 use Rattle.book.specs.Command.{Maker, operandBytes, positionAt, legAt, madeAt, Form, form, formBytes, formOf, parseAt}
 use Rattle.book.specs.Encode.{positionBytes, legBytes, commandBytes}
 use Rattle.book.specs.Book.{Book}
@@ -43,6 +43,8 @@ Encodable (Move n p) = (n < 65536) × PositionSmall p
 Encodable (ListOf l) = PositionSmall (l .s) × PositionSmall (l .e)
 Encodable (Stand l) = PositionSmall (l .s) × PositionSmall (l .e)
 Encodable Print = Unit {0}
+Encodable (Begin p) = PositionSmall p
+Encodable (Corner p) = PositionSmall p
 
 -- ---- numbers, positions and legs behind other bytes
 
@@ -76,6 +78,10 @@ position-back : (x y z : ℕ) (p : Position) (t : List ℕ) → PositionSmall p 
 unfolding wordAt
 position-back x y z p t h = λ j. record { east = coordinate-back (p .east) (h .east) j; north = coordinate-back (p .north) (h .north) j }
 
+place-back : (x : ℕ) (p : Position) (t : List ℕ) → PositionSmall p → positionAt (x ∷ positionBytes p ++ t) 1 ≡ p
+unfolding wordAt
+place-back x p t h = λ j. record { east = coordinate-back (p .east) (h .east) j; north = coordinate-back (p .north) (h .north) j }
+
 leg-back : (x : ℕ) (l : Leg) (t : List ℕ) → PositionSmall (l .s) → PositionSmall (l .e) → legAt (x ∷ legBytes l ++ t) 1 ≡ l
 unfolding wordAt
 leg-back x l t g h = λ j. record {
@@ -89,6 +95,7 @@ leg-back x l t g h = λ j. record {
 made-behind : (x : Shape) (f : Maker x) (pre s : List ℕ) (i : ℕ) → madeAt x f (pre ++ s) (length pre + i) ≡ madeAt x f s i
 made-behind Nothing f pre s i = refl
 made-behind Number f pre s i = ap f (word-behind pre s i)
+made-behind OnePosition f pre s i = ap f (position-behind pre s i)
 made-behind NumberPosition f pre s i =
     let e : length pre + i + 2 ≡ length pre + (i + 2) = omega arith in
     λ j. f (word-behind pre s i j) ((ap (positionAt (pre ++ s)) e ∙ position-behind pre s (i + 2)) j)
@@ -108,6 +115,10 @@ module _ (pre : List ℕ) (t : List ℕ) where
   number-behind : (m : ℕ) (f : Maker Number) → formOf m ≡ some (form m Number f) → (n : ℕ) → n < 65536
       → parseAt (pre ++ (m ∷ bytes2 n ++ t)) (length pre) ≡ Whole (f n) (length pre + formBytes (form m Number f))
   number-behind m f e n h = behind m (bytes2 n) (form m Number f) e refl (f n) (ap f (number-back m n t h))
+
+  one-position-behind : (m : ℕ) (f : Maker OnePosition) → formOf m ≡ some (form m OnePosition f) → (p : Position) → PositionSmall p
+      → parseAt (pre ++ (m ∷ positionBytes p ++ t)) (length pre) ≡ Whole (f p) (length pre + formBytes (form m OnePosition f))
+  one-position-behind m f e p h = behind m (positionBytes p) (form m OnePosition f) e refl (f p) (ap f (place-back m p t h))
 
   number-position-behind : (m : ℕ) (f : Maker NumberPosition) → formOf m ≡ some (form m NumberPosition f)
       → (n : ℕ) (p : Position) → (n < 65536) × PositionSmall p
@@ -132,6 +143,8 @@ module _ (pre : List ℕ) (t : List ℕ) where
   read-back (ListOf l) h = two-positions-behind 0x4C ListOf refl l h
   read-back (Stand l) h = two-positions-behind 0x53 Stand refl l h
   read-back Print h = behind 0x50 [] (form 0x50 Nothing Print) refl refl Print refl
+  read-back (Begin p) h = one-position-behind 0x42 Begin refl p h
+  read-back (Corner p) h = one-position-behind 0x43 Corner refl p h
 
 -- a command alone
 pub read-one : (c : Command) → Encodable c → parseAt (commandBytes c) 0 ≡ Whole c (length (commandBytes c))

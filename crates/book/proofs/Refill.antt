@@ -62,9 +62,9 @@ abbrev pub afterCalls : Book → List Batch → Book
 afterCalls b [] = b
 afterCalls b (x ∷ xs) = afterCalls (run (additions (x .sites)) (x .room) b .book) xs
 
--- a book without a leg
+-- a book without a leg and a tour
 abbrev pub legFree : List Site → Book
-legFree s = record { lines = s; leg = none }
+legFree s = record { lines = s; leg = none; tour = none }
 
 -- ---- one call
 

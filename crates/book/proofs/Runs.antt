@@ -64,6 +64,12 @@ answered-at b (u ∷ ts) t us a = answered-at (after b (u .command) (u .reply)) 
 
 -- ---- how a call ends
 
+-- 68 LEAVES THE BOOK: lines, leg, corner and tour
+pub full-leaves : (on : ℕ → List Turn → Book → Outcome) (c : Command) (next room at : ℕ) (past : List Turn) (b : Book)
+    → room < length (records past) + length (recordOf (answer b c)) → turn on (Whole c next) room at past b .book ≡ b
+unfolding turn
+full-leaves on c next room at past b l = rw (lt-leb (length (records past) + length (recordOf (answer b c))) room l) refl
+
 -- an outcome of the commands cs on the book b, with so much room
 pub record Ended (cs : List ℕ) (room : ℕ) (b : Book) (o : Outcome) : Type 0 where
   pub fits : length (records (o .turns)) ≤ room

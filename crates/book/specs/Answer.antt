@@ -9,12 +9,16 @@ use lib.Dec.{eqb, leb}
 use Rattle.limits.specs.Limits.{gridWidth, maxSites}
 use Rattle.grid.specs.declared.Position.{Position}
 use Rattle.grid.specs.declared.Leg.{Leg}
+use Rattle.split.specs.SplitList.{Entry}
 use Rattle.split.specs.SplitOf.{splitOf}
 use Rattle.book.specs.declared.Command.{Command}
 use Rattle.book.specs.declared.Command.the-variants.{Add, Remove, Move, List as ListOf, Stand, Print}
+use Rattle.book.specs.declared.Command.the-variants.{Begin, Corner}
 use Rattle.book.specs.declared.Cause.{Cause}
-use Rattle.book.specs.declared.Cause.the-variants.{NumberZero, OffGrid, Held, NotHeld, Full, NoSite, NoLeg}
-use Rattle.book.specs.Book.{Book, sitesOf, standingList, holds, change}
+use Rattle.book.specs.declared.Cause.the-variants.{NumberZero, OffGrid, Held, NotHeld, Full}
+use Rattle.book.specs.declared.Cause.the-variants.{NoSite, NoLeg, NoTour}
+use Rattle.book.specs.Tour.{Tour, tourLeg, remembered, leftOut}
+use Rattle.book.specs.Book.{Book, sitesOf, listOf, standingList, holds, change}
 use Rattle.book.specs.Reply.{Reply, done, refused, listed}
 
 -- a test: whether the cause is met
@@ -39,11 +43,16 @@ abbrev pub legless : Option Leg → Bool
 legless none = true
 legless (some l) = false
 
+-- without a tour
+abbrev pub tourless : Option Tour → Bool
+tourless none = true
+tourless (some k) = false
+
 -- "no site held"
 abbrev pub siteless : Book → Bool
 siteless b = eqb (length (sitesOf b)) 0
 
--- "Tests in order"
+-- "Tests in order"; document 02, C-13: "tests in 42: 2; in 43: 8, 2, 6"
 abbrev pub tests : Book → Command → List Test
 tests b (Add n p) = test (eqb n 0) NumberZero ∷ test (offGrid p) OffGrid ∷ test (holds n (b .lines)) Held ∷ test (eqb (length (b .lines)) maxSites) Full ∷ []
 tests b (Remove n) = test (eqb n 0) NumberZero ∷ test (not (holds n (b .lines))) NotHeld ∷ []
@@ -51,14 +60,39 @@ tests b (Move n p) = test (eqb n 0) NumberZero ∷ test (offGrid p) OffGrid ∷ 
 tests b (ListOf l) = test (legOffGrid l) OffGrid ∷ test (siteless b) NoSite ∷ []
 tests b (Stand l) = test (legOffGrid l) OffGrid ∷ []
 tests b Print = test (legless (b .leg)) NoLeg ∷ test (siteless b) NoSite ∷ []
+tests b (Begin p) = test (offGrid p) OffGrid ∷ []
+tests b (Corner p) = test (tourless (b .tour)) NoTour ∷ test (offGrid p) OffGrid ∷ test (siteless b) NoSite ∷ []
 
 -- "the first cause met gives 21 and its number"; the reply where none is met
 abbrev pub firstCause : List Test → Reply → Reply
 firstCause [] y = y
 firstCause (t ∷ ts) y = cond (t .met) (refused (t .cause)) (firstCause ts y)
 
--- what an accepted command is answered: "2B each", "4C gives 3D with the split list of its leg over the lines, 50
--- with that of the standing leg"
+-- the leg whose list a command asks for: "4C gives 3D with the split list of its leg over the lines, 50 with that of
+-- the standing leg"; 43 "answers the list of the leg from the last corner to this one"
+abbrev pub legAsked : Book → Command → Option Leg
+legAsked b (Add n p) = none
+legAsked b (Remove n) = none
+legAsked b (Move n p) = none
+legAsked b (ListOf l) = some l
+legAsked b (Stand l) = none
+legAsked b Print = b .leg
+legAsked b (Begin p) = none
+legAsked b (Corner p) = tourLeg (b .tour) p
+
+-- what of that list the record has: all of it, but "The record leaves out the list's first entry if that names the site
+-- that ended the previous leg's whole list in this tour" (43)
+abbrev pub shownBy : Book → Command → List Entry → List Entry
+shownBy b (Add n p) es = es
+shownBy b (Remove n) es = es
+shownBy b (Move n p) es = es
+shownBy b (ListOf l) es = es
+shownBy b (Stand l) es = es
+shownBy b Print es = es
+shownBy b (Begin p) es = es
+shownBy b (Corner p) es = leftOut (remembered (b .tour)) es
+
+-- what an accepted command is answered: "2B each", or the list that it asks for. "Command 42 .. gets 2B"
 abbrev pub accepted : Book → Command → Reply
 accepted b (Add n p) = done
 accepted b (Remove n) = done
@@ -66,6 +100,8 @@ accepted b (Move n p) = done
 accepted b (ListOf l) = listed (splitOf l (sitesOf b))
 accepted b (Stand l) = done
 accepted b Print = listed (standingList b)
+accepted b (Begin p) = done
+accepted b (Corner p) = listed (shownBy b (Corner p) (listOf (legAsked b (Corner p)) (sitesOf b)))
 
 -- the book's answer
 unfoldable pub answer : Book → Command → Reply
@@ -79,19 +115,12 @@ reads (Move n p) = false
 reads (ListOf l) = true
 reads (Stand l) = false
 reads Print = true
+reads (Begin p) = false
+reads (Corner p) = false
 
--- "With 21, 66, 67 or 68 the command changes neither lines nor leg."
+-- "With 21, 66, 67 or 68 the command changes neither lines nor leg." Document 02, C-13: "A refused command leaves corner
+-- and tour."
 abbrev pub after : Book → Command → Reply → Book
 after b c done = change c b
 after b c (refused x) = b
 after b c (listed es) = change c b
-
--- the leg whose list a command asks for: "4C gives 3D with the split list of its leg over the lines, 50 with that of
--- the standing leg"
-abbrev pub legAsked : Book → Command → Option Leg
-legAsked b (Add n p) = none
-legAsked b (Remove n) = none
-legAsked b (Move n p) = none
-legAsked b (ListOf l) = some l
-legAsked b (Stand l) = none
-legAsked b Print = b .leg

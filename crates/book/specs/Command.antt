@@ -13,8 +13,9 @@ use Rattle.grid.specs.declared.Leg.{Leg}
 use Rattle.grid.specs.Coordinate.{wordPosition}
 use Rattle.book.specs.declared.Command.{Command}
 use Rattle.book.specs.declared.Command.the-variants.{Add, Remove, Move, List as ListOf, Stand, Print}
+use Rattle.book.specs.declared.Command.the-variants.{Begin, Corner}
 use Rattle.book.specs.declared.Shape.{Shape}
-use Rattle.book.specs.declared.Shape.the-variants.{Nothing, Number, NumberPosition, TwoPositions}
+use Rattle.book.specs.declared.Shape.the-variants.{Nothing, Number, OnePosition, NumberPosition, TwoPositions}
 use Rattle.book.specs.declared.Parsed.{Parsed}
 use Rattle.book.specs.declared.Parsed.the-variants.{End, Unknown, Cut, Whole}
 
@@ -24,6 +25,7 @@ use Rattle.book.specs.declared.Parsed.the-variants.{End, Unknown, Cut, W
 abbrev pub Maker : Shape → Type 0
 Maker Nothing = Command
 Maker Number = ℕ → Command
+Maker OnePosition = Position → Command
 Maker NumberPosition = ℕ → Position → Command
 Maker TwoPositions = Leg → Command
 
@@ -31,6 +33,7 @@ Maker TwoPositions = Leg → Command
 abbrev pub operandBytes : Shape → ℕ
 operandBytes Nothing = 0
 operandBytes Number = 2
+operandBytes OnePosition = 4
 operandBytes NumberPosition = 6
 operandBytes TwoPositions = 8
 
@@ -46,6 +49,7 @@ legAt s i = record { s = positionAt s i; e = positionAt s (i + 4) }
 abbrev pub madeAt : (x : Shape) → Maker x → List ℕ → ℕ → Command
 madeAt Nothing c s i = c
 madeAt Number f s i = f (wordAt s i)
+madeAt OnePosition f s i = f (positionAt s i)
 madeAt NumberPosition f s i = f (wordAt s i) (positionAt s (i + 2))
 madeAt TwoPositions f s i = f (legAt s i)
 
@@ -61,7 +65,7 @@ pub record Form : Type 0 where
 abbrev pub form : ℕ → (x : Shape) → Maker x → Form
 form m x f = record { mark = m; shape = x; maker = f }
 
--- document 01's table: "Command", "Operands", "Meaning"
+-- document 01's table: "Command", "Operands", "Meaning"; behind it the commands of document 02: C-13's 42 and 43
 abbrev pub commandTable : List Form
 commandTable =
     form 0x41 NumberPosition Add
@@ -70,6 +74,8 @@ commandTable =
     ∷ form 0x4C TwoPositions ListOf
     ∷ form 0x53 TwoPositions Stand
     ∷ form 0x50 Nothing Print
+    ∷ form 0x42 OnePosition Begin
+    ∷ form 0x43 OnePosition Corner
     ∷ []
 
 -- the bytes of a command of this form: its mark and its operands

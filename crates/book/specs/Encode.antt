@@ -9,6 +9,7 @@ use Rattle.grid.specs.Coordinate.{toWord}
 use Rattle.records.specs.Bytes.{bytes2}
 use Rattle.book.specs.declared.Command.{Command}
 use Rattle.book.specs.declared.Command.the-variants.{Add, Remove, Move, List as ListOf, Stand, Print}
+use Rattle.book.specs.declared.Command.the-variants.{Begin, Corner}
 
 -- a position, as two signed 16-bit numbers
 abbrev pub positionBytes : Position → List ℕ
@@ -26,6 +27,8 @@ commandBytes (Move n p) = 0x4D ∷ bytes2 n ++ positionBytes p
 commandBytes (ListOf l) = 0x4C ∷ legBytes l
 commandBytes (Stand l) = 0x53 ∷ legBytes l
 commandBytes Print = 0x50 ∷ []
+commandBytes (Begin p) = 0x42 ∷ positionBytes p
+commandBytes (Corner p) = 0x43 ∷ positionBytes p
 
 -- an addition for each site
 abbrev pub additions : List Site → List ℕ

@@ -1,8 +1,10 @@
 pub mod Numbers
 pub mod Command
 pub mod Encode
+pub mod Tour
 pub mod Book
 pub mod Proper
 pub mod Reply
 pub mod Answer
 pub mod Run
+pub mod Listener

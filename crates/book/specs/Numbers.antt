@@ -1,9 +1,10 @@
--- The numbers of causes and reasons. Document 01, "Causes and numbers".
+-- The numbers of causes and reasons. Document 01, "Causes and numbers"; 8 is document 02's, C-13.
 -- `Cause` and `Reason` are the code's own enums (src/lib.rt).
 -- Assumes nothing.
 use Prim.Native.Nat.{ℕ}
 use Rattle.book.specs.declared.Cause.{Cause}
-use Rattle.book.specs.declared.Cause.the-variants.{NumberZero, OffGrid, Held, NotHeld, Full, NoSite, NoLeg}
+use Rattle.book.specs.declared.Cause.the-variants.{NumberZero, OffGrid, Held, NotHeld, Full}
+use Rattle.book.specs.declared.Cause.the-variants.{NoSite, NoLeg, NoTour}
 use Rattle.book.specs.declared.Reason.{Reason}
 use Rattle.book.specs.declared.Reason.the-variants.{AllUsed, WrongLength, Broken, UnknownCommand, CutShort, NoRoom}
 
@@ -16,6 +17,7 @@ causeNumber NotHeld = 4
 causeNumber Full = 5
 causeNumber NoSite = 6
 causeNumber NoLeg = 7
+causeNumber NoTour = 8
 
 -- a reason's number
 abbrev pub reasonNumber : Reason → ℕ

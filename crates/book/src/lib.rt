@@ -3,7 +3,7 @@
 use grid::Leg;
 use grid::Position;
 
-// A command with its operands. Document 01, "Buffers and batches".
+// A command with its operands. Document 01, "Buffers and batches"; the last two are those of document 02, C-13.
 pub enum Command {
     Add(u16, Position),
     Remove(u16),
@@ -11,12 +11,16 @@ pub enum Command {
     List(Leg),
     Stand(Leg),
     Print,
+    Begin(Position),
+    Corner(Position),
 }
 
-// The operands of a command. Document 01, the column "Operands": none; number; number, position; S, E.
+// The operands of a command. Document 01, the column "Operands": none; number; position; number,
+// position; S, E.
 pub enum Shape {
     Nothing,
     Number,
+    OnePosition,
     NumberPosition,
     TwoPositions,
 }
@@ -30,7 +34,7 @@ pub enum Parsed {
     Whole(Command, usize),
 }
 
-// Why a command is refused. Document 01, "Causes and numbers", 1 to 7.
+// Why a command is refused. Document 01, "Causes and numbers", 1 to 7; document 02, C-13, 8.
 pub enum Cause {
     NumberZero,
     OffGrid,
@@ -39,6 +43,7 @@ pub enum Cause {
     Full,
     NoSite,
     NoLeg,
+    NoTour,
 }
 
 // How a call ends: 0, and 64 to 68.
@@ -73,6 +78,7 @@ pub fn cause_number(c: Cause) -> u8
         Cause::Full => 5,
         Cause::NoSite => 6,
         Cause::NoLeg => 7,
+        Cause::NoTour => 8,
     }
 }
 

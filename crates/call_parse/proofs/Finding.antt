@@ -15,9 +15,9 @@ use Rattle.grid.specs.declared.Position.{Position}
 use Rattle.grid.specs.declared.Leg.{Leg}
 use Rattle.grid.specs.Coordinate.{fromWord}
 use Rattle.book.specs.declared.Command.{Command}
-use Rattle.book.specs.declared.Command.the-variants.{Print}
+use Rattle.book.specs.declared.Command.the-variants.{Corner}
 use Rattle.book.specs.declared.Shape.{Shape}
-use Rattle.book.specs.declared.Shape.the-variants.{Nothing, Number, NumberPosition, TwoPositions}
+use Rattle.book.specs.declared.Shape.the-variants.{OnePosition, Nothing, Number, NumberPosition, TwoPositions}
 use Rattle.book.specs.declared.Parsed.the-variants.{End, Unknown, Cut, Whole}
 use Rattle.book.specs.Command.{operandBytes, positionAt, legAt, Form, form, formOf, parseAt}
 use Rattle.book.proofs.Parsing.{parse-end, parse-unknown, parse-cut, parse-whole}
@@ -49,6 +49,9 @@ module _ (x : Shape) (s : List ℕ) (i n : ℕ) (p : Position) (l : Leg) where
   pub number-read : x ≡ Number → n ≡ wordAt s i → Reads x s i o
   number-read e h = subst⁻¹ (λ (y : Shape). Reads y s i o) e (λ f. ap f h)
 
+  pub one-position-read : x ≡ OnePosition → p ≡ positionAt s i → Reads x s i o
+  one-position-read e h = subst⁻¹ (λ (y : Shape). Reads y s i o) e (λ f. ap f h)
+
   pub number-position-read : x ≡ NumberPosition → n ≡ wordAt s i → p ≡ positionAt s (i + 2) → Reads x s i o
   number-position-read e h k = subst⁻¹ (λ (y : Shape). Reads y s i o) e (λ f j. f (h j) (k j))
 
@@ -57,19 +60,20 @@ module _ (x : Shape) (s : List ℕ) (i n : ℕ) (p : Position) (l : Leg) where
 
 -- ---- the table of commands
 
-module _ (m : ℕ) (a : m ≢ 0x41) (b : m ≢ 0x44) (c : m ≢ 0x4D) (d : m ≢ 0x4C) (e : m ≢ 0x53) where
-  -- no other mark has operands
-  last-row : formOf m ≡ cond (eqb m 0x50) (some (form 0x50 Nothing Print)) none
+module _ (m : ℕ) (a : m ≢ 0x41) (b : m ≢ 0x44) (c : m ≢ 0x4D) (d : m ≢ 0x4C) (e : m ≢ 0x53) (f : m ≢ 0x50) (g : m ≢ 0x42) where
+  -- no other mark is a command's
+  last-row : formOf m ≡ cond (eqb m 0x43) (some (form 0x43 OnePosition Corner)) none
   unfolding formOf
-  last-row = rw (ne-eqb m 0x41 a, ne-eqb m 0x44 b, ne-eqb m 0x4D c, ne-eqb m 0x4C d, ne-eqb m 0x53 e) refl
+  last-row =
+      rw (ne-eqb m 0x41 a, ne-eqb m 0x44 b, ne-eqb m 0x4D c, ne-eqb m 0x4C d, ne-eqb m 0x53 e, ne-eqb m 0x50 f, ne-eqb m 0x42 g) refl
 
-  pub unlisted : m ≢ 0x50 → NoMark ≡ markOf (formOf m)
-  unlisted f = rw (last-row, ne-eqb m 0x50 f) refl
+  pub unlisted : m ≢ 0x43 → NoMark ≡ markOf (formOf m)
+  unlisted h = rw (last-row, ne-eqb m 0x43 h) refl
 
-  pub print-made : (o : Operands) → Makes (formOf m) o Print
-  print-made o = subst⁻¹ (λ (g : Option Form). Makes g o Print) last-row (go (eqb m 0x50))
+  pub corner-made : (o : Operands) → Makes (formOf m) o (Corner (o .1))
+  corner-made o = subst⁻¹ (λ (r : Option Form). Makes r o (Corner (o .1))) last-row (go (eqb m 0x43))
     where
-      go : (t : Bool) → Makes (cond t (some (form 0x50 Nothing Print)) none) o Print
+      go : (t : Bool) → Makes (cond t (some (form 0x43 OnePosition Corner)) none) o (Corner (o .1))
       go true = refl
       go false = tt
 

@@ -6,7 +6,7 @@ use mathlib.Core.List.{List}
 use Prim.Native.Nat.{ℕ}
 use Rattle.book.specs.declared.Command.{Command}
 use Rattle.book.specs.declared.Shape.{Shape}
-use Rattle.book.specs.declared.Shape.the-variants.{Nothing, Number, NumberPosition, TwoPositions}
+use Rattle.book.specs.declared.Shape.the-variants.{Nothing, Number, OnePosition, NumberPosition, TwoPositions}
 use Rattle.book.specs.Command.{Maker, madeAt, Form}
 use Rattle.call_parse.specs.declared.Mark.{Mark}
 use Rattle.call_parse.specs.declared.Mark.the-variants.{Unknown, Takes}
@@ -21,6 +21,7 @@ markOf (some f) = Takes (f .shape)
 abbrev pub made : (x : Shape) → Maker x → Operands → Command
 made Nothing f o = f
 made Number f o = f (o .0)
+made OnePosition f o = f (o .1)
 made NumberPosition f o = f (o .0) (o .1)
 made TwoPositions f o = f (o .2)
 

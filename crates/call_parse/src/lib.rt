@@ -30,11 +30,13 @@ fn mark_of(byte: u8) -> Mark
         0x4C => Mark::Takes(Shape::TwoPositions),
         0x53 => Mark::Takes(Shape::TwoPositions),
         0x50 => Mark::Takes(Shape::Nothing),
+        0x42 => Mark::Takes(Shape::OnePosition),
+        0x43 => Mark::Takes(Shape::OnePosition),
         _ => Mark::Unknown,
     }
 }
 
-// The table of commands: what each is, with its operands. The last arm is 50, and what no caller asks.
+// The table of commands: what each is, with its operands. The last arm is 43, and what no caller asks.
 fn command(byte: u8, o: Operands) -> Command
     ensures { λ r. ⌜ Makes (formOf byte) o r ⌝ }
 {
@@ -47,7 +49,9 @@ fn command(byte: u8, o: Operands) -> Command
         0x4D => Command::Move(number, position),
         0x4C => Command::List(leg),
         0x53 => Command::Stand(leg),
-        _ => Command::Print,
+        0x50 => Command::Print,
+        0x42 => Command::Begin(position),
+        _ => Command::Corner(position),
     }
 }
 
@@ -58,6 +62,7 @@ fn size_of(x: Shape) -> usize
     match x {
         Shape::Nothing => 0,
         Shape::Number => 2,
+        Shape::OnePosition => 4,
         Shape::NumberPosition => 6,
         Shape::TwoPositions => 8,
     }
@@ -101,6 +106,10 @@ fn operands_at(s: &[u8], i: usize, x: Shape) -> Operands
         Shape::Number => {
             let number = words::word(s, i);
             Operands(number, corner, point)
+        }
+        Shape::OnePosition => {
+            let position = position_at(s, i);
+            Operands(0, position, point)
         }
         Shape::NumberPosition => {
             let number = words::word(s, i);

@@ -1,7 +1,7 @@
 -- Record 3D is read back: nothing is cut off.
 -- Assumes nothing.
-use mathlib.Core.Path.{_≡_, refl, ap, _∙_}
-use mathlib.Core.List.{List, [], _∷_, _++_, map, List·Memᴰ, List·Memᴰ·head, List·Memᴰ·tail}
+use mathlib.Core.Path.{_≡_, refl, ap, _∙_, subst}
+use mathlib.Core.List.{List, [], _∷_, _++_, append-assoc, append-nil, map, List·Memᴰ, List·Memᴰ·head, List·Memᴰ·tail}
 use Prim.Native.Nat.{ℕ, _+_, _*_, _/_, _%_, _^_, _<_}
 use native.Mathlib.Nat.{div-add-mod, mod-eq-of-lt}
 use native.Mathlib.Omega.{arith}
@@ -41,15 +41,26 @@ drop-entry : (e : Entry) (s : List ℕ) → drop 10 (entryBytes e ++ s) ≡ s
 unfolding entryBytes
 drop-entry e s = refl
 
--- the entries are read back
-pub read-list : (es : List Entry) → ((e : Entry) → List·Memᴰ e es → EntrySmall e) → readList (length es) (listBytes es) ≡ map listedOf es
+-- the entries are read back, whatever stands behind them
+pub read-list : (es : List Entry) (s : List ℕ) → ((e : Entry) → List·Memᴰ e es → EntrySmall e) → readList (length es) (listBytes es ++ s) ≡ map listedOf es
 unfolding readList listBytes
-read-list [] h = refl
-read-list (e ∷ es) h =
-    (λ i. read-entry e (listBytes es) (h e (List·Memᴰ·head refl)) i ∷ readList (length es) (drop-entry e (listBytes es) i))
-    ∙ ap (λ (y : List Listed). listedOf e ∷ y) (read-list es (λ f m. h f (List·Memᴰ·tail m)))
+read-list [] s h = refl
+read-list (e ∷ es) s h =
+    ap (readList (length (e ∷ es))) (append-assoc (entryBytes e) (listBytes es) s)
+    ∙ (λ i. read-entry e (listBytes es ++ s) (h e (List·Memᴰ·head refl)) i ∷ readList (length es) (drop-entry e (listBytes es ++ s) i))
+    ∙ ap (λ (y : List Listed). listedOf e ∷ y) (read-list es s (λ f m. h f (List·Memᴰ·tail m)))
+
+-- the count is read back
+pub read-count : (es : List Entry) (s : List ℕ) → length es < 65536 → read2 (recordBytes es ++ s) 1 ≡ length es
+unfolding recordBytes read2
+read-count es s l = bytes2-hold (length es) l
+
+-- THE RECORD IS READ BACK, whatever stands behind it
+pub read-front : (es : List Entry) (s : List ℕ) → length es < 65536 → ((e : Entry) → List·Memᴰ e es → EntrySmall e)
+    → readRecord (recordBytes es ++ s) ≡ map listedOf es
+unfolding readRecord recordBytes
+read-front es s l h = ap (λ (k : ℕ). readList k (listBytes es ++ s)) (read-count es s l) ∙ read-list es s h
 
 -- THE RECORD IS READ BACK: every number and start of the list
 pub read-record : (es : List Entry) → length es < 65536 → ((e : Entry) → List·Memᴰ e es → EntrySmall e) → readRecord (recordBytes es) ≡ map listedOf es
-unfolding readRecord recordBytes read2
-read-record es l h = ap (λ (k : ℕ). readList k (listBytes es)) (bytes2-hold (length es) l) ∙ read-list es h
+read-record es l h = subst (λ (b : List ℕ). readRecord b ≡ map listedOf es) (append-nil (recordBytes es)) (read-front es [] l h)

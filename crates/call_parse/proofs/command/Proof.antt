@@ -1,8 +1,10 @@
-use Rattle.call_parse.proofs.Finding.{print-made}
+use Rattle.call_parse.proofs.Finding.{corner-made}
 use borrow.Author.Needs.{needs}
 use Rattle.book.specs.Command.{formOf}
 use Rattle.call_parse.proofs.command.Statement.{statement}
 use Rattle.call_parse.proofs.command.Tie as tie
+use Rattle.call_parse.proofs.command.Reads as reads
+use Rattle.call_parse.proofs.command.Lts as lts
 
 returns : tie.Need-returns
 unfolding formOf
@@ -25,7 +27,17 @@ unfolding formOf
 returns-5 c = rw (c .match .keys5)
 
 returns-6 : tie.Need-returns-6
-returns-6 c = search (needs, print-made)
+unfolding formOf
+returns-6 c = rw (c .match .keys6)
+
+returns-7 : tie.Need-returns-7
+unfolding formOf
+returns-7 c = rw (c .match .keys7)
+
+returns-8 : tie.Need-returns-8
+returns-8 c = search (needs, corner-made)
 
 pub command-spec : {M : Type 1} → statement M
-command-spec = tie.close (tie.spec returns returns-2 returns-3 returns-4 returns-5 returns-6)
+command-spec =
+    tie.close
+    (tie.spec returns returns-2 returns-3 returns-4 returns-5 returns-6 returns-7 returns-8)

@@ -3,6 +3,8 @@ use borrow.Author.Needs.{needs}
 use Rattle.book.specs.Command.{formOf}
 use Rattle.call_parse.proofs.mark_of.Statement.{statement}
 use Rattle.call_parse.proofs.mark_of.Tie as tie
+use Rattle.call_parse.proofs.mark_of.Reads as reads
+use Rattle.call_parse.proofs.mark_of.Lts as lts
 
 returns : tie.Need-returns
 unfolding formOf
@@ -29,8 +31,26 @@ unfolding formOf
 returns-6 c = rw (c .match .keys6)
 
 returns-7 : tie.Need-returns-7
-returns-7 c = search (needs, unlisted)
+unfolding formOf
+returns-7 c = rw (c .match .keys7)
+
+returns-8 : tie.Need-returns-8
+unfolding formOf
+returns-8 c = rw (c .match .keys8)
+
+returns-9 : tie.Need-returns-9
+returns-9 c = search (needs, unlisted)
 
 pub mark-of-spec : {M : Type 1} → statement M
 mark-of-spec =
-    tie.close (tie.spec returns returns-2 returns-3 returns-4 returns-5 returns-6 returns-7)
+    tie.close
+    (tie.spec
+    returns
+    returns-2
+    returns-3
+    returns-4
+    returns-5
+    returns-6
+    returns-7
+    returns-8
+    returns-9)

@@ -1,10 +1,15 @@
-use Rattle.call_parse.proofs.Finding.{nothing-read, number-read, number-position-read, two-positions-read}
-use borrow.Author.Needs.{needs}
+use Rattle.call_parse.proofs.Finding.{nothing-read, number-read, one-position-read, number-position-read, two-positions-read}
 use mathlib.Core.Path.{ap}
 use native.Mathlib.Omega.{arith}
 use Rattle.book.specs.Command.{operandBytes}
+use borrow.Author.Needs.{needs}
 use Rattle.call_parse.proofs.operands_at.Statement.{statement}
 use Rattle.call_parse.proofs.operands_at.Tie as tie
+use Rattle.call_parse.proofs.operands_at.Reads as reads
+use Rattle.call_parse.proofs.operands_at.Lts as lts
+use Rattle.call_parse.proofs.leg_at.Reads as leg-at-reads
+use Rattle.call_parse.proofs.position_at.Reads as position-at-reads
+use Rattle.words.proofs.word.Reads as word-reads
 
 enum-told : tie.Need-enum-told
 enum-told c = search needs
@@ -18,20 +23,26 @@ word-requires c κs = omega (arith, ap operandBytes (c .enum-told2 .given .1))
 enum-told-3 : tie.Need-enum-told-3
 enum-told-3 c = search needs
 
-word-requires-2 : tie.Need-word-requires-2
-word-requires-2 c κs = omega (arith, ap operandBytes (c .enum-told3 .given .1))
-
-add-position-at : tie.Need-add-position-at
-add-position-at c = search needs
-
 position-at-requires : tie.Need-position-at-requires
-position-at-requires c κs = omega (arith, ap operandBytes (c .before .enum-told3 .given .1))
+position-at-requires c κs = omega (arith, ap operandBytes (c .enum-told3 .given .1))
 
 enum-told-4 : tie.Need-enum-told-4
 enum-told-4 c = search needs
 
+word-requires-2 : tie.Need-word-requires-2
+word-requires-2 c κs = omega (arith, ap operandBytes (c .enum-told4 .given .1))
+
+add-position-at : tie.Need-add-position-at
+add-position-at c = search needs
+
+position-at-requires-2 : tie.Need-position-at-requires-2
+position-at-requires-2 c κs = omega (arith, ap operandBytes (c .before .enum-told4 .given .1))
+
+enum-told-5 : tie.Need-enum-told-5
+enum-told-5 c = search needs
+
 leg-at-requires : tie.Need-leg-at-requires
-leg-at-requires c κs = omega (arith, ap operandBytes (c .enum-told4 .given .1))
+leg-at-requires c κs = omega (arith, ap operandBytes (c .enum-told5 .given .1))
 
 returns : tie.Need-returns
 returns c = search (needs, nothing-read)
@@ -40,10 +51,13 @@ returns-2 : tie.Need-returns-2
 returns-2 c = search (needs, number-read)
 
 returns-3 : tie.Need-returns-3
-returns-3 c = search (needs, number-position-read)
+returns-3 c = search (needs, one-position-read)
 
 returns-4 : tie.Need-returns-4
-returns-4 c = search (needs, two-positions-read)
+returns-4 c = search (needs, number-position-read)
+
+returns-5 : tie.Need-returns-5
+returns-5 c = search (needs, two-positions-read)
 
 pub operands-at-spec : {M : Type 1} → statement M
 operands-at-spec =
@@ -53,12 +67,15 @@ operands-at-spec =
     enum-told-2
     word-requires
     enum-told-3
-    word-requires-2
-    add-position-at
     position-at-requires
     enum-told-4
+    word-requires-2
+    add-position-at
+    position-at-requires-2
+    enum-told-5
     leg-at-requires
     returns
     returns-2
     returns-3
-    returns-4)
+    returns-4
+    returns-5)
