@@ -2,6 +2,7 @@
 -- Assumes nothing.
 use mathlib.Core.Path.{_≡_, refl, sym, ap, subst, _∙_}
 use mathlib.Core.List.{List, [], _∷_, _++_, List·Memᴰ}
+use mathlib.Core.Option.{Option, none}
 use Prim.Native.Nat.{ℕ, suc, _+_, _≤_, _<_}
 use native.Mathlib.Omega.{arith}
 use native.Mathlib.Decide.{decLt}
@@ -14,10 +15,11 @@ use Rattle.words.proofs.Frame.{only-trans}
 use Rattle.grid.specs.declared.Position.{Position}
 use Rattle.grid.specs.declared.Site.{Site}
 use Rattle.grid.specs.Position.{OnGrid}
+use Rattle.book.specs.Tour.{Tour}
 use Rattle.book.specs.Book.{writeLine, strikeLine, moveLine}
-use Rattle.book.specs.Proper.{Rising, NumberOk}
+use Rattle.book.specs.Proper.{Rising, NumberOk, TourOk}
 use Rattle.book.proofs.Lines.{siteAs, write-before, write-past, move-is}
-use Rattle.table_header.specs.Header.{countIn}
+use Rattle.table_header.specs.Header.{countIn, tourIn}
 use Rattle.table_sites.specs.Lines.{lineAt, linesIn, Array, noSite, StandsAt, StandsNowhere}
 use Rattle.table_sites.specs.Rules.{SitesOk}
 use Rattle.table_sites.specs.Changes.{inserted, deleted, placed, ArrayChanged}
@@ -37,7 +39,7 @@ use Rattle.tree_remove.specs.Removal.{Removed}
 use Rattle.tree_check.specs.Leaves.{leafEntry, leafEntries}
 use Rattle.tree_check.proofs.Leaves.{leaves-append, tied-count}
 use Rattle.table_rules.specs.Table.{Whole}
-use Rattle.table_rules.proofs.Same.{lines-same, sites-same, leg-same, list-same, header-same}
+use Rattle.table_rules.proofs.Same.{lines-same, sites-same, leg-same, tour-same, list-same, header-same}
 use Rattle.table_change.specs.Changes.{Swapped, Relined}
 use Rattle.table_search.proofs.Points.{line-leaf}
 
@@ -91,21 +93,26 @@ changed-rooted l b b₁ w c = rooted-below (below-tree l b b₁ c) (w .tree .roo
 pub changed-leaves : (l : List Site) (b b₁ : List ℕ) → ArrayChanged l b b₁ → leavesIn b₁ ≡ leavesIn b
 changed-leaves l b b₁ c = leaves-below (below-tree l b b₁ c)
 
-relined : (l m : List Site) (b b₁ b₂ : List ℕ) → Whole b → ArrayChanged l b b₁ → SitesOk b₁ → linesIn b₁ ≡ m → Only treeStart tableBytes b₁ b₂ → Rooted (rootIn b₂) b₂
+relined : (l m : List Site) (b b₁ b₂ : List ℕ) → Whole b → tourIn b ≡ none → ArrayChanged l b b₁ → SitesOk b₁ → linesIn b₁ ≡ m → Only treeStart tableBytes b₁ b₂ → Rooted (rootIn b₂) b₂
     → ((w : NodeEntry → ℕ) → total w (leavesIn b₂) ≡ total w (leafEntries m)) → Relined m b b₂
-relined l m b b₁ b₂ w c s e o r t =
+relined l m b b₁ b₂ w idle c s e o r t =
     record {
       whole = record {
         len = o .len ∙ c .len ∙ w .len;
         sites = sites-same b₁ b₂ (λ i x h. o .low i (omega arith)) (λ i x h. o .low i (omega arith)) s;
         header = header-same b b₂ (λ i x h. o .low i (omega arith) ∙ c .header i x (omega arith)) (λ i x h. o .low i (omega arith) ∙ c .header i (omega arith) h) (w .header);
+        tour = subst (λ (x : Option Tour). TourOk x (linesIn b₂)) (sym none-now) tt;
         tree = record { rooted = r; leaf = λ v. t v ∙ sym (ap (λ (x : List Site). total v (leafEntries x)) same) };
       };
       lines = same;
       leg = leg-same b b₂ (λ i x h. o .low i (omega arith) ∙ c .header i x (omega arith));
+      tour = none-now;
       list = list-same b b₂ (λ i x h. o .low i (omega arith) ∙ c .header i (omega arith) (omega arith)) (λ i x h. o .low i (omega arith) ∙ c .above i (omega arith));
     }
   where
+    none-now : tourIn b₂ ≡ none
+    none-now = tour-same b b₂ (λ i x h. o .low i (omega arith) ∙ c .header i (omega arith) (omega arith)) ∙ idle
+
     same : linesIn b₂ ≡ m
     same = lines-same b₁ b₂ (λ i x h. o .low i (omega arith)) (λ i x h. o .low i (omega arith)) (s .few) ∙ e
 
@@ -120,7 +127,7 @@ whole-room b h = omega (arith, lines-length b)
 pub absent-inside : (b : List ℕ) (k n : ℕ) → StandsNowhere k n (linesIn b) → k ≤ countIn b
 absent-inside b k n f = absent-counted b f
 
-module _ (b b₁ : List ℕ) (k : ℕ) (p : Site) (w : Whole b) (f : StandsNowhere k (p .number) (linesIn b)) where
+module _ (b b₁ : List ℕ) (k : ℕ) (p : Site) (w : Whole b) (idle : tourIn b ≡ none) (f : StandsNowhere k (p .number) (linesIn b)) where
   pub grow-few : length (linesIn b) < maxSites → ArrayChanged (inserted k p (linesIn b)) b b₁ → length (leavesIn b₁) < maxSites
   grow-few h c = omega (arith, ap length (changed-leaves (inserted k p (linesIn b)) b b₁ c), tied-count b (w .tree))
 
@@ -128,12 +135,12 @@ module _ (b b₁ : List ℕ) (k : ℕ) (p : Site) (w : Whole b) (f : StandsNowhe
   pub grown : (b₂ : List ℕ) (e : NodeEntry) → NumberOk p → OnGrid (p .position) → ArrayChanged (inserted k p (linesIn b)) b b₁ → e ≡ leafEntry p → Added e b₁ b₂
       → Relined (writeLine p (linesIn b)) b b₂
   grown b₂ e np on c q a =
-      relined (inserted k p (linesIn b)) (writeLine p (linesIn b)) b b₁ b₂ w c (insert-kept k p f c np on (w .sites)) (insert-lines k p f c) (a .only) (a .rooted)
+      relined (inserted k p (linesIn b)) (writeLine p (linesIn b)) b b₁ b₂ w idle c (insert-kept k p f c np on (w .sites)) (insert-lines k p f c) (a .only) (a .rooted)
       (λ v. a .leaf v ∙ (omega (arith, ap v q, ap (total v) (changed-leaves (inserted k p (linesIn b)) b b₁ c), w .tree .leaf v, total-write v p (linesIn b))))
 
 -- ---- one site less
 
-module _ (b b₁ : List ℕ) (k n : ℕ) (w : Whole b) (f : StandsAt k n (linesIn b)) where
+module _ (b b₁ : List ℕ) (k n : ℕ) (w : Whole b) (idle : tourIn b ≡ none) (f : StandsAt k n (linesIn b)) where
   line-is : lineAt b k ≡ getD (linesIn b) k noSite
   line-is = sym (line-at b k noSite (omega (arith, f .line, lines-length b)))
 
@@ -154,7 +161,7 @@ module _ (b b₁ : List ℕ) (k n : ℕ) (w : Whole b) (f : StandsAt k n (linesI
   -- REMOVED from both
   pub shrunk : (b₂ : List ℕ) (s : Site) (e : NodeEntry) → s ≡ lineAt b k → e ≡ leafEntry s → ArrayChanged (deleted k (linesIn b)) b b₁ → Removed e b₁ b₂ → Relined (strikeLine n (linesIn b)) b b₂
   shrunk b₂ s e qs q c a =
-      relined (deleted k (linesIn b)) (strikeLine n (linesIn b)) b b₁ b₂ w c (delete-kept k c (w .sites)) (delete-lines k c f (w .sites .rising)) (a .only) (a .rooted)
+      relined (deleted k (linesIn b)) (strikeLine n (linesIn b)) b b₁ b₂ w idle c (delete-kept k c (w .sites)) (delete-lines k c f (w .sites .rising)) (a .only) (a .rooted)
       (λ v. omega (
         arith,
         a .leaf v,
@@ -176,7 +183,7 @@ module _ (b b₁ : List ℕ) (k n : ℕ) (w : Whole b) (f : StandsAt k n (linesI
   pub moved : (p : Position) (b₂ : List ℕ) (s : Site) (e d : NodeEntry) → OnGrid p → s ≡ lineAt b k → e ≡ leafEntry s → d ≡ leafEntry (siteAs n p)
       → ArrayChanged (placed k p (linesIn b)) b b₁ → Swapped e d b₁ b₂ → Relined (moveLine n p (linesIn b)) b b₂
   moved p b₂ s e d on qs q qd c a =
-      relined (placed k p (linesIn b)) (moveLine n p (linesIn b)) b b₁ b₂ w c (place-kept k p c (f .line) on (w .sites)) (place-lines k p c f (w .sites .rising))
+      relined (placed k p (linesIn b)) (moveLine n p (linesIn b)) b b₁ b₂ w idle c (place-kept k p c (f .line) on (w .sites)) (place-lines k p c f (w .sites .rising))
       (a .only) (a .rooted)
       (λ v. omega (
         arith,

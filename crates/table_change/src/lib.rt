@@ -1,4 +1,4 @@
-// Accepted changes, carried out: the site array, the tree, and then the standing list.
+// Accepted changes, carried out: the site array, the tree, and then the standing list; the tour.
 use grid::Leg;
 use grid::Position;
 use grid::Site;
@@ -15,14 +15,20 @@ ghost use Rattle.book.specs.Proper.{NumberOk};
 ghost use Rattle.table_sites.specs.Lines.{linesIn, StandsAt, StandsNowhere};
 ghost use Rattle.table_rules.specs.Table.{bookOf, Whole, Sound};
 ghost use Rattle.demands.specs.Step.{Holds};
+ghost use mathlib.Core.Path.{_≡_};
+ghost use mathlib.Core.Option.{none};
 ghost use mathlib.Core.List.{List·Memᴰ};
+ghost use Rattle.words.specs.Words.{Only};
+ghost use Rattle.table_header.specs.Layout.{tourStart, tourEnd};
+ghost use Rattle.table_header.specs.Header.{tourIn};
+ghost use Rattle.table_rules.specs.Following.{Follows};
 ghost use Rattle.tree_node.specs.Header.{rootIn};
 ghost use Rattle.tree_rules.specs.Rooted.{Rooted, leavesIn};
 ghost use Rattle.table_change.specs.Changes.{Swapped, Relined};
 
 // Adds a site whose record goes before record k.
 fn grow(t: &mut [u8], k: usize, site: Site)
-    requires { ⌜ Whole (now t) × StandsNowhere k (site .number) (linesIn (now t))
+    requires { ⌜ Whole (now t) × (tourIn (now t) ≡ none) × StandsNowhere k (site .number) (linesIn (now t))
         × (length (linesIn (now t)) < maxSites) ⌝ }
     requires { ⌜ NumberOk site × OnGrid (site .position) ⌝ }
     ensures { λ _. ⌜ Relined (writeLine site (linesIn (now (t .entry)))) (now (t .entry)) (now (t .exit)) ⌝ }
@@ -34,7 +40,7 @@ fn grow(t: &mut [u8], k: usize, site: Site)
 
 // Removes the site of record k.
 fn shrink(t: &mut [u8], k: usize, n: u16)
-    requires { ⌜ Whole (now t) × StandsAt k n (linesIn (now t)) ⌝ }
+    requires { ⌜ Whole (now t) × (tourIn (now t) ≡ none) × StandsAt k n (linesIn (now t)) ⌝ }
     ensures { λ _. ⌜ Relined (strikeLine n (linesIn (now (t .entry)))) (now (t .entry)) (now (t .exit)) ⌝ }
 {
     let e = leaf_entry(table_sites::line(t, k));
@@ -53,15 +59,15 @@ fn swap_leaf(t: &mut [u8], old: NodeEntry, new: NodeEntry)
 }
 
 // Gives the site of record k a new position.
-fn relocate(t: &mut [u8], k: usize, n: u16, p: Position)
-    requires { ⌜ Whole (now t) × StandsAt k n (linesIn (now t)) × OnGrid p ⌝ }
-    ensures { λ _. ⌜ Relined (moveLine n p (linesIn (now (t .entry)))) (now (t .entry)) (now (t .exit)) ⌝ }
+fn relocate(t: &mut [u8], k: usize, site: Site)
+    requires { ⌜ Whole (now t) × (tourIn (now t) ≡ none) × StandsAt k (site .number) (linesIn (now t))
+        × OnGrid (site .position) ⌝ }
+    ensures { λ _. ⌜ Relined (moveLine (site .number) (site .position) (linesIn (now (t .entry)))) (now (t .entry))
+        (now (t .exit)) ⌝ }
 {
     let old = leaf_entry(table_sites::line(t, k));
-    let new = leaf_entry(Site {
-        number: n,
-        position: p,
-    });
+    let new = leaf_entry(site);
+    let p = site.position;
     table_sites::change::place(t, k, p);
     swap_leaf(t, old, new);
 }
@@ -74,6 +80,7 @@ pub fn insert(t: &mut [u8], work: &mut [u8], k: usize, site: Site)
     ensures { λ _. ⌜ Holds (now (t .exit))
         (change (Command.Add (site .number) (site .position)) (bookOf (now (t .entry)))) ⌝ }
 {
+    table_header::end_tour(t);
     grow(t, k, site);
     let n = site.number;
     table_patch::patch_held(t, work, n, k);
@@ -84,6 +91,7 @@ pub fn delete(t: &mut [u8], work: &mut [u8], k: usize, n: u16)
     requires { ⌜ Sound (now t) × StandsAt k n (linesIn (now t)) × (rowBytes ≤ length (now work)) ⌝ }
     ensures { λ _. ⌜ Holds (now (t .exit)) (change (Command.Remove n) (bookOf (now (t .entry)))) ⌝ }
 {
+    table_header::end_tour(t);
     shrink(t, k, n);
     table_patch::patch_gone(t, work, n);
 }
@@ -95,9 +103,9 @@ pub fn place(t: &mut [u8], work: &mut [u8], k: usize, site: Site)
     ensures { λ _. ⌜ Holds (now (t .exit))
         (change (Command.Move (site .number) (site .position)) (bookOf (now (t .entry)))) ⌝ }
 {
+    table_header::end_tour(t);
+    relocate(t, k, site);
     let n = site.number;
-    let p = site.position;
-    relocate(t, k, n, p);
     table_patch::patch_held(t, work, n, k);
 }
 
@@ -108,4 +116,23 @@ pub fn stand(t: &mut [u8], work: &mut [u8], leg: Leg)
 {
     table_header::store_leg(t, leg);
     table_patch::restand(t, work);
+}
+
+// Begins a tour. Document 02, C-13, command 42.
+pub fn begin(t: &mut [u8], p: Position)
+    requires { ⌜ Sound (now t) × OnGrid p ⌝ }
+    ensures { λ _. ⌜ Holds (now (t .exit)) (change (Command.Begin p) (bookOf (now (t .entry))))
+        × Only tourStart tourEnd (now (t .entry)) (now (t .exit)) ⌝ }
+{
+    table_header::store_tour(t, p, 0);
+}
+
+// Goes on with the tour along this leg, whose whole list ends with site n. Document 02, C-13, command 43.
+pub fn follow(t: &mut [u8], leg: Leg, n: u16)
+    requires { ⌜ Sound (now t) × Follows leg n (now t) ⌝ }
+    ensures { λ _. ⌜ Holds (now (t .exit)) (change (Command.Corner (leg .e)) (bookOf (now (t .entry))))
+        × Only tourStart tourEnd (now (t .entry)) (now (t .exit)) ⌝ }
+{
+    let p = leg.e;
+    table_header::store_tour(t, p, n);
 }

@@ -1,12 +1,17 @@
 // The test of a table's contents: whether any 32,768 bytes are a sound table. Document 01, reason 65.
 use grid::Leg;
 use table_header::Standing;
+use table_header::Touring;
+use table_sites::Found;
 ghost use mathlib.Core.Path.{_≡_};
 ghost use Prim.Native.Nat.{_≤_};
 ghost use lib.ListN.{length};
 ghost use Rattle.limits.specs.Limits.{tableBytes};
 ghost use Rattle.grid.specs.Says.{Says};
 ghost use Rattle.list_row.specs.Vertices.{rowBytes, Held, entriesIn};
+ghost use Rattle.book.specs.Proper.{LastHeld, TourOk};
+ghost use Rattle.table_header.specs.Header.{siteNumber, tourIn};
+ghost use Rattle.table_sites.specs.Lines.{linesIn, Array};
 ghost use Rattle.table_standing.specs.Standing.{standingIn, numbersOf};
 ghost use Rattle.tree_check.specs.Marks.{seenBytes};
 ghost use Rattle.table_rules.specs.Table.{Whole, StandingOk, Sound};
@@ -55,14 +60,48 @@ fn standing_ok(t: &[u8], work: &mut [u8]) -> bool
     }
 }
 
-// Whether sites, header and tree keep their rules.
+// Whether number n is 0, or that of a site that is held.
+fn remembered_ok(t: &[u8], n: u16) -> bool
+    requires { ⌜ Array (now t) ⌝ }
+    ensures { λ r. ⌜ Says r (LastHeld (siteNumber n) (linesIn (now (t .entry)))) ⌝ }
+{
+    if n == 0 {
+        return true;
+    }
+    let found = table_sites::find(t, n);
+    match found {
+        Found::At(_) => true,
+        Found::Absent(_) => false,
+    }
+}
+
+// Whether the tour keeps its rules.
+fn tour_ok(t: &[u8]) -> bool
+    requires { ⌜ (length (now t) ≡ tableBytes) × Array (now t) ⌝ }
+    ensures { λ r. ⌜ Says r (TourOk (tourIn (now (t .entry))) (linesIn (now (t .entry)))) ⌝ }
+{
+    let tour = table_header::tour(t);
+    match tour {
+        Touring::Idle => true,
+        Touring::From(corner, n) => {
+            if grid::coordinate::on_grid(corner) {
+                return remembered_ok(t, n);
+            }
+            return false;
+        }
+    }
+}
+
+// Whether sites, header, tour and tree keep their rules.
 fn whole_ok(t: &[u8], work: &mut [u8]) -> bool
     requires { ⌜ (length (now t) ≡ tableBytes) × (seenBytes ≤ length (now work)) ⌝ }
     ensures { λ r. ⌜ Says r (Whole (now (t .entry))) ⌝ }
 {
     if table_sites::rules::check(t) {
         if table_header::header_ok(t) {
-            return tree_check::check(t, &mut work[..tree_check::SEEN_BYTES]);
+            if tour_ok(t) {
+                return tree_check::check(t, &mut work[..tree_check::SEEN_BYTES]);
+            }
         }
     }
     false

@@ -34,13 +34,13 @@ unfolding putPosition
 position-stored p b b₁ b₂ i e₁ e₂ = e₂ ∙ ap (λ (x : List ℕ). putWord x (i + 2) (p .north)) e₁
 
 -- a stored position
-only-position : (b : List ℕ) (i : ℕ) (p : Position) → Only i (i + 4) b (putPosition b i p)
+pub only-position : (b : List ℕ) (i : ℕ) (p : Position) → Only i (i + 4) b (putPosition b i p)
 unfolding putPosition
 only-position b i p =
     only-trans (only-wider (omega arith) (omega arith) (only-putWord b i (p .east)))
     (only-wider (omega arith) (omega arith) (only-putWord (putWord b i (p .east)) (i + 2) (p .north)))
 
-position-put : (b : List ℕ) (i : ℕ) (p : Position) → i + 4 ≤ length b → positionWords (putPosition b i p) i ≡ p
+pub position-put : (b : List ℕ) (i : ℕ) (p : Position) → i + 4 ≤ length b → positionWords (putPosition b i p) i ≡ p
 unfolding putPosition positionWords
 position-put b i p h =
     let o = only-putWord b i (p .east) in
@@ -50,7 +50,7 @@ position-put b i p h =
       north = word-putWord (putWord b i (p .east)) (i + 2) (p .north) (omega (arith, o .len)) j;
     }
 
-position-low : {lo hi : ℕ} {b b′ : List ℕ} → Only lo hi b b′ → (i : ℕ) → i + 4 ≤ lo → positionWords b′ i ≡ positionWords b i
+pub position-low : {lo hi : ℕ} {b b′ : List ℕ} → Only lo hi b b′ → (i : ℕ) → i + 4 ≤ lo → positionWords b′ i ≡ positionWords b i
 unfolding positionWords
 position-low o i h = λ j. record { east = word-low o i (omega arith) j; north = word-low o (i + 2) (omega arith) j }
 

@@ -1,16 +1,19 @@
 -- The test of zero bytes, and of the header.
 -- Assumes nothing.
-use mathlib.Core.Path.{_≡_, sym, _∙_}
-use mathlib.Core.Bool.{Bool, true, false, true≢false}
+use mathlib.Core.Path.{_≡_, refl, sym, _∙_}
+use mathlib.Core.Bool.{Bool, true, false}
 use mathlib.Core.List.{List}
 use Prim.Native.Nat.{ℕ, _+_, _≤_, _<_}
 use native.Mathlib.Omega.{arith}
 use native.Mathlib.Decide.{decLt}
 use lib.ListN.{getD}
+use lib.Dec.{eqb}
+use borrow.Author.Tests.{eqb-true, eqb-false}
 use Rattle.words.specs.Words.{wordAt}
 use Rattle.grid.specs.Says.{Says}
-use Rattle.table_header.specs.Layout.{flagStart, legStart, lengthStart, layoutStart, layoutNumber, keptStart, keptEnd}
-use Rattle.table_header.specs.Header.{ZeroFrom, HeaderOk}
+use Rattle.grid.proofs.Says.{says-yes, says-no, says-map}
+use Rattle.table_header.specs.Layout.{flagStart, legStart, lengthStart, layoutStart, layoutNumber, tourStart, cornerStart, tourEnd, keptStart, keptEnd}
+use Rattle.table_header.specs.Header.{ZeroFrom, FlagOk, HeaderOk}
 
 -- the bytes from lo up to i are 0
 pub record Zeroing (b : List ℕ) (lo hi i : ℕ) : Type 0 where
@@ -37,16 +40,49 @@ pub not-zero : (b : List ℕ) (lo hi i : ℕ) → Zeroing b lo hi i → i < hi �
 unfolding ZeroFrom
 not-zero b lo hi i z l h k = h (k i (z .from) l)
 
-pub leg-left : (b : List ℕ) (f : ℕ) (q : Bool) → f ≡ wordAt b flagStart → f ≡ 0 → Says q (ZeroFrom b legStart lengthStart) → q ≡ false → ¬ HeaderOk b
-leg-left b f true e z h x k = absurd (true≢false x)
-leg-left b f false e z h x k = h (k .unset (sym e ∙ z))
+-- ---- zero words
 
-module _ (b : List ℕ) (f n : ℕ) (a : n ≡ wordAt b layoutStart) (m : n ≡ layoutNumber) (e : f ≡ wordAt b flagStart) where
-  pub unset-ok : (q r : Bool) → f ≡ 0 → Says q (ZeroFrom b legStart lengthStart) → q ≡ true → Says r (ZeroFrom b keptStart keptEnd) → Says r (HeaderOk b)
-  unset-ok false r z h x k = absurd (true≢false (sym x))
-  unset-ok true true z h x k = record { layout = sym a ∙ m; flag = omega arith; unset = λ y. h; kept = k }
-  unset-ok true false z h x k = λ g. k (g .kept)
+-- the two bytes of a word that is 0
+pub zero-word : (b : List ℕ) (i : ℕ) → wordAt b i ≡ 0 → ZeroFrom b i (i + 2)
+unfolding ZeroFrom wordAt
+zero-word b i h j p q = go (decLt j (i + 1))
+  where
+    go : Dec (j < i + 1) → getD b j 0 ≡ 0
+    go (yes k) = let e : j ≡ i = omega arith in rw e (omega arith)
+    go (no k) = let e : j ≡ i + 1 = omega arith in rw e (omega arith)
 
-  pub set-ok : (r : Bool) → f ≤ 1 → (f ≡ 0 → ⊥) → Says r (ZeroFrom b keptStart keptEnd) → Says r (HeaderOk b)
-  set-ok true l nz k = record { layout = sym a ∙ m; flag = omega arith; unset = λ x. absurd (nz (e ∙ x)); kept = k }
-  set-ok false l nz k = λ g. k (g .kept)
+-- zeros behind each other
+pub zero-both : (b : List ℕ) (lo mid hi : ℕ) → ZeroFrom b lo mid → ZeroFrom b mid hi → ZeroFrom b lo hi
+unfolding ZeroFrom
+zero-both b lo mid hi f g j p q = go (decLt j mid)
+  where
+    go : Dec (j < mid) → getD b j 0 ≡ 0
+    go (yes k) = f j p k
+    go (no k) = g j (omega arith) q
+
+-- ---- a flag and what it is for
+
+module _ (b : List ℕ) (i lo hi f : ℕ) (e : f ≡ wordAt b i) where
+  pub unset-ok : (r : Bool) → f ≡ 0 → Says r (ZeroFrom b lo hi) → Says r (FlagOk b i lo hi)
+  unset-ok r z h = says-map r (λ k. record { flag = omega arith; unset = λ y. k }) (λ g. g .unset (sym e ∙ z)) h
+
+  pub set-ok : (f ≡ 0 → ⊥) → Says (eqb f 1) (FlagOk b i lo hi)
+  set-ok nz = go (eqb f 1) refl
+    where
+      go : (t : Bool) → eqb f 1 ≡ t → Says t (FlagOk b i lo hi)
+      go true k = let one = eqb-true f 1 k in record { flag = omega arith; unset = λ y. absurd (nz (e ∙ y)) }
+      go false k = λ g. eqb-false f 1 k (let h = g .flag in omega arith)
+
+-- ---- the header
+
+module _ (b : List ℕ) (q : Bool) (s : Says q (FlagOk b flagStart legStart lengthStart)) where
+  pub leg-left : q ≡ false → ¬ HeaderOk b
+  leg-left x h = says-no q s x (h .leg)
+
+  module _ (y : q ≡ true) (p : Bool) (u : Says p (FlagOk b tourStart cornerStart tourEnd)) where
+    pub tour-left : p ≡ false → ¬ HeaderOk b
+    tour-left x h = says-no p u x (h .tour)
+
+    pub header-says : (n : ℕ) (r : Bool) → n ≡ wordAt b layoutStart → n ≡ layoutNumber → p ≡ true → Says r (ZeroFrom b keptStart keptEnd) → Says r (HeaderOk b)
+    header-says n r a m z k =
+        says-map r (λ x. record { layout = sym a ∙ m; leg = says-yes q s y; tour = says-yes p u z; kept = x }) (λ h. h .kept) k

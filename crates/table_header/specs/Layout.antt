@@ -31,9 +31,25 @@ layoutStart = 14
 abbrev pub layoutNumber : ℕ
 layoutNumber = 2
 
+-- 1 while a tour is under way, else 0
+abbrev pub tourStart : ℕ
+tourStart = layoutStart + 2
+
+-- the tour's last corner: east, north, 16 bits each
+abbrev pub cornerStart : ℕ
+cornerStart = tourStart + 2
+
+-- the number of the site that is remembered in the tour, 0 where there is none yet
+abbrev pub lastStart : ℕ
+lastStart = cornerStart + 4
+
+-- what follows the tour
+abbrev pub tourEnd : ℕ
+tourEnd = lastStart + 2
+
 -- the bytes that are kept for later: from behind the last field
 abbrev pub keptStart : ℕ
-keptStart = layoutStart + 2
+keptStart = tourEnd
 
 -- up to the header's end
 abbrev pub keptEnd : ℕ

@@ -18,7 +18,7 @@ use Rattle.book.specs.Book.{sitesOf, listOf, standingList}
 use Rattle.book.specs.Proper.{LegOk}
 use Rattle.table_header.specs.declared.Standing.{Standing}
 use Rattle.table_header.specs.Layout.{lengthStart}
-use Rattle.table_header.specs.Header.{legIn, asOption, lengthIn}
+use Rattle.table_header.specs.Header.{legIn, tourIn, asOption, lengthIn}
 use Rattle.table_sites.specs.Lines.{linesIn}
 use Rattle.table_standing.specs.Layout.{listStart}
 use Rattle.table_standing.specs.Standing.{wordsFrom, standingIn, numbersOf, ListStored}
@@ -29,7 +29,7 @@ use Rattle.tree_check.specs.Leaves.{leafEntries}
 use Rattle.tree_check.specs.Tied.{Tied}
 use Rattle.table_rules.specs.Table.{bookOf, Whole}
 use Rattle.table_rules.specs.Listing.{ListsTable}
-use Rattle.table_rules.proofs.Same.{lines-same, sites-same, leg-same, header-same}
+use Rattle.table_rules.proofs.Same.{lines-same, sites-same, leg-same, tour-same, header-same}
 use Rattle.demands.specs.Step.{Holds}
 
 -- a change below the tree keeps the tree's rules and leaf entries, if the lines stay
@@ -50,17 +50,21 @@ module _ (b b′ : List ℕ) (w : Whole b) (es : List Entry) (st : ListStored es
   leg-stays : legIn b′ ≡ legIn b
   leg-stays = leg-same b b′ (λ i l h. st .low i h)
 
+  tour-stays : tourIn b′ ≡ tourIn b
+  tour-stays = tour-same b b′ (λ i l h. st .between i (omega arith) (omega arith))
+
   whole-stays : Whole b′
   whole-stays =
       record {
         len = st .len ∙ w .len;
         sites = sites-same b b′ (λ i l h. st .low i (omega arith)) (λ i l h. st .between i (omega arith) (omega arith)) (w .sites);
         header = header-same b b′ (λ i l h. st .low i h) (λ i l h. st .between i l (omega arith)) (w .header);
+        tour = rw (tour-stays, lines-stay) (w .tour);
         tree = tied-below b b′ outside lines-stay (w .tree);
       }
 
   book-stays : bookOf b′ ≡ bookOf b
-  book-stays = λ i. record { lines = lines-stay i; leg = leg-stays i }
+  book-stays = λ i. record { lines = lines-stay i; leg = leg-stays i; tour = tour-stays i }
 
   -- THE RIGHT LIST STORED makes the table sound
   pub stored-holds : LegOk (legIn b) → numbersOf es ≡ numbersOf (standingList (bookOf b)) → Holds b′ (bookOf b)

@@ -22,4 +22,5 @@ sound-proper b s =
       onGrid = s .whole .sites .onGrid;
       few = omega (arith, lines-length b, s .whole .sites .few);
       legOk = s .standing .leg;
+      tourOk = s .whole .tour;
     }

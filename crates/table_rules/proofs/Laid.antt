@@ -3,15 +3,17 @@
 use mathlib.Core.Path.{_≡_, refl, sym, ap, subst, _∙_}
 use mathlib.Core.List.{List, [], List·Memᴰ, List·Memᴰ·not-nil}
 use mathlib.Core.Option.{Option, none}
+use Prim.Native.Nat.{_+_}
 use native.Mathlib.Omega.{arith}
 use borrow.Author.Tests.{eq-eqb}
 use Rattle.words.specs.Words.{wordAt}
 use Rattle.grid.specs.declared.Site.{Site}
 use Rattle.grid.specs.declared.Leg.{Leg}
-use Rattle.book.specs.Book.{emptyBook, listOf}
-use Rattle.book.specs.Proper.{LegOk, Rising}
-use Rattle.table_header.specs.Layout.{flagStart, lengthStart}
-use Rattle.table_header.specs.Header.{countIn, legIn, ZeroFrom, HeaderOk}
+use Rattle.book.specs.Tour.{Tour}
+use Rattle.book.specs.Book.{emptyBook, sitesOf, listOf}
+use Rattle.book.specs.Proper.{LegOk, TourOk, Rising}
+use Rattle.table_header.specs.Layout.{flagStart, lengthStart, tourStart}
+use Rattle.table_header.specs.Header.{countIn, legIn, tourIn, ZeroFrom, HeaderOk}
 use Rattle.table_sites.specs.Lines.{linesFrom, linesIn, SpareZero}
 use Rattle.table_sites.specs.Rules.{SitesOk}
 use Rattle.table_standing.specs.Layout.{listStart}
@@ -33,9 +35,18 @@ no-leg : legIn emptyTable ≡ none
 unfolding legIn
 no-leg = rw (eq-eqb (wordAt emptyTable flagStart) 0 (empty-word flagStart (omega arith))) refl
 
+-- the words behind the layout's number are 0
+no-flag : wordAt emptyTable tourStart ≡ 0
+unfolding wordAt
+no-flag = omega (arith, empty-behind tourStart (omega arith) (omega arith), empty-behind (tourStart + 1) (omega arith) (omega arith))
+
+no-tour : tourIn emptyTable ≡ none
+unfolding tourIn
+no-tour = rw (eq-eqb (wordAt emptyTable tourStart) 0 no-flag) refl
+
 -- THE EMPTY BOOK
 pub laid-book : bookOf emptyTable ≡ emptyBook
-laid-book = λ i. record { lines = no-lines i; leg = no-leg i }
+laid-book = λ i. record { lines = no-lines i; leg = no-leg i; tour = no-tour i }
 
 laid-sites : SitesOk emptyTable
 unfolding SpareZero
@@ -53,9 +64,9 @@ unfolding ZeroFrom
 laid-header =
     record {
       layout = empty-layout;
-      flag = omega (arith, empty-word flagStart (omega arith));
-      unset = λ z i l u. empty-low i (omega arith);
-      kept = λ i l u. empty-behind i l (omega arith);
+      leg = record { flag = omega (arith, empty-word flagStart (omega arith)); unset = λ z i l u. empty-low i (omega arith) };
+      tour = record { flag = omega (arith, no-flag); unset = λ z i l u. empty-behind i (omega arith) (omega arith) };
+      kept = λ i l u. empty-behind i (omega arith) (omega arith);
     }
 
 no-list : standingIn emptyTable ≡ []
@@ -71,6 +82,7 @@ laid-sound =
         len = empty-length;
         sites = laid-sites;
         header = laid-header;
+        tour = subst (λ (o : Option Tour). TourOk o (sitesOf (bookOf emptyTable))) (sym no-tour) tt;
         tree = record {
           rooted = empty-rooted;
           leaf = λ w. ap (total w) empty-leaves ∙ sym (ap (λ (s : List Site). total w (leafEntries s)) no-lines);

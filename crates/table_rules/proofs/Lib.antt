@@ -1,3 +1,4 @@
 pub mod Same
 pub mod Books
 pub mod Laid
+pub mod Earlier

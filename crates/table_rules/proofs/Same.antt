@@ -9,8 +9,8 @@ use Rattle.limits.specs.Limits.{maxSites}
 use Rattle.words.specs.Words.{wordAt}
 use Rattle.grid.specs.declared.Site.{Site}
 use Rattle.list_row.specs.Places.{siteAtByte}
-use Rattle.table_header.specs.Layout.{layoutStart, flagStart, legStart, lengthStart, keptEnd}
-use Rattle.table_header.specs.Header.{countIn, positionWords, legIn, ZeroFrom, HeaderOk}
+use Rattle.table_header.specs.Layout.{layoutStart, flagStart, legStart, lengthStart, tourStart, cornerStart, lastStart, tourEnd, keptEnd}
+use Rattle.table_header.specs.Header.{countIn, positionWords, legIn, tourIn, ZeroFrom, FlagOk, HeaderOk}
 use Rattle.table_sites.specs.Layout.{siteStart, recordStart, siteEnd}
 use Rattle.table_sites.specs.Lines.{lineAt, linesFrom, linesIn, SpareZero}
 use Rattle.table_sites.specs.Rules.{SitesOk}
@@ -76,6 +76,18 @@ leg-same b b′ s =
     )
     refl
 
+-- the tour
+pub tour-same : (b b′ : List ℕ) → Same tourStart tourEnd b b′ → tourIn b′ ≡ tourIn b
+unfolding tourIn positionWords
+tour-same b b′ s =
+    rw (
+      word-same b b′ s tourStart (omega arith) (omega arith),
+      word-same b b′ s cornerStart (omega arith) (omega arith),
+      word-same b b′ s (cornerStart + 2) (omega arith) (omega arith),
+      word-same b b′ s lastStart (omega arith) (omega arith),
+    )
+    refl
+
 -- the stored list
 words-same : (b b′ : List ℕ) → Same listStart listEnd b b′ → (i n : ℕ) → listStart ≤ i → i + 2 * n ≤ listEnd → wordsFrom b′ i n ≡ wordsFrom b i n
 unfolding wordsFrom
@@ -89,13 +101,20 @@ list-same b b′ c s few =
     ap (wordsFrom b′ listStart) (word-same b b′ c lengthStart (omega arith) (omega arith))
     ∙ words-same b b′ s listStart (wordAt b lengthStart) (omega arith) (omega arith)
 
+-- a flag and what it is for
+pub flag-same : (b b′ : List ℕ) (i lo hi : ℕ) → Same i hi b b′ → i + 2 ≤ hi → i ≤ lo → FlagOk b i lo hi → FlagOk b′ i lo hi
+unfolding ZeroFrom
+flag-same b b′ i lo hi s h k f =
+    let e = word-same b b′ s i (omega arith) h in
+    record { flag = omega (arith, e, f .flag); unset = λ z j l u. s j (omega arith) u ∙ f .unset (sym e ∙ z) j l u }
+
 -- the header's layout
 pub header-same : (b b′ : List ℕ) → Same flagStart lengthStart b b′ → Same layoutStart keptEnd b b′ → HeaderOk b → HeaderOk b′
 unfolding ZeroFrom
 header-same b b′ s k h =
     record {
       layout = word-same b b′ k layoutStart (omega arith) (omega arith) ∙ h .layout;
-      flag = omega (arith, word-same b b′ s flagStart (omega arith) (omega arith), h .flag);
-      unset = λ z i l u. s i (omega arith) u ∙ h .unset (sym (word-same b b′ s flagStart (omega arith) (omega arith)) ∙ z) i l u;
+      leg = flag-same b b′ flagStart legStart lengthStart s (omega arith) (omega arith) (h .leg);
+      tour = flag-same b b′ tourStart cornerStart tourEnd (λ i l u. k i (omega arith) (omega arith)) (omega arith) (omega arith) (h .tour);
       kept = λ i l u. k i (omega arith) u ∙ h .kept i l u;
     }

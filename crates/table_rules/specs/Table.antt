@@ -1,31 +1,33 @@
 -- The table's bytes (docs/LAYOUT.md): the book that they hold, and the rules that they keep. Document 01, "Causes and
 -- numbers", the row of 65: "a tree rule, a rule on sites (number 0 or held twice, position off the grid, over 512),
--- the docs/ layout, the standing leg (off the grid) or the standing list's rule".
+-- the docs/ layout, the standing leg (off the grid) or the standing list's rule"; document 02, C-13, adds the tour's.
 -- Assumes nothing.
 use mathlib.Core.Path.{_≡_}
 use mathlib.Core.List.{List}
 use Prim.Native.Nat.{ℕ}
 use lib.ListN.{length}
 use Rattle.limits.specs.Limits.{tableBytes}
-use Rattle.book.specs.Book.{Book, standingList}
-use Rattle.book.specs.Proper.{LegOk}
-use Rattle.table_header.specs.Header.{legIn, HeaderOk}
+use Rattle.book.specs.Book.{Book, sitesOf, standingList}
+use Rattle.book.specs.Proper.{LegOk, TourOk}
+use Rattle.table_header.specs.Header.{legIn, tourIn, HeaderOk}
 use Rattle.table_sites.specs.Lines.{linesIn}
 use Rattle.table_sites.specs.Rules.{SitesOk}
 use Rattle.table_standing.specs.Standing.{standingIn, numbersOf}
 use Rattle.tree_check.specs.Tied.{Tied}
 
--- the book that a table holds: its site array and its standing leg
+-- the book that a table holds: its site array, its standing leg and its tour
 abbrev pub bookOf : List ℕ → Book
-bookOf b = record { lines = linesIn b; leg = legIn b }
+bookOf b = record { lines = linesIn b; leg = legIn b; tour = tourIn b }
 
--- the first half: length, sites, header and tree
+-- the first half: length, sites, header, tour and tree
 pub record Whole (b : List ℕ) : Type 0 where
   pub len : length b ≡ tableBytes
   -- "a rule on sites (number 0 or held twice, position off the grid, over 512)"
   pub sites : SitesOk b
   -- "the docs/ layout"
   pub header : HeaderOk b
+  -- "a stored corner off the grid or a remembered site that isn't held counts under 65"
+  pub tour : TourOk (tourIn b) (sitesOf (bookOf b))
   -- "a tree rule"; every held site is in one leaf entry, and there is no other
   pub tree : Tied b
 

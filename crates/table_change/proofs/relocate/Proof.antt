@@ -2,6 +2,12 @@ use Rattle.table_change.proofs.Relining.{line-few, whole-array, at-insi
 use borrow.Author.Needs.{needs}
 use Rattle.table_change.proofs.relocate.Statement.{statement}
 use Rattle.table_change.proofs.relocate.Tie as tie
+use Rattle.table_change.proofs.relocate.Reads as reads
+use Rattle.table_change.proofs.relocate.Lts as lts
+use Rattle.table_change.proofs.swap_leaf.Reads as swap-leaf-reads
+use Rattle.table_sites.proofs.change.place.Reads as place-reads
+use Rattle.table_sites.proofs.line.Reads as line-reads
+use Rattle.tree_check.proofs.leaf_entry.Reads as leaf-entry-reads
 
 line-requires : tie.Need-line-requires
 line-requires c κs = (search needs, search (needs, line-few))
