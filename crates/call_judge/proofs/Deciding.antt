@@ -15,7 +15,7 @@ use Rattle.grid.specs.Position.{OnGrid, LegOnGrid}
 use Rattle.grid.specs.Says.{Says}
 use Rattle.grid.proofs.Says.{says-yes, says-no}
 use Rattle.book.specs.declared.Cause.{Cause}
-use Rattle.book.specs.declared.Cause.the-variants.{NumberZero, OffGrid, Held, NotHeld, Full, NoSite, NoLeg}
+use Rattle.book.specs.declared.Cause.the-variants.{NumberZero, OffGrid, Held, NotHeld, Full, NoSite, NoLeg, NoTour}
 use Rattle.book.specs.declared.Command.{Command}
 use Rattle.book.specs.declared.Command.the-variants.{Add, Remove, Move, List as ListOf, Stand, Print}
 use Rattle.book.specs.Book.{sitesOf}
@@ -40,10 +40,10 @@ use Rattle.call_judge.specs.Verdict.{answerOf, IsOn, Decided, Settled, B
 -- ---- a refusal
 
 module _ (b : List ℕ) (c : Command) where
-  refusal : (x : Cause) → answer (bookOf b) c ≡ refused x → (w : List ℕ) → Decided (Verdict.Refuse x) c b w
+  pub refusal : (x : Cause) → answer (bookOf b) c ≡ refused x → (w : List ℕ) → Decided (Verdict.Refuse x) c b w
   refusal x e w = record { judged = record { said = sym e; row = tt }; found = tt; command = tt }
 
-  refused-so : (x : Cause) → answer (bookOf b) c ≡ refused x → Settled (Verdict.Refuse x) c b
+  pub refused-so : (x : Cause) → answer (bookOf b) c ≡ refused x → Settled (Verdict.Refuse x) c b
   refused-so x e = record { decided = refusal x e }
 
 -- ---- the tests of a number and a position
@@ -87,6 +87,7 @@ module _ (n : ℕ) (p : Position) (r : Tested) (h : TestedAs r n p) where
         go Full k = absurd k
         go NoSite k = absurd k
         go NoLeg k = absurd k
+        go NoTour k = absurd k
 
     pub bad-move : (x : Cause) → r ≡ Tested.Bad x → Settled (Verdict.Refuse x) (Move n p) b
     bad-move x e = refused-so b (Move n p) x (go x (bad x e))
@@ -99,6 +100,7 @@ module _ (n : ℕ) (p : Position) (r : Tested) (h : TestedAs r n p) where
         go Full k = absurd k
         go NoSite k = absurd k
         go NoLeg k = absurd k
+        go NoTour k = absurd k
 
 -- ---- changes of sites
 
@@ -176,7 +178,7 @@ module _ (b : List ℕ) (s : Site) (ok : NumberOk s) (on : OnGrid (s .position))
 shown : (b w : List ℕ) (c : Command) (l : Leg) (k : ℕ) → LegOnGrid l → ListsTable l b w k
     → answer (bookOf b) c ≡ listed (splitOf l (sitesOf (bookOf b))) → IsOn (Verdict.Show l k) c
     → Decided (Verdict.Show l k) c b w
-shown b w c l k on f e r = record { judged = record { said = ap listed (f .list) ∙ sym e; row = (on, f .held) }; found = tt; command = r }
+shown b w c l k on f e r = record { judged = record { said = ap listed (f .list) ∙ sym e; row = (on, f .held, omega arith) }; found = tt; command = r }
 
 module _ (b : List ℕ) (l : Leg) (q : Bool) (s : Says q (LegOnGrid l)) where
   pub leg-yes : q ≡ true → LegOnGrid l
@@ -230,5 +232,8 @@ module _ (b w : List ℕ) (v : Verdict) (c d : Command) (e : c ≡ d) where
 pub refuse-answer : (v : Verdict) (x : Cause) → v ≡ Verdict.Refuse x → Answer.Refused x ≡ answerOf v
 refuse-answer v x e = sym (ap answerOf e)
 
-pub show-answer : (v : Verdict) (l : Leg) (k : ℕ) → v ≡ Verdict.Show l k → Answer.Listed l k ≡ answerOf v
+pub show-answer : (v : Verdict) (l : Leg) (k : ℕ) → v ≡ Verdict.Show l k → Answer.Listed l 0 k ≡ answerOf v
 show-answer v l k e = sym (ap answerOf e)
+
+pub follow-answer : (v : Verdict) (l : Leg) (j n k : ℕ) → v ≡ Verdict.Follow l j n k → Answer.Listed l j k ≡ answerOf v
+follow-answer v l j n k e = sym (ap answerOf e)

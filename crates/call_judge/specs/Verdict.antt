@@ -3,21 +3,23 @@
 -- Assumes nothing.
 use mathlib.Core.Path.{_≡_}
 use mathlib.Core.Logic.{_≢_}
-use mathlib.Core.Bool.{true}
+use mathlib.Core.Bool.{true, cond}
 use mathlib.Core.List.{List}
 use Prim.Native.Nat.{ℕ, _<_}
 use lib.ListN.{length}
+use lib.Dec.{eqb}
 use Rattle.limits.specs.Limits.{maxSites}
 use Rattle.grid.specs.declared.Position.{Position}
 use Rattle.grid.specs.declared.Site.{Site}
 use Rattle.grid.specs.Position.{OnGrid, LegOnGrid}
 use Rattle.book.specs.declared.Command.{Command}
-use Rattle.book.specs.declared.Command.the-variants.{Add, Remove, Move, Stand}
+use Rattle.book.specs.declared.Command.the-variants.{Add, Remove, Move, Stand, Begin, Corner}
 use Rattle.book.specs.declared.Cause.{Cause}
-use Rattle.book.specs.declared.Cause.the-variants.{NumberZero, OffGrid, Held, NotHeld, Full, NoSite, NoLeg}
+use Rattle.book.specs.declared.Cause.the-variants.{NumberZero, OffGrid, Held, NotHeld, Full, NoSite, NoLeg, NoTour}
 use Rattle.book.specs.Proper.{NumberOk}
 use Rattle.book.specs.Answer.{reads}
 use Rattle.table_sites.specs.Lines.{linesIn, StandsAt, StandsNowhere}
+use Rattle.table_rules.specs.Following.{Follows}
 use Rattle.call_judge.specs.declared.Answer.{Answer}
 use Rattle.call_judge.specs.declared.Verdict.{Verdict}
 use Rattle.call_judge.specs.declared.change.Tested.{Tested}
@@ -26,11 +28,13 @@ use Rattle.call_judge.specs.Judged.{Judged}
 -- what a verdict is answered
 abbrev pub answerOf : Verdict → Answer
 answerOf (Verdict.Refuse x) = Answer.Refused x
-answerOf (Verdict.Show l k) = Answer.Listed l k
+answerOf (Verdict.Show l k) = Answer.Listed l 0 k
 answerOf (Verdict.Insert k p) = Answer.Done
 answerOf (Verdict.Delete k n) = Answer.Done
 answerOf (Verdict.Place k p) = Answer.Done
 answerOf (Verdict.Stand l) = Answer.Done
+answerOf (Verdict.Begin p) = Answer.Done
+answerOf (Verdict.Follow l j n k) = Answer.Listed l j k
 
 -- a site may be inserted before record k
 pub record Insertable (k : ℕ) (p : Site) (t : List ℕ) : Type 0 where
@@ -47,6 +51,8 @@ Findings (Verdict.Insert k p) t = Insertable k p t
 Findings (Verdict.Delete k n) t = StandsAt k n (linesIn t)
 Findings (Verdict.Place k p) t = StandsAt k (p .number) (linesIn t) × OnGrid (p .position)
 Findings (Verdict.Stand l) t = LegOnGrid l
+Findings (Verdict.Begin p) t = OnGrid p
+Findings (Verdict.Follow l j n k) t = Follows l n t
 
 -- the command that a verdict is on: any that is refused; one that changes nothing, where a list is shown; else the
 -- command itself
@@ -57,6 +63,8 @@ IsOn (Verdict.Insert k p) c = c ≡ Add (p .number) (p .position)
 IsOn (Verdict.Delete k n) c = c ≡ Remove n
 IsOn (Verdict.Place k p) c = c ≡ Move (p .number) (p .position)
 IsOn (Verdict.Stand l) c = c ≡ Stand l
+IsOn (Verdict.Begin p) c = c ≡ Begin p
+IsOn (Verdict.Follow l j n k) c = c ≡ Corner (l .e)
 
 -- the verdict on the command c: its answer is the book's, and what it says of the table is so
 pub record Decided (v : Verdict) (c : Command) (t w : List ℕ) : Type 0 where
@@ -77,8 +85,13 @@ BadFor NotHeld n p = ⊥
 BadFor Full n p = ⊥
 BadFor NoSite n p = ⊥
 BadFor NoLeg n p = ⊥
+BadFor NoTour n p = ⊥
 
 -- and what they find
 abbrev pub TestedAs : Tested → ℕ → Position → Type 0
 TestedAs (Tested.Bad x) n p = BadFor x n p
 TestedAs (Tested.Good s) n p = (s ≡ record { number = n; position = p }) × NumberOk s × OnGrid (s .position)
+
+-- how many entries are left out at the beginning of a list whose first entry names `first`, where `last` is remembered
+abbrev pub passedBy : ℕ → ℕ → ℕ
+passedBy first last = cond (eqb first last) 1 0

@@ -2,10 +2,12 @@
 // in the table its site stands or goes. Document 01, the column "Tests in order".
 pub mod change;
 pub mod list;
+pub mod tour;
 
 use book::Cause;
 use book::Command;
 use grid::Leg;
+use grid::Position;
 use grid::Site;
 ghost use mathlib.Core.Path.{_≡_};
 ghost use Prim.Native.Nat.{_≤_};
@@ -14,16 +16,17 @@ ghost use Rattle.list_row.specs.Vertices.{rowBytes};
 ghost use Rattle.table_rules.specs.Table.{Sound};
 ghost use Rattle.call_judge.specs.Verdict.{answerOf, Decided};
 
-// What the record of a command says: accepted, refused for a cause, or answered by a list, that of the leg in the
-// first so many of the row that begins the work buffer.
+// What the record of a command says: accepted, refused for a cause, or answered by a list, that of the leg in the row
+// that begins the work buffer, from one entry up to another.
 pub enum Answer {
     Done,
     Refused(Cause),
-    Listed(Leg, usize),
+    Listed(Leg, usize, usize),
 }
 
 // What is to be done, with what was found: nothing but a refusal; nothing but a list; a site inserted before a
-// record; the record of a number deleted; a record given a new position; a standing leg set.
+// record; the record of a number deleted; a record given a new position; a standing leg set; a tour begun; a tour that
+// goes on along a leg, with so many entries of its list left out, the site that ends it, and the list's length.
 pub enum Verdict {
     Refuse(Cause),
     Show(Leg, usize),
@@ -31,6 +34,8 @@ pub enum Verdict {
     Delete(u16, u16),
     Place(u16, Site),
     Stand(Leg),
+    Begin(Position),
+    Follow(Leg, u16, u16, usize),
 }
 
 // What a verdict is answered.
@@ -39,11 +44,13 @@ pub fn reply(v: Verdict) -> Answer
 {
     match v {
         Verdict::Refuse(cause) => Answer::Refused(cause),
-        Verdict::Show(leg, k) => Answer::Listed(leg, k),
+        Verdict::Show(leg, k) => Answer::Listed(leg, 0, k),
         Verdict::Insert(_, _) => Answer::Done,
         Verdict::Delete(_, _) => Answer::Done,
         Verdict::Place(_, _) => Answer::Done,
         Verdict::Stand(_) => Answer::Done,
+        Verdict::Begin(_) => Answer::Done,
+        Verdict::Follow(leg, j, _, k) => Answer::Listed(leg, j as usize, k),
     }
 }
 
@@ -59,5 +66,7 @@ pub fn judge(t: &[u8], work: &mut [u8], c: Command) -> Verdict
         Command::List(leg) => list::list(t, work, leg),
         Command::Stand(leg) => list::stand(t, leg),
         Command::Print => list::print(t, work),
+        Command::Begin(p) => tour::begin(t, p),
+        Command::Corner(p) => tour::corner(t, work, p),
     }
 }

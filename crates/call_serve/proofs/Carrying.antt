@@ -1,26 +1,33 @@
 -- A verdict, carried out: the table as the book's answer demands.
 -- Assumes nothing.
 use mathlib.Core.Path.{_≡_, ap, subst, subst⁻¹, _∙_}
-use mathlib.Core.Bool.{Bool}
+use mathlib.Core.Bool.{Bool, true, false}
 use mathlib.Core.List.{List}
 use Prim.Native.Nat.{ℕ, _+_, _≤_, _<_}
 use native.Mathlib.Omega.{arith}
 use lib.ListN.{length}
 use Rattle.limits.specs.Limits.{maxSites}
+use Rattle.words.specs.Words.{Only}
+use Rattle.words.proofs.Frame.{only-refl}
+use Rattle.grid.specs.declared.Position.{Position}
 use Rattle.grid.specs.declared.Site.{Site}
 use Rattle.grid.specs.declared.Leg.{Leg}
 use Rattle.grid.specs.Position.{OnGrid, LegOnGrid}
+use Rattle.split.specs.SplitList.{Entry}
 use Rattle.records.specs.Bytes.{write}
+use Rattle.list_row.specs.Entries.{entriesFrom}
 use Rattle.book.specs.declared.Cause.{Cause}
 use Rattle.book.specs.declared.Command.{Command}
-use Rattle.book.specs.declared.Command.the-variants.{Add, Remove, Move, Stand}
+use Rattle.book.specs.declared.Command.the-variants.{Add, Remove, Move, Stand, Begin, Corner}
 use Rattle.book.specs.Book.{change}
 use Rattle.book.specs.Proper.{NumberOk}
-use Rattle.book.specs.Reply.{Reply, done, recordOf, recordSize}
+use Rattle.book.specs.Reply.{Reply, done, listed, recordOf, recordSize}
 use Rattle.book.specs.Answer.{answer}
 use Rattle.table_sites.specs.Lines.{linesIn, StandsAt, StandsNowhere}
+use Rattle.table_header.specs.Layout.{tourStart, tourEnd}
 use Rattle.table_rules.specs.Table.{bookOf}
-use Rattle.demands.specs.Step.{Holds, Left, Step}
+use Rattle.table_rules.specs.Following.{Follows}
+use Rattle.demands.specs.Step.{Holds, Left, tours, TourAlone, Step}
 use Rattle.call_judge.specs.declared.Answer.{Answer}
 use Rattle.call_judge.specs.declared.Verdict.{Verdict}
 use Rattle.call_judge.specs.Judged.{replyOf, RowOk}
@@ -98,6 +105,20 @@ module _ (t t′ : List ℕ) (v : Verdict) where
     pub stood : Holds t′ (change (Stand l) (bookOf t)) → Carried v t t′
     stood h = subst⁻¹ (λ (y : Verdict). Carried y t t′) e h
 
+  module _ (p : Position) (e : v ≡ Verdict.Begin p) where
+    pub begin-grid : Findings v t → OnGrid p
+    begin-grid f = subst (λ (y : Verdict). Findings y t) e f
+
+    pub begun : Holds t′ (change (Begin p) (bookOf t)) × Only tourStart tourEnd t t′ → Carried v t t′
+    begun h = subst⁻¹ (λ (y : Verdict). Carried y t t′) e h
+
+  module _ (l : Leg) (j n k : ℕ) (e : v ≡ Verdict.Follow l j n k) where
+    pub follow-found : Findings v t → Follows l n t
+    follow-found f = subst (λ (y : Verdict). Findings y t) e f
+
+    pub followed : Holds t′ (change (Corner (l .e)) (bookOf t)) × Only tourStart tourEnd t t′ → Carried v t t′
+    followed h = subst⁻¹ (λ (y : Verdict). Carried y t t′) e h
+
 -- ---- the book's step
 
 module _ (c : Command) (t w t′ : List ℕ) where
@@ -105,12 +126,27 @@ module _ (c : Command) (t w t′ : List ℕ) where
   accepted-step : (d : Command) → c ≡ d → done ≡ answer (bookOf t) c → Step t d done t′ → Step t c (answer (bookOf t) c) t′
   accepted-step d e a s = subst (λ (y : Reply). Step t c y t′) a (subst⁻¹ (λ (x : Command). Step t x done t′) e s)
 
+  -- a 43 that is answered by a list, and goes on with the tour
+  listed-step : (p : Position) → c ≡ Corner p → (es : List Entry) → listed es ≡ answer (bookOf t) c
+      → Holds t′ (change (Corner p) (bookOf t)) × Only tourStart tourEnd t t′ → Step t c (answer (bookOf t) c) t′
+  listed-step p e es a s = subst (λ (y : Reply). Step t c y t′) a (subst⁻¹ (λ (x : Command). Step t x (listed es) t′) e s)
+
+  -- a table that is left
+  left-alone : t′ ≡ t → TourAlone (tours c) t t′
+  left-alone e = go (tours c)
+    where
+      go : (q : Bool) → TourAlone q t t′
+      go true = rw e only-refl
+      go false = tt
+
   -- A VERDICT DOES WHAT THE BOOK'S ANSWER DEMANDS
   pub carried-step : (v : Verdict) → Decided v c t w → Carried v t t′ → Step t c (answer (bookOf t) c) t′
-  carried-step (Verdict.Refuse x) d h = subst (λ (y : Reply). Step t c y t′) (d .judged .said) h
+  carried-step (Verdict.Refuse x) d h = subst (λ (y : Reply). Step t c y t′) (d .judged .said) (h, left-alone h)
   carried-step (Verdict.Show l k) d h =
-      subst (λ (y : Reply). Step t c y t′) (d .judged .said) (subst⁻¹ (λ (q : Bool). Left q t (change c (bookOf t)) t′) (d .command) h)
-  carried-step (Verdict.Insert k p) d h = accepted-step (Add (p .number) (p .position)) (d .command) (d .judged .said) h
-  carried-step (Verdict.Delete k n) d h = accepted-step (Remove n) (d .command) (d .judged .said) h
-  carried-step (Verdict.Place k p) d h = accepted-step (Move (p .number) (p .position)) (d .command) (d .judged .said) h
-  carried-step (Verdict.Stand l) d h = accepted-step (Stand l) (d .command) (d .judged .said) h
+      subst (λ (y : Reply). Step t c y t′) (d .judged .said) (subst⁻¹ (λ (q : Bool). Left q t (change c (bookOf t)) t′) (d .command) h, left-alone h)
+  carried-step (Verdict.Insert k p) d h = accepted-step (Add (p .number) (p .position)) (d .command) (d .judged .said) (h, tt)
+  carried-step (Verdict.Delete k n) d h = accepted-step (Remove n) (d .command) (d .judged .said) (h, tt)
+  carried-step (Verdict.Place k p) d h = accepted-step (Move (p .number) (p .position)) (d .command) (d .judged .said) (h, tt)
+  carried-step (Verdict.Stand l) d h = accepted-step (Stand l) (d .command) (d .judged .said) (h, tt)
+  carried-step (Verdict.Begin p) d h = accepted-step (Begin p) (d .command) (d .judged .said) h
+  carried-step (Verdict.Follow l j n k) d h = listed-step (l .e) (d .command) (entriesFrom l t w j k) (d .judged .said) h

@@ -12,7 +12,7 @@ use Rattle.records.specs.Bytes.{write}
 use Rattle.records.specs.ListRecord.{recordBytes, listSize}
 use Rattle.list_row.specs.Vertices.{Held}
 use Rattle.list_row.specs.Entries.{entriesFrom}
-use Rattle.list_row.proofs.Entries.{entries-length}
+use Rattle.list_row.proofs.Entries.{from-length}
 use Rattle.book.specs.declared.Cause.{Cause}
 use Rattle.book.specs.declared.Command.{Command}
 use Rattle.book.specs.Reply.{Reply, done, refused, listed, recordOf, recordSize}
@@ -32,12 +32,15 @@ module _ (a : Answer) where
   pub refusal-sized : (x : Cause) → a ≡ Answer.Refused x → Sized a 2
   refusal-sized x e = subst⁻¹ (λ (y : Answer). Sized y 2) e (λ t w. refl)
 
-  module _ (l : Leg) (k : ℕ) (e : a ≡ Answer.Listed l k) where
-    pub size-few : Few a → k ≤ maxSites
-    size-few f = subst Few e f
+  module _ (l : Leg) (j k : ℕ) (e : a ≡ Answer.Listed l j k) where
+    pub size-left : Few a → j ≤ k
+    size-left f = subst Few e f .0
 
-    pub list-sized : (r : ℕ) → r ≡ listSize k → Sized a r
-    list-sized r h = subst⁻¹ (λ (y : Answer). Sized y r) e (λ t w. h ∙ ap listSize (sym (entries-length l t w k)))
+    pub size-few : Few a → k - j ≤ maxSites
+    size-few f = let g = subst Few e f .1 in omega arith
+
+    pub list-sized : (r : ℕ) → r ≡ listSize (k - j) → Sized a r
+    list-sized r h = subst⁻¹ (λ (y : Answer). Sized y r) e (λ t w. h ∙ ap listSize (sym (from-length l t w j k)))
 
 -- a record has a byte at least
 size-some : (y : Reply) → 1 ≤ recordSize y
@@ -53,7 +56,7 @@ one-fits y at n h = let s = size-some y in omega arith
 row-few : (a : Answer) (t w : List ℕ) → RowOk a t w → Few a
 row-few Answer.Done t w r = tt
 row-few (Answer.Refused x) t w r = tt
-row-few (Answer.Listed l k) t w r = r .1 .few
+row-few (Answer.Listed l j k) t w r = (r .2, r .1 .few)
 
 module _ (a : Answer) (c : Command) (t w : List ℕ) (j : Judged a c t w) where
   pub judged-few : Few a
@@ -79,9 +82,12 @@ module _ (a : Answer) (t w rep : List ℕ) (at : ℕ) where
     pub put-refused : (rep′ : List ℕ) → rep′ ≡ write rep at (recordOf (refused x)) → rep′ ≡ write rep at (recordOf (replyOf a t w))
     put-refused = put-as (Answer.Refused x) e
 
-  module _ (l : Leg) (k : ℕ) (e : a ≡ Answer.Listed l k) where
-    pub list-fits : (n : ℕ) → at + recordSize (replyOf a t w) ≤ n → at + listSize (k - 0) ≤ n
-    list-fits n h = let s = list-sized a l k e (listSize k) refl t w in omega arith
+  module _ (l : Leg) (j k : ℕ) (e : a ≡ Answer.Listed l j k) where
+    pub list-fits : (n : ℕ) → at + recordSize (replyOf a t w) ≤ n → at + listSize (k - j) ≤ n
+    list-fits n h = let s = list-sized a l j k e (listSize (k - j)) refl t w in omega arith
+
+    pub list-left : RowOk a t w → j ≤ k
+    list-left r = subst (λ (y : Answer). RowOk y t w) e r .2
 
     pub list-held : RowOk a t w → Held l t w k
     list-held r = subst (λ (y : Answer). RowOk y t w) e r .1
@@ -89,5 +95,5 @@ module _ (a : Answer) (t w rep : List ℕ) (at : ℕ) where
     pub list-leg : RowOk a t w → LegOnGrid l
     list-leg r = subst (λ (y : Answer). RowOk y t w) e r .0
 
-    pub put-listed : (rep′ : List ℕ) → rep′ ≡ write rep at (recordBytes (entriesFrom l t w 0 k)) → rep′ ≡ write rep at (recordOf (replyOf a t w))
-    put-listed = put-as (Answer.Listed l k) e
+    pub put-listed : (rep′ : List ℕ) → rep′ ≡ write rep at (recordBytes (entriesFrom l t w j k)) → rep′ ≡ write rep at (recordOf (replyOf a t w))
+    put-listed = put-as (Answer.Listed l j k) e

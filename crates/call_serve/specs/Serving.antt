@@ -5,13 +5,15 @@ use mathlib.Core.List.{List, _++_}
 use Prim.Native.Nat.{ℕ, _≤_}
 use lib.ListN.{length, drop}
 use Rattle.limits.specs.Limits.{maxSites}
+use Rattle.words.specs.Words.{Only}
 use Rattle.records.specs.Bytes.{write}
-use Rattle.book.specs.declared.Command.the-variants.{Add, Remove, Move, Stand}
+use Rattle.book.specs.declared.Command.the-variants.{Add, Remove, Move, Stand, Begin, Corner}
 use Rattle.book.specs.declared.BatchResult.{BatchResult}
 use Rattle.book.specs.Numbers.{reasonNumber}
 use Rattle.book.specs.Book.{change}
 use Rattle.book.specs.Reply.{recordOf, recordSize}
 use Rattle.book.specs.Run.{Outcome, records, run}
+use Rattle.table_header.specs.Layout.{tourStart, tourEnd}
 use Rattle.table_rules.specs.Table.{bookOf}
 use Rattle.demands.specs.Step.{Holds, Chain}
 use Rattle.demands.specs.Batch.{returns, returnOf}
@@ -24,13 +26,13 @@ use Rattle.call_judge.specs.Verdict.{answerOf}
 abbrev pub Sized : Answer → ℕ → Type 0
 Sized a n = (t w : List ℕ) → n ≡ recordSize (replyOf a t w)
 
--- a list of no more entries than sites can be held
+-- a list of no more entries than sites can be held, and no more left out than it has
 abbrev pub Few : Answer → Type 0
 Few Answer.Done = Unit {0}
 Few (Answer.Refused x) = Unit {0}
-Few (Answer.Listed l k) = k ≤ maxSites
+Few (Answer.Listed l j k) = (j ≤ k) × (k ≤ maxSites)
 
--- what a verdict does to the table: nothing, or what the book does for its command
+-- what a verdict does to the table: nothing, or what the book does for its command; those of a tour write it alone
 abbrev pub Carried : Verdict → List ℕ → List ℕ → Type 0
 Carried (Verdict.Refuse x) t t′ = t′ ≡ t
 Carried (Verdict.Show l k) t t′ = t′ ≡ t
@@ -38,6 +40,8 @@ Carried (Verdict.Insert k p) t t′ = Holds t′ (change (Add (p .number) (p .po
 Carried (Verdict.Delete k n) t t′ = Holds t′ (change (Remove n) (bookOf t))
 Carried (Verdict.Place k p) t t′ = Holds t′ (change (Move (p .number) (p .position)) (bookOf t))
 Carried (Verdict.Stand l) t t′ = Holds t′ (change (Stand l) (bookOf t))
+Carried (Verdict.Begin p) t t′ = Holds t′ (change (Begin p) (bookOf t)) × Only tourStart tourEnd t t′
+Carried (Verdict.Follow l j n k) t t′ = Holds t′ (change (Corner (l .e)) (bookOf t)) × Only tourStart tourEnd t t′
 
 -- a verdict carried out: the table, and the record at byte `at` of the report
 pub record Obeyed (v : Verdict) (t w t′ rep : List ℕ) (at : ℕ) (rep′ : List ℕ) : Type 0 where

@@ -19,5 +19,7 @@ pub fn carry(t: &mut [u8], work: &mut [u8], v: Verdict)
         Verdict::Delete(k, n) => table_change::delete(t, work, k as usize, n),
         Verdict::Place(k, site) => table_change::place(t, work, k as usize, site),
         Verdict::Stand(leg) => table_change::stand(t, work, leg),
+        Verdict::Begin(p) => table_change::begin(t, p),
+        Verdict::Follow(leg, _, n, _) => table_change::follow(t, leg, n),
     }
 }

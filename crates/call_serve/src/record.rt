@@ -16,7 +16,7 @@ pub fn size(a: Answer) -> usize
     match a {
         Answer::Done => call_record::DONE_SIZE,
         Answer::Refused(_) => call_record::REFUSAL_SIZE,
-        Answer::Listed(_, k) => call_record::list_size(k),
+        Answer::Listed(_, j, k) => call_record::list_size(k - j),
     }
 }
 
@@ -30,8 +30,8 @@ pub fn put(t: &[u8], work: &[u8], a: Answer, report: &mut [u8], at: usize)
     match a {
         Answer::Done => call_record::put_done(report, at),
         Answer::Refused(cause) => call_record::put_refusal(cause, report, at),
-        Answer::Listed(leg, k) => {
-            call_record::put_list(t, work, leg, 0, k, report, at);
+        Answer::Listed(leg, j, k) => {
+            call_record::put_list(t, work, leg, j, k, report, at);
         }
     }
 }

@@ -2,6 +2,16 @@ use Rattle.call_judge.proofs.Deciding.{settled-decided, decided-same}
 use borrow.Author.Needs.{needs}
 use Rattle.call_judge.proofs.judge.Statement.{statement}
 use Rattle.call_judge.proofs.judge.Tie as tie
+use Rattle.call_judge.proofs.judge.Reads as reads
+use Rattle.call_judge.proofs.judge.Lts as lts
+use Rattle.call_judge.proofs.change.add.Reads as add-reads
+use Rattle.call_judge.proofs.change.place.Reads as place-reads
+use Rattle.call_judge.proofs.change.remove.Reads as remove-reads
+use Rattle.call_judge.proofs.list.list.Reads as list-reads
+use Rattle.call_judge.proofs.list.print.Reads as print-reads
+use Rattle.call_judge.proofs.list.stand.Reads as stand-reads
+use Rattle.call_judge.proofs.tour.begin.Reads as begin-reads
+use Rattle.call_judge.proofs.tour.corner.Reads as corner-reads
 
 enum-known-c : tie.Need-enum-known-c
 enum-known-c c = search needs
@@ -39,6 +49,18 @@ enum-told c = search needs
 print-requires : tie.Need-print-requires
 print-requires c κs = search needs
 
+enum-known-c-6 : tie.Need-enum-known-c-6
+enum-known-c-6 c = search needs
+
+begin-requires : tie.Need-begin-requires
+begin-requires c κs = search needs
+
+enum-known-c-7 : tie.Need-enum-known-c-7
+enum-known-c-7 c = search needs
+
+corner-requires : tie.Need-corner-requires
+corner-requires c κs = search needs
+
 returns : tie.Need-returns
 returns c = search (needs, settled-decided)
 
@@ -63,6 +85,15 @@ same-length-2 c = search needs
 returns-6 : tie.Need-returns-6
 returns-6 c = search (needs, decided-same)
 
+returns-7 : tie.Need-returns-7
+returns-7 c = search (needs, settled-decided)
+
+same-length-3 : tie.Need-same-length-3
+same-length-3 c = search needs
+
+returns-8 : tie.Need-returns-8
+returns-8 c = search (needs, decided-same)
+
 pub judge-spec : {M : Type 1} → statement M
 judge-spec =
     tie.close
@@ -79,6 +110,10 @@ judge-spec =
     stand-requires
     enum-told
     print-requires
+    enum-known-c-6
+    begin-requires
+    enum-known-c-7
+    corner-requires
     returns
     returns-2
     returns-3
@@ -86,4 +121,7 @@ judge-spec =
     returns-4
     returns-5
     same-length-2
-    returns-6)
+    returns-6
+    returns-7
+    same-length-3
+    returns-8)

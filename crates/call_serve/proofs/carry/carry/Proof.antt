@@ -1,7 +1,15 @@
-use Rattle.call_serve.proofs.Carrying.{insert-nowhere, insert-room, insert-number, insert-grid, delete-at, place-at, place-grid, stand-grid, refused-left, shown-left, inserted, deleted, placed, stood}
+use Rattle.call_serve.proofs.Carrying.{insert-nowhere, insert-room, insert-number, insert-grid, delete-at, place-at, place-grid, stand-grid, begin-grid, follow-found, refused-left, shown-left, inserted, deleted, placed, stood, begun, followed}
 use borrow.Author.Needs.{needs}
 use Rattle.call_serve.proofs.carry.carry.Statement.{statement}
 use Rattle.call_serve.proofs.carry.carry.Tie as tie
+use Rattle.call_serve.proofs.carry.carry.Reads as reads
+use Rattle.call_serve.proofs.carry.carry.Lts as lts
+use Rattle.table_change.proofs.begin.Reads as begin-reads
+use Rattle.table_change.proofs.delete.Reads as delete-reads
+use Rattle.table_change.proofs.follow.Reads as follow-reads
+use Rattle.table_change.proofs.insert.Reads as insert-reads
+use Rattle.table_change.proofs.place.Reads as place-reads
+use Rattle.table_change.proofs.stand.Reads as stand-reads
 
 enum-told : tie.Need-enum-told
 enum-told c = search needs
@@ -41,6 +49,18 @@ enum-known-v-4 c = search needs
 
 stand-requires : tie.Need-stand-requires
 stand-requires c κs = (search needs, search (needs, stand-grid), search needs)
+
+enum-known-v-5 : tie.Need-enum-known-v-5
+enum-known-v-5 c = search needs
+
+begin-requires : tie.Need-begin-requires
+begin-requires c κs = (search needs, search (needs, begin-grid))
+
+enum-known-v-6 : tie.Need-enum-known-v-6
+enum-known-v-6 c = search needs
+
+follow-requires : tie.Need-follow-requires
+follow-requires c κs = (search needs, search (needs, follow-found))
 
 returns : tie.Need-returns
 returns c = search (needs, refused-left)
@@ -84,6 +104,18 @@ same-length-8 c = search needs
 returns-6 : tie.Need-returns-6
 returns-6 c = search (needs, stood)
 
+same-length-9 : tie.Need-same-length-9
+same-length-9 c = search needs
+
+returns-7 : tie.Need-returns-7
+returns-7 c = search (needs, begun)
+
+same-length-10 : tie.Need-same-length-10
+same-length-10 c = search needs
+
+returns-8 : tie.Need-returns-8
+returns-8 c = search (needs, followed)
+
 pub carry-spec : {M : Type 1} → statement M
 carry-spec =
     tie.close
@@ -101,6 +133,10 @@ carry-spec =
     place-requires
     enum-known-v-4
     stand-requires
+    enum-known-v-5
+    begin-requires
+    enum-known-v-6
+    follow-requires
     returns
     returns-2
     same-length
@@ -114,4 +150,8 @@ carry-spec =
     returns-5
     same-length-7
     same-length-8
-    returns-6)
+    returns-6
+    same-length-9
+    returns-7
+    same-length-10
+    returns-8)

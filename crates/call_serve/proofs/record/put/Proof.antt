@@ -1,7 +1,12 @@
-use Rattle.call_serve.proofs.Recording.{one-fits, put-done, refusal-fits, put-refused, list-fits, list-held, list-leg, put-listed}
+use Rattle.call_serve.proofs.Recording.{one-fits, put-done, refusal-fits, put-refused, list-fits, list-held, list-leg, list-left, put-listed}
 use borrow.Author.Needs.{needs}
 use Rattle.call_serve.proofs.record.put.Statement.{statement}
 use Rattle.call_serve.proofs.record.put.Tie as tie
+use Rattle.call_serve.proofs.record.put.Reads as reads
+use Rattle.call_serve.proofs.record.put.Lts as lts
+use Rattle.call_record.proofs.put_done.Reads as put-done-reads
+use Rattle.call_record.proofs.put_list.Reads as put-list-reads
+use Rattle.call_record.proofs.put_refusal.Reads as put-refusal-reads
 
 enum-told : tie.Need-enum-told
 enum-told c = search needs
@@ -19,7 +24,7 @@ enum-known-a-2 : tie.Need-enum-known-a-2
 enum-known-a-2 c = search needs
 
 put-list-requires : tie.Need-put-list-requires
-put-list-requires c κs = (search (needs, list-held), search (needs, list-leg), search needs, search (needs, list-fits))
+put-list-requires c κs = (search (needs, list-held), search (needs, list-leg), search (needs, list-left), search (needs, list-fits))
 
 same-length : tie.Need-same-length
 same-length c = search needs
