@@ -22,7 +22,7 @@ use Rattle.demands.specs.Batch.LaidOut.{wrong as not-laid, laid}
 use Rattle.demands.specs.Whole.{Call, MadeOn}
 use Rattle.demands.specs.Demands.{runOf, Kept, Demand1, Demand1Laid}
 use Rattle.demands.proofs.Reasons.{same-reason}
-use Rattle.demands.proofs.Chains.{chain-holds, chain-kept}
+use Rattle.demands.proofs.Chains.{chain-holds, chain-kept, chain-toured}
 use Rattle.demands.proofs.WholeRun.{is-wrong, is-broken, is-served}
 
 -- ---- numbers and reasons
@@ -98,6 +98,7 @@ module _ (t t′ : List ℕ) (c : Call) (s : Sound t) (v : Served (runOf t c) t 
         holds = rw (e .book) (chain-holds t s (runOf t c .turns) t′ (v .table));
         cleared = v .work;
         kept = λ n. chain-kept t (runOf t c .turns) t′ n (v .table);
+        tour-alone = λ n. chain-toured t (runOf t c .turns) t′ n (v .table);
       }
 
 -- ---- any call

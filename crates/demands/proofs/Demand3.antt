@@ -190,7 +190,7 @@ filled-is b ok fs f =
 -- a list depends on the lines alone
 by-lines : (l : Leg) (b d : Book) → b .lines ≡ d .lines → answer b (ListOf l) ≡ answer d (ListOf l)
 unfolding answer
-by-lines l b d e = ap (λ (s : List Site). answer (record { lines = s; leg = none }) (ListOf l)) e
+by-lines l b d e = ap (λ (s : List Site). answer (record { lines = s; leg = none; tour = none }) (ListOf l)) e
 
 fresh-is : (b : Book) (t′ : List ℕ) → Holds t′ b → Proper b → (fs : List Call) (u′ : List ℕ) → Ran fs u′ → FreshOf b fs → (l : Leg) → LegOnGrid l
     → (c d : Call) (t″ u″ : List ℕ) → Asks t′ (list4C l) c t″ → Asks u′ (list4C l) d u″

@@ -7,9 +7,12 @@ pub mod Printing
 pub mod Demand1
 pub mod Demand2
 pub mod Demand3
+pub mod Tours
 pub mod Ties
 pub mod Demands
 pub mod WorkBuffer
 pub mod Starred
 pub mod Edges
+pub mod TourLines
 pub mod ByNumber
+pub mod TourRules

@@ -53,4 +53,4 @@ pub record EarlierTable (t : List ℕ) (c : Call) (t′ : List ℕ) : Type 0 whe
 
 -- document 01's case, with this standing leg: "2 (3,4), 5 (3,-4)"
 abbrev pub twoAndFive : Leg → Book
-twoAndFive l = record { lines = site 2 (at 3 4) ∷ site 5 (atSouth 3 4) ∷ []; leg = some l }
+twoAndFive l = record { lines = site 2 (at 3 4) ∷ site 5 (atSouth 3 4) ∷ []; leg = some l; tour = none }

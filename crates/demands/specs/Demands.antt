@@ -1,16 +1,18 @@
--- THE DEMANDS over the definitions of the calls (Batch.antt): of one call, of one list, of a whole list of calls;
--- last, each of them for every call or list of calls (`Demands`), which is what is proved.
+-- THE DEMANDS over the definitions of the calls (Batch.antt): of one call, of one list, of a whole list of calls, of
+-- the tours in it; last, each of them for every call or list of calls (`Demands`), which is what is proved.
 -- Assumes nothing.
 use mathlib.Core.Path.{_≡_}
 use mathlib.Core.Logic.{_≢_, _⊎_}
 use mathlib.Core.Option.{Option, none, some}
-use mathlib.Core.Bool.{Bool, true, false}
+use mathlib.Core.Bool.{Bool, true, false, _||_}
 use mathlib.Core.List.{List, [], _∷_, _++_, map, List·Memᴰ}
 use Prim.Native.Nat.{ℕ, _+_, _*_, _≤_}
 use native.Mathlib.Decide.{decLe}
 use lib.ListN.{length, drop}
 use lib.Dec.{eqb}
 use Rattle.limits.specs.Limits.{maxNumber, tableBytes, workBytes}
+use Rattle.words.specs.Words.{Only}
+use Rattle.grid.specs.declared.Position.{Position}
 use Rattle.grid.specs.declared.Site.{Site}
 use Rattle.grid.specs.declared.Leg.{Leg}
 use Rattle.grid.specs.declared.Fraction.{Fraction}
@@ -22,21 +24,24 @@ use Rattle.split.specs.SplitOf.{splitOf}
 use Rattle.records.specs.ListRecord.{recordBytes}
 use Rattle.records.specs.Decode.{Listed, listedOf, readRecord}
 use Rattle.book.specs.declared.Command.{Command}
-use Rattle.book.specs.declared.Command.the-variants.{Add, Remove, List as ListOf, Print}
+use Rattle.book.specs.declared.Command.the-variants.{Add, Remove, List as ListOf, Print, Corner}
 use Rattle.book.specs.declared.Reason.{Reason}
 use Rattle.book.specs.Numbers.{reasonNumber}
+use Rattle.book.specs.Tour.{Tour, legTo}
 use Rattle.book.specs.Book.{Book, emptyBook, sitesOf, standingList}
 use Rattle.book.specs.Encode.{commandBytes}
 use Rattle.permutation.specs.Perm.{Perm}
 use Rattle.book.specs.Proper.{NumberOk}
 use Rattle.book.specs.Reply.{listed, recordOf}
-use Rattle.book.specs.Answer.{answer, legAsked}
+use Rattle.book.specs.Answer.{answer, legAsked, shownBy}
 use Rattle.book.specs.Run.{Turn, Outcome, records, run, afterAll, StopsFor}
+use Rattle.book.specs.Listener.{Exchange, heardLeg, bookHeard, tourHeard, LegTold}
 use Rattle.table_rules.specs.Table.{Sound, bookOf}
+use Rattle.table_header.specs.Layout.{tourStart, tourEnd}
 use Rattle.table_empty.specs.EmptyTable.{zeros, emptyTable}
-use Rattle.demands.specs.Step.{Holds, keeps}
+use Rattle.demands.specs.Step.{Holds, keeps, tours}
 use Rattle.demands.specs.Batch.{returns, lengthsOk, LaidOut}
-use Rattle.demands.specs.Whole.{Call, MadeOn, Made, Ran, said, asked, replies, bookOfRun}
+use Rattle.demands.specs.Whole.{Call, MadeOn, Made, Ran, said, asked, replies, bookOfRun, heardOfRun}
 use Rattle.demands.specs.Whole.{Filled, Asks, HasRoom, WroteReport}
 
 -- ---- demand 1: no call brings it down
@@ -49,6 +54,11 @@ runOf t c = run (c .commands) (length (c .report)) (bookOf t)
 abbrev pub AllKeep : List Turn → Type 0
 AllKeep [] = Unit {0}
 AllKeep (u ∷ us) = (keeps (u .command) (u .reply) ≡ true) × AllKeep us
+
+-- none of them changed more than the tour: each was refused, changes nothing, or is a 42 or a 43
+abbrev pub AllTour : List Turn → Type 0
+AllTour [] = Unit {0}
+AllTour (u ∷ us) = ((keeps (u .command) (u .reply) || tours (u .command)) ≡ true) × AllTour us
 
 -- a call that takes commands ends with 0, 66, 67 or 68: with the number of this reason, under that reason's
 -- condition and no other (StopsFor)
@@ -77,6 +87,8 @@ pub record Kept (t : List ℕ) (c : Call) (t′ : List ℕ) : Type 0 where
   pub holds : Holds t′ (runOf t c .book)
   -- "Left as it was: table": a call without an accepted change leaves every byte of it
   pub kept : AllKeep (runOf t c .turns) → t′ ≡ t
+  -- and one without another accepted change than 42 and 43 leaves every byte but those of the tour
+  pub tour-alone : AllTour (runOf t c .turns) → Only tourStart tourEnd t t′
 
 -- DEMAND 1 of a batch call on any bytes: t and t′ are the table before and after.
 pub record Demand1 (t : List ℕ) (c : Call) (t′ : List ℕ) : Type 0 where
@@ -148,19 +160,24 @@ pub record Answers (t : List ℕ) (c : Call) (past : List Turn) (u : Turn) : Typ
   pub behind : List Turn
   pub turns : runOf t c .turns ≡ past ++ (u ∷ behind)
 
--- a turn that was answered by the list es, on the book b that the turns before it left: the leg that its command
--- asks for, and that list is right and was printed
+-- a turn that was answered by the list es, on the book b that the turns before it left: the leg that its command k
+-- asks for; the list of that leg is right, and what k shows of it was printed
 pub record ListedRight (c : Call) (b : Book) (past : List Turn) (k : Command) (es : List Entry) : Type 0 where
   pub leg : Leg
   pub asked : legAsked b k ≡ some leg
-  pub list : RightList leg (sitesOf b) es
+  pub whole : List Entry
+  pub list : RightList leg (sitesOf b) whole
+  -- all of it, but for the first entry that a 43 may leave out
+  pub shown : es ≡ shownBy b k whole
   pub printed : Printed c (records past) (recordBytes es)
+  pub read : readRecord (recordBytes es) ≡ map listedOf es
 
--- the list of the leg l over the sites of the book then is right, and was printed behind the records of o
-abbrev pub GivesList : Call → Leg → Outcome → Type 0
-GivesList c l o =
+-- the list of the leg l over the sites of the book then is right, and what k shows of it was printed behind the
+-- records of o
+abbrev pub GivesList : Call → Command → Leg → Outcome → Type 0
+GivesList c k l o =
     RightList l (sitesOf (o .book)) (splitOf l (sitesOf (o .book)))
-    × Printed c (records (o .turns)) (recordBytes (splitOf l (sitesOf (o .book))))
+    × Printed c (records (o .turns)) (recordBytes (shownBy (o .book) k (splitOf l (sitesOf (o .book)))))
 
 -- DEMAND 2 of a call that takes commands, on whatever sound table t.
 pub record Demand2 (t : List ℕ) (c : Call) : Type 0 where
@@ -169,10 +186,13 @@ pub record Demand2 (t : List ℕ) (c : Call) : Type 0 where
       → ListedRight c (afterAll (bookOf t) past) past (u .command) es
   -- a leg on the grid gets its list whenever a site is held and the report has room
   pub given : (l : Leg) (o : Outcome) → ComesTo t c (ListOf l) o → LegOnGrid l → sitesOf (o .book) ≢ []
-      → GivesList c l o
+      → GivesList c (ListOf l) l o
   -- and so does the standing leg
   pub given-standing : (l : Leg) (o : Outcome) → ComesTo t c Print o → o .book .leg ≡ some l
-      → sitesOf (o .book) ≢ [] → GivesList c l o
+      → sitesOf (o .book) ≢ [] → GivesList c Print l o
+  -- and the next leg of a tour
+  pub given-corner : (p : Position) (k : Tour) (o : Outcome) → ComesTo t c (Corner p) o → o .book .tour ≡ some k
+      → OnGrid p → sitesOf (o .book) ≢ [] → GivesList c (Corner p) (legTo k p) o
 
 -- ---- demand 3: shape does not matter
 
@@ -296,6 +316,15 @@ pub record Alike (cs ds : List Call) (t′ u′ : List ℕ) : Type 0 where
   pub sound : Sound t′ × Sound u′
   pub book : bookOf t′ ≡ bookOf u′
 
+-- ---- tours
+
+-- THE PROMISE OF TOURS, of the calls cs made on a table just laid out: of every 43 that was answered, wherever it
+-- stands among what was heard of the calls. `past` is all that was heard before it, in this call and in those before
+abbrev pub ToursTold : List Call → Type 0
+ToursTold cs =
+    (past later : List Exchange) (p : Position) (es : List Listed) → heardOfRun cs ≡ past ++ (heardLeg p es ∷ later)
+    → LegTold (bookHeard past) (tourHeard past) p es
+
 -- ---- all of them
 
 -- THE DEMANDS, of every call, every laying out, every call that takes commands, and every list of calls on a table
@@ -305,4 +334,5 @@ pub record Demands : Type 0 where
   pub laying-out : (t : List ℕ) (r : ℕ) (t′ : List ℕ) → LaidOut t r t′ → Demand1Laid t r t′
   pub two : (t : List ℕ) (c : Call) (t′ : List ℕ) → IsServed t c t′ → Demand2 t c
   pub three : (cs : List Call) (t′ : List ℕ) → Ran cs t′ → Demand3 cs t′
+  pub tours : (cs : List Call) (t′ : List ℕ) → Ran cs t′ → ToursTold cs
   pub choices : (t u : List ℕ) (cs ds : List Call) (t′ u′ : List ℕ) → AskedAlike t u cs ds t′ u′ → Alike cs ds t′ u′

@@ -20,8 +20,8 @@ position e n = bytes2 e ++ bytes2 n
 abbrev pub middle : List ℕ
 middle = position 0 0
 
--- every command that has a position: site 7 is added at p and moved to it, then come legs from p and to p, and
--- standing legs from p and to p
+-- every command that has a position: site 7 is added at p and moved to it, then come legs from p and to p, standing
+-- legs from p and to p, a tour that begins at p, and a tour from the middle to p (C-13)
 abbrev pub commandsAt : List ℕ → List ℕ
 commandsAt p =
     (0x41 ∷ bytes2 7 ++ p)
@@ -30,14 +30,20 @@ commandsAt p =
     ++ (0x4C ∷ middle ++ p)
     ++ (0x53 ∷ p ++ middle)
     ++ (0x53 ∷ middle ++ p)
+    ++ (0x42 ∷ p)
+    ++ (0x42 ∷ middle)
+    ++ (0x43 ∷ p)
 
 -- on the grid each is accepted, or lists site 7
 abbrev pub taken : List ℕ
-taken = 0x2B ∷ 0x2B ∷ oneEntry (sinceBytes 7 0 1) ++ oneEntry (sinceBytes 7 0 1) ++ (0x2B ∷ 0x2B ∷ [])
+taken =
+    0x2B ∷ 0x2B ∷ oneEntry (sinceBytes 7 0 1) ++ oneEntry (sinceBytes 7 0 1)
+    ++ (0x2B ∷ 0x2B ∷ 0x2B ∷ 0x2B ∷ oneEntry (sinceBytes 7 0 1))
 
--- off it each gets 2
+-- off it each gets 2; the tour from the middle does begin
 abbrev pub refused2 : List ℕ
-refused2 = 0x21 ∷ 2 ∷ 0x21 ∷ 2 ∷ 0x21 ∷ 2 ∷ 0x21 ∷ 2 ∷ 0x21 ∷ 2 ∷ 0x21 ∷ 2 ∷ []
+refused2 =
+    0x21 ∷ 2 ∷ 0x21 ∷ 2 ∷ 0x21 ∷ 2 ∷ 0x21 ∷ 2 ∷ 0x21 ∷ 2 ∷ 0x21 ∷ 2 ∷ 0x21 ∷ 2 ∷ 0x2B ∷ 0x21 ∷ 2 ∷ []
 
 -- so far from the middle to the east, the west, the north and the south
 abbrev pub sides : ℕ → List (List ℕ)

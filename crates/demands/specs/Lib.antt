@@ -5,4 +5,6 @@ pub mod Demands
 pub mod WorkBuffer
 pub mod Starred
 pub mod Edges
+pub mod TourLines
 pub mod ByNumber
+pub mod TourRules

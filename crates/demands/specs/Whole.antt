@@ -10,6 +10,7 @@ use Rattle.book.specs.Numbers.{reasonNumber}
 use Rattle.book.specs.Book.{Book, emptyBook}
 use Rattle.book.specs.Encode.{additions}
 use Rattle.book.specs.Run.{Outcome, records, call}
+use Rattle.book.specs.Listener.{Exchange, hearRecords, commandsIn}
 use Rattle.demands.specs.Batch.{Return, Batch, LaidOut}
 
 -- a batch call as it was made and as it returned
@@ -100,6 +101,15 @@ bookAfter b (a ∷ more) = bookAfter (taken a b .book) more
 -- the book after the calls, from laying out on
 abbrev pub bookOfRun : List Call → Book
 bookOfRun cs = bookAfter emptyBook (map asked cs)
+
+-- what a listener hears of a call: the commands in the bytes that it used, and the records that it wrote, read back
+abbrev pub heardIn : Call → List Exchange
+heardIn c = hearRecords (commandsIn (c .commands) (c .result .used)) (said c .bytes)
+
+-- of a list of calls, one after the other
+unfoldable pub heardOfRun : List Call → List Exchange
+heardOfRun [] = []
+heardOfRun (c ∷ cs) = heardIn c ++ heardOfRun cs
 
 -- "given a 41 for each line of the book, in any order and any batches with room for the records":
 -- the asks are additions of these sites and nothing else, with a work buffer of the right length
