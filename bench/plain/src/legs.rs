@@ -41,19 +41,43 @@ impl Length {
             },
         }
     }
+
+    /// The corners of a tour of so many legs. From the grid's middle there is a leg of half its width,
+    /// and not of much more.
+    pub fn tour(self, random: &mut Random, legs: usize) -> Vec<Position> {
+        let mut corners = vec![anywhere(random)];
+        while corners.len() <= legs {
+            let last = corners[corners.len() - 1];
+            let next = match self {
+                Length::Of(steps) => away(random, last, steps),
+                Length::UpTo(steps) => {
+                    let steps = random.between(0, steps);
+                    away(random, last, steps)
+                }
+                Length::Any => anywhere(random),
+            };
+            corners.extend(next.on_grid().then_some(next));
+        }
+        corners
+    }
 }
 
 /// So many steps in a random direction, rounded to the grid; drawn again where it ends off it.
 fn leg_of(random: &mut Random, steps: i64) -> Leg {
-    let along = |part: f64| (part * steps as f64).round() as i64;
     loop {
         let s = anywhere(random);
-        let (east, north) = direction(random);
-        let e = Position::new(s.east + along(east), s.north + along(north));
+        let e = away(random, s, steps);
         if e.on_grid() {
             return Leg { s, e };
         }
     }
+}
+
+/// So many steps from there, rounded to the grid; it may be off it.
+fn away(random: &mut Random, from: Position, steps: i64) -> Position {
+    let along = |part: f64| (part * steps as f64).round() as i64;
+    let (east, north) = direction(random);
+    Position::new(from.east + along(east), from.north + along(north))
 }
 
 pub fn anywhere(random: &mut Random) -> Position {

@@ -39,3 +39,21 @@ pub fn put(count: usize, vertex: impl Fn(usize) -> Vertex, report: &mut [u8]) ->
     }
     length
 }
+
+/// The same without the first vertex's entry.
+pub fn put_but_first(count: usize, vertex: impl Fn(usize) -> Vertex, report: &mut [u8]) -> usize {
+    let length = 3 + ENTRY_LEN * (count - 1);
+    let Some(record) = report.get_mut(..length) else {
+        return 0;
+    };
+    record[0] = LISTED;
+    record[1..3].copy_from_slice(&((count - 1) as u16).to_le_bytes());
+    for (i, entry) in record[3..].chunks_exact_mut(ENTRY_LEN).enumerate() {
+        let q = vertex(i + 1);
+        let (numerator, denominator) = start(vertex(i), q);
+        entry[..2].copy_from_slice(&q.site.number.to_le_bytes());
+        entry[2..6].copy_from_slice(&numerator.to_le_bytes());
+        entry[6..].copy_from_slice(&denominator.to_le_bytes());
+    }
+    length
+}

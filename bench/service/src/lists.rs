@@ -19,9 +19,9 @@ use std::hint::black_box;
 
 /// A table, its sites as a plain array, and legs to be listed.
 pub struct Task {
-    calls: Calls,
-    sites: Vec<Site>,
-    legs: Vec<Leg>,
+    pub calls: Calls,
+    pub sites: Vec<Site>,
+    pub legs: Vec<Leg>,
 }
 
 impl AsRef<Calls> for Task {
@@ -95,17 +95,17 @@ impl<L: Lister> Program<Task> for Plain<L> {
 }
 
 /// The service and the programs in plain Rust.
-struct Programs {
-    together: Together,
-    singly: Singly,
-    wrap: Plain<Wrap>,
-    kept: Plain<Kept>,
-    hull: Plain<Hull>,
+pub struct Programs {
+    pub together: Together,
+    pub singly: Singly,
+    pub wrap: Plain<Wrap>,
+    pub kept: Plain<Kept>,
+    pub hull: Plain<Hull>,
 }
 
 impl Programs {
     /// For tasks of so many legs.
-    fn new(legs: usize) -> Self {
+    pub fn new(legs: usize) -> Self {
         Programs {
             together: Together::new(legs),
             singly: Singly::new(),
@@ -116,7 +116,7 @@ impl Programs {
     }
 
     /// The bytes of the task's records. Fails if not all write the same.
-    fn compare(&mut self, task: &Task) -> usize {
+    pub fn compare(&mut self, task: &Task) -> usize {
         let (_, report) = self.together.outcome(&task.calls);
         assert!(report == self.wrap.records(task), "gift wrapping differs");
         assert!(report == self.kept.records(task), "kept distances differ");
@@ -147,8 +147,12 @@ pub fn measure(tasks: &[Task], repeats: usize) -> (Times, f64) {
         kept,
         hull,
     } = &mut programs;
-    let listed = (tasks.len() * legs) as f64;
-    let entries = (written as f64 / listed - 3.0) / ENTRY_LEN as f64;
+    let entries = entries(written, tasks.len() * legs);
     let times = take(repeats, tasks, [together, singly, wrap, kept, hull]);
     (Times::of(times.map(|time| time / legs as f64)), entries)
+}
+
+/// The mean number of entries in so many records of so many bytes.
+pub fn entries(written: usize, records: usize) -> f64 {
+    (written as f64 / records as f64 - 3.0) / ENTRY_LEN as f64
 }

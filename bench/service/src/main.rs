@@ -15,6 +15,7 @@ mod machine;
 mod sites;
 mod targets;
 mod times;
+mod tours;
 
 use changes::Change;
 use fixed::Fixed;
@@ -58,6 +59,14 @@ const LENGTHS: [Length; 8] = [
     Length::Of(ACROSS),
 ];
 
+/// The legs of a tour; from the grid's middle none is much longer than half its width.
+const TOURS: [Length; 4] = [
+    Length::Of(500),
+    Length::UpTo(SHORT),
+    Length::Of(8_000),
+    Length::Of(HALF_WIDTH),
+];
+
 fn print_head() {
     println!("Machine: {}.", machine::name());
     println!(
@@ -97,6 +106,31 @@ fn legs(random: &mut Random, targets: &mut Targets) {
             times.print(&format!("{sites} sites, {name} ({entries:.1} entries)"));
             if let Some((wrap, hull)) = leg_target(sites, length) {
                 targets.faster(&format!("{sites} sites, a leg {name}"), &times, wrap, hull);
+            }
+        }
+    }
+}
+
+/// Their own random numbers, so that the other rows have the same as without these.
+fn tours(targets: &mut Targets) {
+    println!();
+    Times::print_head("a leg of a tour, its record written", LEGS);
+    let mut random = Random::new(59);
+    for sites in [64, MOST_SITES] {
+        for length in TOURS {
+            let task = |_| tours::Task::anywhere(&mut random, sites, length, LEGS);
+            let tasks: Vec<_> = (0..TABLES).map(task).collect();
+            let [by_43, by_4c] = tours::measure(&tasks, REPEATS);
+            let name = length.name();
+            let first = format!("{sites} sites, {name} ({:.1} entries)", by_43.entries);
+            by_43.times.print(&first);
+            let again = format!("  the same by 4C ({:.1} entries)", by_4c.entries);
+            by_4c.times.print(&again);
+            if sites == MOST_SITES {
+                let what = format!("{sites} sites, a tour's leg {name}");
+                targets.beside(&what, &by_43.times);
+                let ratio = by_4c.times.together / by_43.times.together;
+                targets.show(&what, "4C of the same leg", ratio);
             }
         }
     }
@@ -178,6 +212,7 @@ fn fixed(random: &mut Random, targets: &mut Targets) {
 
 fn main() {
     lists::compare_at_ties();
+    tours::compare_at_ties();
     print_head();
     let mut random = Random::new(47);
     let mut targets = Targets::default();
@@ -185,6 +220,7 @@ fn main() {
     worst(&mut random, &mut targets);
     changes(&mut random, &mut targets);
     fixed(&mut random, &mut targets);
+    tours(&mut targets);
     println!();
     println!("Targets, many a call; a leg in which a call is counted is one up to {SHORT} steps.");
     targets.print();

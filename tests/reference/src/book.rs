@@ -1,4 +1,5 @@
-//! The site book of document 01 ("The site book", "Causes and numbers").
+//! The site book of document 01 ("The site book", "Causes and numbers"), with the tour of document
+//! 02, C-13.
 //!
 //! The book has no table, so it never answers 65; a table of wrong length is not its matter.
 
@@ -28,6 +29,7 @@ pub enum Cause {
     TableFull = 5,
     NoSite = 6,
     NoStandingLeg = 7,
+    NoTour = 8,
 }
 
 #[derive(Clone, Debug, PartialEq, Eq)]
@@ -39,11 +41,38 @@ pub struct Reply {
     pub report: Vec<u8>,
 }
 
-/// Lines by number, and the standing leg or none.
+/// A tour under way.
+#[derive(Clone, Copy, Debug, PartialEq, Eq)]
+pub struct Tour {
+    /// The last one.
+    pub corner: Position,
+    /// "the site that ended the previous leg's whole list in this tour"; none before its first leg.
+    pub remembered: Option<u16>,
+}
+
+impl Tour {
+    pub fn begun(corner: Position) -> Self {
+        Tour {
+            corner,
+            remembered: None,
+        }
+    }
+
+    /// "the leg from the last corner to this one"
+    pub fn leg_to(&self, corner: Position) -> Leg {
+        Leg {
+            s: self.corner,
+            e: corner,
+        }
+    }
+}
+
+/// Lines by number, the standing leg or none, and the tour or none.
 #[derive(Clone, Debug, Default, PartialEq, Eq)]
 pub struct Book {
     pub lines: BTreeMap<u16, Position>,
     pub leg: Option<Leg>,
+    pub tour: Option<Tour>,
 }
 
 impl Book {
@@ -52,11 +81,12 @@ impl Book {
         Book::default()
     }
 
-    /// With these lines and this leg.
+    /// With these lines and this leg, and without a tour.
     pub fn of(sites: &[Site], leg: Option<Leg>) -> Self {
         let line = |site: &Site| (site.number, site.position);
         let lines = sites.iter().map(line).collect();
-        Book { lines, leg }
+        let tour = None;
+        Book { lines, leg, tour }
     }
 
     pub fn sites(&self) -> Vec<Site> {
@@ -141,19 +171,29 @@ impl Book {
             Cause::TableFull => self.lines.len() >= MOST_SITES,
             Cause::NoSite => self.lines.is_empty(),
             Cause::NoStandingLeg => self.leg.is_none(),
+            Cause::NoTour => self.tour.is_none(),
         }
     }
 
     /// The record of a command that no test refuses.
     fn record(&self, command: &Command) -> Record {
         match *command {
-            Command::Add(_) | Command::Remove(_) | Command::Move(_) | Command::Stand(_) => {
-                Record::Accepted
-            }
+            Command::Add(_) | Command::Remove(_) | Command::Move(_) => Record::Accepted,
+            Command::Stand(_) | Command::Begin(_) => Record::Accepted,
             Command::List(leg) => Record::List(self.split_list(&leg)),
             Command::Print => {
                 let leg = self.leg.expect("test 7 asks for a standing leg");
                 Record::List(self.split_list(&leg))
+            }
+            Command::Corner(corner) => {
+                let tour = self.tour.expect("test 8 asks for a tour");
+                let mut list = self.split_list(&tour.leg_to(corner));
+                // "leaves out the list's first entry if that names the site ..."
+                let first = list.first().map(|entry| entry.site);
+                if tour.remembered.is_some() && tour.remembered == first {
+                    list.remove(0);
+                }
+                Record::List(list)
             }
         }
     }
@@ -162,12 +202,25 @@ impl Book {
         match *command {
             Command::Add(site) | Command::Move(site) => {
                 self.lines.insert(site.number, site.position);
+                self.tour = None;
             }
             Command::Remove(number) => {
                 self.lines.remove(&number);
+                self.tour = None;
             }
             Command::Stand(leg) => self.leg = Some(leg),
             Command::List(_) | Command::Print => {}
+            Command::Begin(corner) => self.tour = Some(Tour::begun(corner)),
+            Command::Corner(corner) => self.tour = self.tour.map(|tour| self.went_on(tour, corner)),
+        }
+    }
+
+    /// The tour with this as its last corner.
+    fn went_on(&self, tour: Tour, corner: Position) -> Tour {
+        let whole = self.split_list(&tour.leg_to(corner));
+        Tour {
+            corner,
+            remembered: whole.last().map(|entry| entry.site),
         }
     }
 
@@ -182,7 +235,7 @@ impl Book {
     }
 }
 
-/// The last column of document 01's table of commands.
+/// The last column of document 01's table of commands; of 42 and 43 what document 02, C-13, says.
 fn tests_in_order(command: &Command) -> &'static [Cause] {
     use Cause::*;
     match command {
@@ -192,5 +245,7 @@ fn tests_in_order(command: &Command) -> &'static [Cause] {
         Command::List(_) => &[OffGrid, NoSite],
         Command::Stand(_) => &[OffGrid],
         Command::Print => &[NoStandingLeg, NoSite],
+        Command::Begin(_) => &[OffGrid],
+        Command::Corner(_) => &[NoTour, OffGrid, NoSite],
     }
 }

@@ -1,4 +1,5 @@
-//! The six commands of document 01 ("Buffers and batches") and their bytes.
+//! The six commands of document 01 ("Buffers and batches"), the two of document 02, C-13, and their
+//! bytes.
 
 use crate::grid::{Leg, Position, Site};
 
@@ -8,6 +9,9 @@ pub const MOVE: u8 = 0x4D;
 pub const LIST: u8 = 0x4C;
 pub const STAND: u8 = 0x53;
 pub const PRINT: u8 = 0x50;
+/// Document 02, C-13.
+pub const BEGIN: u8 = 0x42;
+pub const CORNER: u8 = 0x43;
 
 #[derive(Clone, Copy, Debug, PartialEq, Eq)]
 pub enum Command {
@@ -17,6 +21,10 @@ pub enum Command {
     List(Leg),
     Stand(Leg),
     Print,
+    /// Begins a tour there.
+    Begin(Position),
+    /// Lists the tour's leg from its last corner to there.
+    Corner(Position),
 }
 
 /// Why no command can be read.
@@ -33,6 +41,7 @@ impl Command {
             Command::Add(site) | Command::Move(site) => Some(site.number),
             Command::Remove(number) => Some(number),
             Command::List(_) | Command::Stand(_) | Command::Print => None,
+            Command::Begin(_) | Command::Corner(_) => None,
         }
     }
 
@@ -41,6 +50,7 @@ impl Command {
         match *self {
             Command::Add(site) | Command::Move(site) => vec![site.position],
             Command::List(leg) | Command::Stand(leg) => vec![leg.s, leg.e],
+            Command::Begin(position) | Command::Corner(position) => vec![position],
             Command::Remove(_) | Command::Print => vec![],
         }
     }
@@ -59,6 +69,7 @@ fn operand_length(mark: u8) -> Option<usize> {
         ADD | MOVE => Some(6),
         REMOVE => Some(2),
         LIST | STAND => Some(8),
+        BEGIN | CORNER => Some(4),
         PRINT => Some(0),
         _ => None,
     }
@@ -84,6 +95,8 @@ fn from_operands(mark: u8, operands: &[u8]) -> Command {
         LIST => Command::List(leg()),
         STAND => Command::Stand(leg()),
         PRINT => Command::Print,
+        BEGIN => Command::Begin(position(0)),
+        CORNER => Command::Corner(position(0)),
         _ => unreachable!("a mark with an operand length is a command"),
     }
 }
@@ -112,6 +125,14 @@ pub fn stand(leg: Leg) -> Vec<u8> {
 
 pub fn print() -> Vec<u8> {
     vec![PRINT]
+}
+
+pub fn begin(position: Position) -> Vec<u8> {
+    [vec![BEGIN], position_bytes(position)].concat()
+}
+
+pub fn corner(position: Position) -> Vec<u8> {
+    [vec![CORNER], position_bytes(position)].concat()
 }
 
 fn site_operands(mark: u8, site: Site) -> Vec<u8> {

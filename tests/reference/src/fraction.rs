@@ -40,6 +40,13 @@ impl Fraction {
         left.cmp(&right)
     }
 
+    /// Halfway between two fractions with parts as small as those of starts.
+    pub fn midpoint(self, other: Self) -> Self {
+        let left = self.numerator * other.denominator;
+        let right = other.numerator * self.denominator;
+        Fraction::new(left + right, 2 * self.denominator * other.denominator)
+    }
+
     /// Strictly between two fractions that differ.
     pub fn mediant(self, other: Self) -> Self {
         Fraction::new(

@@ -54,11 +54,19 @@ impl Random {
     }
 }
 
-/// Commands of all six kinds, whole and known; every refusal but 5 comes up.
+/// Commands of all eight kinds, whole and known; every refusal but 5 comes up, and tours go on over
+/// several legs.
 pub fn commands(random: &mut Random, count: usize) -> Vec<Vec<u8>> {
-    std::iter::repeat_with(|| command(random))
-        .take(count)
-        .collect()
+    let mut commands = Vec::new();
+    while commands.len() < count {
+        if random.once_in(16) {
+            commands.extend(tour(random));
+        } else {
+            commands.push(command(random));
+        }
+    }
+    commands.truncate(count);
+    commands
 }
 
 fn command(random: &mut Random) -> Vec<u8> {
@@ -66,17 +74,56 @@ fn command(random: &mut Random) -> Vec<u8> {
     let number = u16::try_from(random.between(0, 40)).expect("a number has 16 bits");
     let position = near_or_off(random);
     let site = Site { number, position };
-    let leg = Leg {
-        s: near_or_off(random),
-        e: near_or_off(random),
-    };
-    match random.between(1, 12) {
+    match random.between(1, 14) {
         1..=4 => command::add(site),
         5 | 6 => command::remove(number),
         7 | 8 => command::move_site(site),
-        9 => command::list(leg),
-        10 => command::stand(leg),
-        _ => command::print(),
+        9 => command::list(leg(random)),
+        10 => command::stand(leg(random)),
+        11 | 12 => command::print(),
+        13 => command::begin(position),
+        _ => command::corner(position),
+    }
+}
+
+/// A 42 and several 43, with commands among them that leave a tour.
+fn tour(random: &mut Random) -> Vec<Vec<u8>> {
+    let mut corner = near_or_off(random);
+    let mut commands = vec![command::begin(corner)];
+    for _ in 0..random.between(1, 9) {
+        // Now and then a leg has no length.
+        if !random.once_in(6) {
+            corner = near_or_off(random);
+        }
+        commands.push(command::corner(corner));
+        if random.once_in(4) {
+            commands.push(leaving_a_tour(random));
+        }
+    }
+    commands
+}
+
+/// A command that changes no site: it asks, sets the standing leg, or is refused.
+fn leaving_a_tour(random: &mut Random) -> Vec<u8> {
+    let position = near_or_off(random);
+    match random.between(1, 7) {
+        1 => command::list(leg(random)),
+        2 => command::stand(leg(random)),
+        3 => command::print(),
+        4 => command::remove(0),
+        5 => command::add(Site {
+            number: 0,
+            position,
+        }),
+        6 => command::move_site(Site::new(1, HALF_WIDTH + 1, 0)),
+        _ => command::begin(Position::new(0, -HALF_WIDTH - 1)),
+    }
+}
+
+fn leg(random: &mut Random) -> Leg {
+    Leg {
+        s: near_or_off(random),
+        e: near_or_off(random),
     }
 }
 

@@ -178,3 +178,14 @@ pub fn name_at(list: &[Entry], t: Fraction) -> Option<u16> {
     let not_above = |entry: &&Entry| entry.start.compare(t).is_le();
     list.iter().rfind(not_above).map(|entry| entry.site)
 }
+
+/// The starts of both lists, 0, 1, and the middle of each gap: between starts no name changes, so
+/// these decide every fraction.
+pub fn deciding_fractions(one: &[Entry], other: &[Entry]) -> Vec<Fraction> {
+    let starts = one.iter().chain(other).map(|entry| entry.start);
+    let mut marks: Vec<Fraction> = starts.chain([Fraction::ZERO, Fraction::ONE]).collect();
+    marks.sort_by(|x, y| x.compare(*y));
+    marks.dedup();
+    let gaps = marks.windows(2).map(|gap| gap[0].midpoint(gap[1]));
+    gaps.chain(marks.iter().copied()).collect()
+}

@@ -3,9 +3,10 @@
 
 use reference::batch_program::{run, run_in_reads};
 use reference::book::{Book, CUT_COMMAND, UNKNOWN_COMMAND};
-use reference::command::{add, print, remove, stand};
+use reference::command::{add, begin, corner, print, remove, stand};
 use reference::grid::{HALF_WIDTH, INPUT_LEN, Leg, MOST_SITES, REPORT_LEN, Site, WORK_LEN, spread};
 use reference::random::{self, Random};
+use reference::tours::at;
 
 /// The report of one call with room for everything, then 2E and the reason.
 fn in_one_call(input: &[u8]) -> Vec<u8> {
@@ -84,13 +85,29 @@ fn the_longest_lists_empty_the_report_buffer_between_them() {
     assert_eq!(output, in_one_call(&long_lists(5)));
 }
 
+/// Each record is longer than half the report buffer, so that 68 comes before each leg but the first
+/// and the leg is asked for again.
+#[test]
+fn a_tour_of_the_longest_lists() {
+    let mut input = long_lists(0);
+    let (west, east) = (at(-HALF_WIDTH, 0), at(HALF_WIDTH, 0));
+    input.extend(begin(west));
+    for _ in 0..4 {
+        input.extend([corner(east), corner(west), corner(west)].concat());
+    }
+    let output = run(&input);
+    let records = 4 * 2 * (3 + 10 * (MOST_SITES - 1)) + 10 + 4 * 3;
+    assert_eq!(output.len(), 1 + MOST_SITES + 1 + records + 2);
+    assert_eq!(output, in_one_call(&input));
+}
+
 #[test]
 fn the_output_does_not_depend_on_the_reads() {
     let mut random = Random::new(31);
     let mut compared = 0;
     let endings: [&[u8]; 3] = [&[], &[0x41, 0x05], &[0x77, 0x50]];
     for ending in endings.repeat(20) {
-        let mut input = random::commands(&mut random, 1_500).concat();
+        let mut input = random::commands(&mut random, 1_700).concat();
         input.extend(ending);
         assert!(input.len() > 2 * INPUT_LEN);
         let expected = in_one_call(&input);

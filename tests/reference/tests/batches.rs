@@ -1,8 +1,8 @@
 //! How a call ends: reasons 0, 64, 66, 67 and 68, and the counts that go with them.
 
 use reference::book::{ALL_USED, Book, CUT_COMMAND, NO_ROOM, Reply, UNKNOWN_COMMAND, WRONG_LENGTH};
-use reference::command::{add, list, move_site, print, remove, stand};
-use reference::grid::{HALF_WIDTH, Leg, REPORT_LEN, Site, WORK_LEN, WRONG_WORK};
+use reference::command::{add, begin, corner, list, move_site, print, remove, stand};
+use reference::grid::{HALF_WIDTH, Leg, Position, REPORT_LEN, Site, WORK_LEN, WRONG_WORK};
 
 const LEG: Leg = Leg::new((0, 0), (10, 0));
 const OTHER_LEG: Leg = Leg::new((5, 5), (6, 6));
@@ -55,10 +55,10 @@ fn a_work_buffer_of_wrong_length_gives_64_before_all_else() {
 }
 
 #[test]
-fn each_of_the_other_250_bytes_is_unknown() {
-    let known = [0x41, 0x44, 0x4D, 0x4C, 0x53, 0x50];
+fn each_of_the_other_248_bytes_is_unknown() {
+    let known = [0x41, 0x44, 0x4D, 0x4C, 0x53, 0x50, 0x42, 0x43];
     let unknown: Vec<u8> = (0..=255).filter(|byte| !known.contains(byte)).collect();
-    assert_eq!(unknown.len(), 250);
+    assert_eq!(unknown.len(), 248);
     for byte in unknown {
         // Long enough for any command, and alone.
         let expected = reply(UNKNOWN_COMMAND, 0, &[]);
@@ -85,8 +85,10 @@ fn operands_cut_short_at_any_byte_give_67() {
         move_site(SITE),
         list(LEG),
         stand(OTHER_LEG),
+        begin(LEG.s),
+        corner(LEG.e),
     ];
-    assert_eq!(commands.each_ref().map(Vec::len), [7, 3, 7, 9, 9]);
+    assert_eq!(commands.each_ref().map(Vec::len), [7, 3, 7, 9, 9, 5, 5]);
     for command in commands {
         for length in 1..command.len() {
             let cut = &command[..length];
@@ -105,6 +107,8 @@ fn a_cut_command_gives_67_before_its_tests_and_before_68() {
         add(Site::new(0, 0, 0)),
         remove(0),
         list(Leg::new((HALF_WIDTH + 1, 0), (0, 0))),
+        begin(Position::new(0, HALF_WIDTH + 1)),
+        corner(LEG.s),
     ];
     for command in refused_when_whole {
         let cut = &command[..command.len() - 1];
@@ -119,6 +123,7 @@ fn without_room_for_2b_a_change_is_not_done() {
         remove(1),
         move_site(Site::new(1, 9, 9)),
         stand(OTHER_LEG),
+        begin(LEG.s),
     ];
     for change in changes {
         assert_left(&one_site(), &change, 0, reply(NO_ROOM, 0, &[]));
@@ -137,6 +142,8 @@ fn refusal_records_need_room_for_two_bytes() {
         (stand(off_grid), 2),
         (add(SITE), 3),
         (remove(2), 4),
+        (begin(off_grid.e), 2),
+        (corner(LEG.s), 8),
     ];
     for (command, number) in refused {
         for room in [0, 1] {

@@ -1,7 +1,7 @@
 //! The book command by command: the order of the tests, every refusal, and what it leaves.
 
 use reference::book::Book;
-use reference::command::{Command, add, list, move_site, print, remove, stand};
+use reference::command::{Command, add, begin, corner, list, move_site, print, remove, stand};
 use reference::grid::{HALF_WIDTH, LARGEST_DENOMINATOR, Leg, Position, Site};
 use reference::record::Record::{self, Accepted, List, Refused};
 use reference::split::{Entry, split_list};
@@ -213,6 +213,11 @@ fn commands_and_their_bytes() {
     assert_eq!(list(leg), [&[0x4C], &leg_bytes[..]].concat());
     assert_eq!(stand(leg), [&[0x53], &leg_bytes[..]].concat());
     assert_eq!(print(), [0x50]);
+    assert_eq!(begin(leg.e), [0x42, 0xE0, 0x2E, 0x20, 0xD1]);
+    assert_eq!(corner(leg.s), [0x43, 0x01, 0x00, 0xFF, 0xFF]);
+    let read = |bytes: &[u8]| Command::read(bytes);
+    assert_eq!(read(&begin(leg.e)), Ok((Command::Begin(leg.e), 5)));
+    assert_eq!(read(&corner(leg.s)), Ok((Command::Corner(leg.s), 5)));
     assert_eq!(Command::read(&list(leg)), Ok((Command::List(leg), 9)));
     assert_eq!(
         Command::read(&move_site(site)),

@@ -52,6 +52,18 @@ fn a_mediant_lies_strictly_between() {
 }
 
 #[test]
+fn a_midpoint_is_as_far_from_both() {
+    let middle = Fraction::new(1, 3).midpoint(Fraction::new(1, 2));
+    assert_eq!(middle, Fraction::new(5, 12));
+    assert_eq!(middle, Fraction::new(1, 2).midpoint(Fraction::new(1, 3)));
+    // Neighbours at the largest denominator: 64 bits hold the parts.
+    let d = LARGEST_DENOMINATOR;
+    let (below, above) = (Fraction::new(d - 2, d - 1), Fraction::new(d - 1, d));
+    assert_eq!(below.compare(below.midpoint(above)), Ordering::Less);
+    assert_eq!(below.midpoint(above).compare(above), Ordering::Less);
+}
+
+#[test]
 fn the_common_factor_is_the_greatest() {
     assert_eq!(gcd(12, 18), 6);
     assert_eq!(gcd(18, 12), 6);

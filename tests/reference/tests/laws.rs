@@ -9,7 +9,9 @@ use reference::hull;
 use reference::layout::{Case, Layout, case, small_cases};
 use reference::random::Random;
 use reference::record::Record::{Accepted, List, Refused};
-use reference::split::{Entry, a, b, end, name_at, split_list, squared_distance_at};
+use reference::split::{
+    Entry, a, b, deciding_fractions, end, name_at, split_list, squared_distance_at,
+};
 use std::collections::BTreeSet;
 
 #[test]
@@ -94,17 +96,6 @@ fn nearer_means_a_smaller_a_less_t_times_b() {
         }
     }
     assert!(ties >= 1_000);
-}
-
-/// The starts of both lists, 0, 1, and one fraction in each gap: between starts no name changes,
-/// so these decide every fraction.
-fn deciding_fractions(before: &[Entry], after: &[Entry]) -> Vec<Fraction> {
-    let starts = before.iter().chain(after).map(|entry| entry.start);
-    let mut marks: Vec<Fraction> = starts.chain([Fraction::ZERO, Fraction::ONE]).collect();
-    marks.sort_by(|x, y| x.compare(*y));
-    marks.dedup();
-    let gaps = marks.windows(2).map(|gap| gap[0].mediant(gap[1]));
-    gaps.chain(marks.iter().copied()).collect()
 }
 
 /// What 50 prints; empty where it answers 21 06.

@@ -2,8 +2,8 @@
 
 use reference::batch_program;
 use reference::book::Book;
-use reference::command::{Command, add, list, move_site, print, remove, stand};
-use reference::grid::{HALF_WIDTH, Leg, Site};
+use reference::command::{Command, add, begin, corner, list, move_site, print, remove, stand};
+use reference::grid::{HALF_WIDTH, Leg, Position, Site};
 use reference::record::Record;
 use std::path::Path;
 
@@ -31,14 +31,17 @@ fn bytes(line: &str) -> Vec<u8> {
 }
 
 #[test]
-fn the_example_is_the_batch_programs() {
+fn each_example_is_the_batch_programs() {
     let text = text();
     let is_bytes = |line: &&str| line.starts_with("    ") && !line.trim().is_empty();
     let shown: Vec<Vec<u8>> = text.lines().filter(is_bytes).map(bytes).collect();
-    let [input, output] = &shown[..] else {
-        panic!("{shown:?}");
-    };
-    assert_eq!(batch_program::run(input), *output);
+    assert!(
+        !shown.is_empty() && shown.len().is_multiple_of(2),
+        "{shown:?}"
+    );
+    for example in shown.chunks(2) {
+        assert_eq!(batch_program::run(&example[0]), example[1]);
+    }
 }
 
 /// A command of each mark that meets all causes of its row that can go together, from the last on.
@@ -67,7 +70,26 @@ fn refused(mark: u8, book: &mut Book) -> Vec<(u8, Vec<u8>)> {
         ],
         0x4C => vec![(6, list(on)), (2, list(off))],
         0x53 => vec![(2, stand(off))],
+        0x42 => vec![(2, begin(off.e))],
+        // Of those in a tour below.
+        0x43 => vec![(8, corner(off.e))],
         _ => vec![(7, print())],
+    }
+}
+
+/// What a command of this mark gets when the cause that comes before is gone.
+fn refused_later(mark: u8, book: &mut Book) -> Vec<(u8, Vec<u8>)> {
+    let (on, off) = (Position::new(0, 0), Position::new(0, HALF_WIDTH + 1));
+    match mark {
+        0x50 => {
+            book.records(&[stand(Leg { s: on, e: on })]);
+            vec![(6, print())]
+        }
+        0x43 => {
+            book.records(&[begin(on)]);
+            vec![(2, corner(off)), (6, corner(on))]
+        }
+        _ => vec![],
     }
 }
 
@@ -89,23 +111,21 @@ fn commands_have_these_lengths_and_refusals_in_this_order() {
             assert_eq!(book.records(&[command]), [Record::Refused(number)]);
             given.insert(0, number.to_string());
         }
-        if mark == 0x50 {
-            // Without a leg 7 comes before 6, with one 6 is left.
-            book.records(&[stand(Leg::new((0, 0), (0, 1)))]);
-            assert_eq!(book.records(&[print()]), [Record::Refused(6)]);
-            given.push("6".into());
+        for (number, command) in refused_later(mark, &mut book) {
+            assert_eq!(book.records(&[command]), [Record::Refused(number)]);
+            given.push(number.to_string());
         }
         assert_eq!(row[6], given.join(", "), "{letter}");
         marks.push(mark);
     }
-    assert_eq!(marks, [0x41, 0x44, 0x4D, 0x4C, 0x53, 0x50]);
+    assert_eq!(marks, [0x41, 0x44, 0x4D, 0x4C, 0x53, 0x50, 0x42, 0x43]);
 }
 
 #[test]
 fn every_refusal_and_reason_is_told() {
     let first: Vec<String> = rows().iter().map(|row| row[1].clone()).collect();
     for number in [
-        "1", "2", "3", "4", "5", "6", "7", "64", "65", "66", "67", "68",
+        "1", "2", "3", "4", "5", "6", "7", "8", "64", "65", "66", "67", "68",
     ] {
         assert!(first.iter().any(|cell| cell == number), "{number}");
     }

@@ -16,6 +16,8 @@ static size_t put(uint8_t *to, size_t room, char mark, const long v[4])
     case 'D': return stops_put_remove(to, room, v[0]);
     case 'L': return stops_put_list(to, room, v[0], v[1], v[2], v[3]);
     case 'S': return stops_put_stand(to, room, v[0], v[1], v[2], v[3]);
+    case 'B': return stops_put_begin(to, room, v[0], v[1]);
+    case 'C': return stops_put_corner(to, room, v[0], v[1]);
     default: return stops_put_print(to, room);
     }
 }

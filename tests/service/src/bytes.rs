@@ -1,6 +1,7 @@
 //! The table's layout, with the second program's positions, sites and legs.
 
 pub use binding::layout::*;
+use reference::book::{Book, Tour};
 use reference::grid::{self, Leg, Position, Site};
 
 /// From steps counted from the south-west corner.
@@ -30,6 +31,22 @@ pub fn leg(table: &[u8]) -> Option<Leg> {
         e: position(e_east, e_north),
     };
     leg_words(table).map(leg)
+}
+
+pub fn tour(table: &[u8]) -> Option<Tour> {
+    let tour = |([east, north], remembered): ([u16; 2], u16)| Tour {
+        corner: position(east, north),
+        remembered: (remembered != 0).then_some(remembered),
+    };
+    tour_words(table).map(tour)
+}
+
+/// The held records, the standing leg and the tour.
+pub fn book(table: &[u8]) -> Book {
+    Book {
+        tour: tour(table),
+        ..Book::of(&sites(table), leg(table))
+    }
 }
 
 /// A site's entry at a leaf.

@@ -3,7 +3,8 @@
 use crate::bytes::{
     EARLIER_HALF_WIDTH, ENTRIES_LISTED, ENTRY_LEN, FREE_NODES, HALF_WIDTH, LAYOUT, LEG_FLAG,
     LEG_WORDS, LEVELS, MOST_NODES, RECORD_LEN, ROOT, SITE_ARRAY, SITES_HELD, STACK, STANDING_LIST,
-    entry_at, free_at, leg, listed, listed_at, node_at, number, put_word, record_at, sites, word,
+    TOUR, entry_at, free_at, leg, listed, listed_at, node_at, number, put_word, record_at, sites,
+    word,
 };
 use crate::desk::{Desk, Lent};
 use crate::table::{Rule, meaning};
@@ -124,8 +125,8 @@ pub fn stored_by(rule: TieRule, table: &[u8]) -> Vec<u8> {
     other
 }
 
-/// The table in an earlier layout: coordinates are counted from the corner of a smaller grid. A
-/// position that this does not have is off it there, too.
+/// The table in an earlier layout: coordinates are counted from the corner of a smaller grid, and
+/// there are no tours. A position that this does not have is off it there, too.
 pub fn aged(table: &[u8], layout: u16) -> Vec<u8> {
     let sites = 0..number(table, SITES_HELD);
     let sites = sites.flat_map(|k| [2, 4].map(|offset| record_at(k) + offset));
@@ -138,6 +139,7 @@ pub fn aged(table: &[u8], layout: u16) -> Vec<u8> {
         let counted = word(table, at).wrapping_sub(HALF_WIDTH - EARLIER_HALF_WIDTH);
         put_word(&mut aged, at, counted);
     }
+    aged[TOUR].fill(0);
     put_word(&mut aged, LAYOUT, layout);
     aged
 }

@@ -1,15 +1,16 @@
 //! A desk: a table that a service keeps, beside the book that says what it must answer.
 //!
 //! Every call is compared in all that document 01 says of it: reason, counts, written bytes, and
-//! what stands in each lent buffer afterwards.
+//! what stands in each lent buffer afterwards. A listener hears what the service reports.
 
-use crate::bytes::empty_table;
+use crate::bytes::{TOUR, empty_table};
 use crate::damage::stored_by;
 use crate::table::{Meaning, meaning};
 use crate::{Answer, Service};
 use reference::book::{ALL_USED, Book, Reply, WRONG_LENGTH};
-use reference::command::{Command, LIST, PRINT};
+use reference::command::{CORNER, Command, LIST, PRINT};
 use reference::grid::{MOST_SITES, TABLE_LEN, WORK_LEN};
+use reference::listener::{Listener, Told};
 use reference::record::{ENTRY_LEN, Record};
 use reference::ties::number_alone;
 use std::collections::BTreeMap;
@@ -21,6 +22,7 @@ pub struct Desk<'s, S> {
     service: &'s S,
     pub table: Vec<u8>,
     pub book: Book,
+    listener: Listener,
     pub tally: Tally,
 }
 
@@ -40,9 +42,13 @@ pub struct Tally {
     pub accepted: usize,
     pub lists: usize,
     pub longest_list: usize,
-    pub by_refusal: [usize; 8],
+    pub by_refusal: [usize; 9],
     pub most_levels: usize,
     pub most_nodes: usize,
+    pub tours: Told,
+    /// Commands that change sites or the standing leg, or the tour alone.
+    changes: usize,
+    tour_changes: usize,
 }
 
 impl<'s, S: Service> Desk<'s, S> {
@@ -61,9 +67,11 @@ impl<'s, S: Service> Desk<'s, S> {
     }
 
     fn with(service: &'s S, table: Vec<u8>, book: Book) -> Self {
+        let tour = book.tour.map(|tour| (tour.corner, tour.remembered));
         Desk {
             service,
             table,
+            listener: Listener::joining(&book.sites(), tour),
             book,
             tally: Tally::default(),
         }
@@ -86,19 +94,28 @@ impl<'s, S: Service> Desk<'s, S> {
             "reason, used and written of {commands:02X?}"
         );
         lent.assert_after(&answer, &expected.report);
-        let accepted_before = self.tally.accepted;
+        let heard = self
+            .listener
+            .hear_call(&commands[..used], lent.written(written));
+        assert_eq!(heard, Ok(()), "heard of {commands:02X?}");
+        let (changes, tour_changes) = (self.tally.changes, self.tally.tour_changes);
         self.tally.count(commands, &expected);
-        if self.tally.accepted == accepted_before {
-            assert!(self.table == before, "the table is left by {commands:02X?}");
-        } else {
+        self.tally.tours = self.listener.told.clone();
+        let tour_changed = self.tally.tour_changes > tour_changes;
+        if self.tally.changes > changes {
             self.assert_sound();
+        } else if tour_changed {
+            assert_left_but_tour(&self.table, &before, commands);
+            self.assert_sound();
+        } else {
+            assert!(self.table == before, "the table is left by {commands:02X?}");
         }
         expected
     }
 
     /// A call with the right work buffer and room for every record.
     pub fn serve(&mut self, commands: &[u8]) -> Reply {
-        let may_list = |byte: &&u8| [LIST, PRINT].contains(byte);
+        let may_list = |byte: &&u8| [LIST, PRINT, CORNER].contains(byte);
         let lists = commands.iter().filter(may_list).count();
         let room = 2 * commands.len() + LONGEST_RECORD * lists;
         self.call(commands, WORK_LEN, room)
@@ -143,11 +160,17 @@ impl Tally {
         self.bytes_used += reply.used;
         self.bytes_written += reply.written;
         let mut used = &commands[..reply.used];
-        while let Ok((_, length)) = Command::read(used) {
+        for record in Record::read_all(&reply.report).expect("whole records") {
+            let (command, length) = Command::read(used).expect("a command for each record");
             *self.by_command.entry(used[0]).or_default() += 1;
             used = &used[length..];
-        }
-        for record in Record::read_all(&reply.report).expect("whole records") {
+            match (command, &record) {
+                (Command::Begin(_), Record::Accepted) | (Command::Corner(_), Record::List(_)) => {
+                    self.tour_changes += 1;
+                }
+                (_, Record::Accepted) => self.changes += 1,
+                _ => {}
+            }
             match record {
                 Record::Accepted => self.accepted += 1,
                 Record::Refused(number) => self.by_refusal[usize::from(number)] += 1,
@@ -175,7 +198,17 @@ impl Tally {
         }
         self.most_levels = self.most_levels.max(other.most_levels);
         self.most_nodes = self.most_nodes.max(other.most_nodes);
+        self.tours.add(&other.tours);
+        self.changes += other.changes;
+        self.tour_changes += other.tour_changes;
     }
+}
+
+/// 42 and 43 change the tour's words and nothing else.
+fn assert_left_but_tour(table: &[u8], before: &[u8], commands: &[u8]) {
+    let left =
+        table[..TOUR.start] == before[..TOUR.start] && table[TOUR.end..] == before[TOUR.end..];
+    assert!(left, "all but the tour is left by {commands:02X?}");
 }
 
 fn add_each(sums: &mut BTreeMap<u8, usize>, more: &BTreeMap<u8, usize>) {
@@ -204,6 +237,11 @@ impl Lent {
 
     pub fn batch(&mut self, service: &impl Service, table: &mut [u8], commands: &[u8]) -> Answer {
         service.batch(table, &mut self.work, commands, &mut self.report)
+    }
+
+    /// So many bytes of the report.
+    pub fn written(&self, written: usize) -> &[u8] {
+        &self.report[..written]
     }
 
     /// The report begins with these bytes and is left behind them; the work buffer is zero, or

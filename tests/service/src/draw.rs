@@ -8,13 +8,15 @@ use reference::ties::{mirror_image, way_back};
 
 /// Coordinates off the grid: the nearest and the farthest.
 const OFF_GRID: [i64; 4] = [-32_768, -HALF_WIDTH - 1, HALF_WIDTH + 1, 32_767];
-const KNOWN: [u8; 6] = [
+const KNOWN: [u8; 8] = [
     command::ADD,
     command::REMOVE,
     command::MOVE,
     command::LIST,
     command::STAND,
     command::PRINT,
+    command::BEGIN,
+    command::CORNER,
 ];
 
 pub struct Pool {
@@ -64,9 +66,18 @@ impl Pool {
         numbers.into_iter().map(site).map(command::add).collect()
     }
 
-    /// Whole and known commands of all six kinds.
+    /// Whole and known commands of all eight kinds; tours go on over several legs.
     pub fn commands(&self, random: &mut Random, count: usize) -> Vec<Vec<u8>> {
-        (0..count).map(|_| self.command(random)).collect()
+        let mut commands = Vec::new();
+        while commands.len() < count {
+            if random.once_in(20) {
+                commands.extend(self.tour(random));
+            } else {
+                commands.push(self.command(random));
+            }
+        }
+        commands.truncate(count);
+        commands
     }
 
     fn command(&self, random: &mut Random) -> Vec<u8> {
@@ -75,13 +86,56 @@ impl Pool {
             number,
             position: self.position(random),
         };
-        match random.between(1, 14) {
+        match random.between(1, 16) {
             1..=5 => command::add(site),
             6 | 7 => command::remove(number),
             8 | 9 => command::move_site(site),
             10 | 11 => command::list(self.any_leg(random)),
             12 => command::stand(self.any_leg(random)),
-            _ => command::print(),
+            13 | 14 => command::print(),
+            15 => command::begin(self.any_leg(random).s),
+            _ => command::corner(self.any_leg(random).e),
+        }
+    }
+
+    /// A tour, or the next legs of one, with commands among them that leave it.
+    pub fn tour(&self, random: &mut Random) -> Vec<Vec<u8>> {
+        let mut commands = Vec::new();
+        if !random.once_in(3) {
+            commands.push(command::begin(self.any_leg(random).s));
+        }
+        for _ in 0..random.between(1, 8) {
+            let Leg { s, e } = self.any_leg(random);
+            // There and back, to a site, and now and then no way at all.
+            let corners = match random.between(1, 4) {
+                1 => vec![s, e, s],
+                2 => vec![self.position(random)],
+                3 => vec![e, e],
+                _ => vec![e],
+            };
+            commands.extend(corners.into_iter().map(command::corner));
+            if random.once_in(4) {
+                commands.push(self.leaving_a_tour(random));
+            }
+        }
+        commands
+    }
+
+    /// A command that changes no site: it asks, sets the standing leg, or is refused.
+    fn leaving_a_tour(&self, random: &mut Random) -> Vec<u8> {
+        let off_grid = Position::new(random.pick(&OFF_GRID), 0);
+        let site = Site {
+            number: self.number(random),
+            position: off_grid,
+        };
+        match random.between(1, 7) {
+            1 => command::list(self.any_leg(random)),
+            2 => command::stand(self.any_leg(random)),
+            3 => command::print(),
+            4 => command::remove(0),
+            5 => command::add(site),
+            6 => command::move_site(site),
+            _ => command::begin(off_grid),
         }
     }
 

@@ -38,7 +38,7 @@ pub fn run<'s, S: Service>(random: &mut Random, service: &'s S, size: Size) -> R
         let additions = pool.additions(random);
         serve_in_batches(random, &mut desk, &additions);
     }
-    for _ in 0..3 + random.index(6) {
+    for _ in 0..4 + random.index(7) {
         let count = random.index(20);
         let commands = pool.commands(random, count);
         let commands = broken_off(random, commands);

@@ -5,6 +5,7 @@ pub mod bytes;
 pub mod damage;
 pub mod desk;
 pub mod draw;
+pub mod hearing;
 pub mod history;
 pub mod model;
 #[cfg(feature = "proved")]

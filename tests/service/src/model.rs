@@ -3,10 +3,10 @@
 
 mod admission;
 
-use crate::bytes::{empty_table, leg, sites};
+use crate::bytes::{book, empty_table};
 use crate::shape::{self, Dealing};
 use crate::{Answer, BROKEN_TABLE, Service};
-use reference::book::{ALL_USED, Book, WRONG_LENGTH};
+use reference::book::{ALL_USED, WRONG_LENGTH};
 use reference::grid::{TABLE_LEN, WORK_LEN};
 
 pub struct Model;
@@ -34,13 +34,14 @@ impl Service for Model {
         if !admission::admits(table) {
             return (BROKEN_TABLE, 0, 0);
         }
-        let before = Book::of(&sites(table), leg(table));
+        let before = book(table);
         let mut book = before.clone();
         let reply = book.call(commands, work.len(), report.len());
         report[..reply.written].copy_from_slice(&reply.report);
-        if book != before {
+        if (&book.lines, book.leg) != (&before.lines, before.leg) {
             table.copy_from_slice(&shape::table(&book, &mut Dealing::Even));
         }
+        shape::write_tour(table, book.tour);
         (reply.reason.into(), reply.used, reply.written)
     }
 }

@@ -4,11 +4,12 @@
 //! levels of nodes with three entries each.
 
 use crate::bytes::{
-    ENTRIES_LISTED, Entry, FEWEST_ENTRIES, FEWEST_IN_ROOT, FREE_NODES, LEG_FLAG, LEG_WORDS, LEVELS,
-    MOST_ENTRIES, MOST_LEVELS, MOST_NODES, ROOT, Record, SITES_HELD, empty_table, free_at,
-    leaf_entry, listed_at, node_at, put_number, put_word, steps, to_word,
+    CORNER_WORDS, ENTRIES_LISTED, Entry, FEWEST_ENTRIES, FEWEST_IN_ROOT, FREE_NODES, LEG_FLAG,
+    LEG_WORDS, LEVELS, MOST_ENTRIES, MOST_LEVELS, MOST_NODES, REMEMBERED, ROOT, Record, SITES_HELD,
+    TOUR, TOUR_FLAG, empty_table, free_at, leaf_entry, listed_at, node_at, put_number, put_word,
+    steps, to_word,
 };
-use reference::book::Book;
+use reference::book::{Book, Tour};
 use reference::grid::{Leg, Site};
 use reference::hull;
 use reference::random::Random;
@@ -48,14 +49,16 @@ impl Limits {
     }
 }
 
-/// A sound table with the book's lines and leg.
+/// A sound table with the book's lines, leg and tour.
 pub fn table(book: &Book, dealing: &mut Dealing) -> Vec<u8> {
     let mut table = empty_table();
     write(&mut table, &book.sites(), book.leg, dealing);
+    write_tour(&mut table, book.tour);
     table
 }
 
-/// Writes sites, standing leg, standing list and tree; free bytes stay. The sites' numbers rise.
+/// Writes sites, standing leg, standing list and tree; free bytes and the tour's stay. The sites'
+/// numbers rise.
 pub fn write(table: &mut [u8], sites: &[Site], leg: Option<Leg>, dealing: &mut Dealing) {
     write_sites(table, sites);
     write_standing(table, sites, leg);
@@ -74,6 +77,18 @@ pub fn write_sites(table: &mut [u8], sites: &[Site]) {
             kept: 0,
         };
         record.write(table, k);
+    }
+}
+
+/// Writes the tour's words, zeros without one.
+pub fn write_tour(table: &mut [u8], tour: Option<Tour>) {
+    table[TOUR].fill(0);
+    if let Some(tour) = tour {
+        let (east, north) = steps(tour.corner);
+        put_word(table, TOUR_FLAG, 1);
+        put_word(table, CORNER_WORDS[0], east);
+        put_word(table, CORNER_WORDS[1], north);
+        put_word(table, REMEMBERED, tour.remembered.unwrap_or(0));
     }
 }
 

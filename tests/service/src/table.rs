@@ -6,8 +6,9 @@
 mod tree;
 
 use crate::bytes::{
-    ENTRIES_LISTED, FAR_EDGE, HEADER_KEPT, LAYOUT, LAYOUT_NUMBER, LEG_FLAG, LEG_WORDS, LEVELS,
-    MOST_SITES, Record, SITES_HELD, TABLE_LEN, leg, listed, number, records, sites, word,
+    CORNER_WORDS, ENTRIES_LISTED, FAR_EDGE, HEADER_KEPT, LAYOUT, LAYOUT_NUMBER, LEG_FLAG,
+    LEG_WORDS, LEVELS, MOST_SITES, REMEMBERED, Record, SITES_HELD, TABLE_LEN, TOUR_FLAG, book,
+    listed, number, records, sites, word,
 };
 use reference::book::Book;
 use std::collections::BTreeSet;
@@ -33,6 +34,13 @@ pub enum Rule {
     NoLegIsZero,
     /// The numbers of the split list of the standing leg; none without a leg.
     StandingList,
+    /// 0 or 1.
+    TourFlag,
+    CornerOnGrid,
+    /// The remembered site is held, or there is none yet.
+    RememberedHeld,
+    /// Without a tour its corner and its remembered number are 0.
+    NoTourIsZero,
     AtMostSixLevels,
     /// Below 264: the root's id, a child's, a free node's.
     NodeId,
@@ -99,6 +107,7 @@ pub fn broken_rules(table: &[u8]) -> Vec<Rule> {
     if broken.0.is_empty() {
         broken.unless(standing_list_holds(table), Rule::StandingList);
     }
+    tour_rules(table, &mut broken);
     tree::rules(table, &sites(table), &mut broken);
     broken.0.into_iter().collect()
 }
@@ -145,13 +154,24 @@ fn leg_rules(table: &[u8], broken: &mut Broken) {
     }
 }
 
+fn tour_rules(table: &[u8], broken: &mut Broken) {
+    let corner = CORNER_WORDS.map(|at| word(table, at));
+    let remembered = word(table, REMEMBERED);
+    match word(table, TOUR_FLAG) {
+        0 => broken.unless(corner == [0; 2] && remembered == 0, Rule::NoTourIsZero),
+        1 => {
+            let on_grid = corner.iter().all(|word| *word <= FAR_EDGE);
+            broken.unless(on_grid, Rule::CornerOnGrid);
+            let held = records(table).any(|record| record.number == remembered);
+            broken.unless(remembered == 0 || held, Rule::RememberedHeld);
+        }
+        _ => broken.unless(false, Rule::TourFlag),
+    }
+}
+
 fn standing_list_holds(table: &[u8]) -> bool {
     let book = book(table);
     let list = book.leg.map(|leg| book.split_list(&leg));
     let numbers = list.iter().flatten().map(|entry| entry.site);
     number(table, ENTRIES_LISTED) <= MOST_SITES && numbers.eq(listed(table))
-}
-
-fn book(table: &[u8]) -> Book {
-    Book::of(&sites(table), leg(table))
 }

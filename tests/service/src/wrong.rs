@@ -29,7 +29,44 @@ impl Service for Wrong {
     }
 }
 
-/// As the model, but with another tie rule in the lists that are written.
+/// A command that was done or found no room: the table before it, and the bytes of its record.
+pub struct Step<'s> {
+    pub before: &'s [u8],
+    pub command: Command,
+    pub record: &'s mut [u8],
+}
+
+/// As the model, but command by command: before and after each the table may slip.
+pub fn slipping(
+    before: impl Fn(&mut [u8], &Command),
+    after: impl Fn(&mut [u8], Step),
+    (t, w, c, r): (&mut [u8], &mut [u8], &[u8], &mut [u8]),
+) -> Answer {
+    let (mut used, mut written) = (0, 0);
+    loop {
+        let next = Command::read(&c[used..]);
+        let length = next.map_or(c.len() - used, |(_, length)| length);
+        let as_it_was = t.to_vec();
+        if let Ok((command, _)) = next {
+            before(t, &command);
+        }
+        let answer = Model.batch(t, w, &c[used..used + length], &mut r[written..]);
+        if let (Ok((command, _)), 0 | 68) = (next, answer.0) {
+            let step = Step {
+                before: &as_it_was,
+                command,
+                record: &mut r[written..written + answer.2],
+            };
+            after(t, step);
+        }
+        (used, written) = (used + answer.1, written + answer.2);
+        if answer.0 != 0 || used == c.len() {
+            return (answer.0, used, written);
+        }
+    }
+}
+
+/// As the model, but with another tie rule in the lists that 4C and 50 write.
 pub fn listing_by(rule: TieRule, t: &mut [u8], w: &mut [u8], c: &[u8], r: &mut [u8]) -> Answer {
     let before = meaning(t);
     let answer = Model.batch(t, w, c, r);
@@ -46,7 +83,8 @@ fn rename(rule: TieRule, mut book: Book, mut commands: &[u8], mut report: &mut [
         let (written, later) = report.split_at_mut(record.len());
         let leg = match command {
             Command::List(leg) => Some(leg),
-            _ => book.leg,
+            Command::Print => book.leg,
+            _ => None,
         };
         if let (Some(leg), Some((Record::List(list), _))) = (leg, Record::read(&record)) {
             let list = renamed(&leg, &book.sites(), &list, rule);

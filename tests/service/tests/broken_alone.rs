@@ -1,14 +1,14 @@
 //! Tables with one fault each and all else consistent, as no flipped bit makes them: a service
 //! that forgets a rule takes just these.
 
-use reference::book::Book;
-use reference::command::{add, list, print, remove, stand};
+use reference::book::{Book, Tour};
+use reference::command::{add, corner, list, print, remove, stand};
 use reference::grid::{HALF_WIDTH, Leg, MOST_SITES, Position, Site};
 use reference::random::Random;
 use service::bytes::{
-    ENTRIES_LISTED, Entry, FREE_NODES, LAYOUT, LAYOUT_NUMBER, LEG_FLAG, LEG_WORDS, LEVELS,
-    MOST_LEVELS, ROOT, empty_table, free_at, leaf_entry, node_at, number, put_number, put_word,
-    record_at, word,
+    CORNER_WORDS, ENTRIES_LISTED, Entry, FAR_EDGE, FREE_NODES, HEADER_KEPT, LAYOUT, LAYOUT_NUMBER,
+    LEG_FLAG, LEG_WORDS, LEVELS, MOST_LEVELS, REMEMBERED, ROOT, TOUR_FLAG, empty_table, free_at,
+    leaf_entry, node_at, number, put_number, put_word, record_at, word,
 };
 use service::damage::{inner_nodes, nodes, offer};
 use service::draw::Pool;
@@ -22,6 +22,8 @@ const ROUNDS: usize = 120;
 on_each_service!(
     sites_that_break_one_rule,
     legs_and_lists_that_break_one_rule,
+    tours_that_break_one_rule,
+    the_remembered_site_is_gone,
     leaves_that_do_not_hold_the_sites,
     nodes_with_too_few_entries,
     a_node_with_nine_entries,
@@ -67,17 +69,29 @@ fn rounds(seed: u64, mut round: impl FnMut(&mut Random, Book)) {
     }
 }
 
-/// The table breaks these rules and no other, and the service refuses it.
-fn assert_refused(service: &impl Service, table: &[u8], rules: &[Rule]) {
+/// Commands that read all of a table and change it.
+fn questions() -> Vec<u8> {
     let leg = Leg::new((-50, 3), (60, 8));
     let commands = [
+        corner(leg.s),
+        corner(leg.e),
         list(leg),
         print(),
         add(Site::new(65_000, 1, 1)),
         remove(65_000),
     ];
+    commands.concat()
+}
+
+/// The table breaks these rules and no other, and the service refuses it.
+fn assert_refused(service: &impl Service, table: &[u8], rules: &[Rule]) {
     assert_eq!(broken_rules(table), rules);
-    assert_eq!(offer(service, table, &commands.concat()), rules);
+    assert_eq!(offer(service, table, &questions()), rules);
+}
+
+/// The table is sound, and the service takes it.
+fn assert_taken(service: &impl Service, table: &[u8]) {
+    assert_eq!(offer(service, table, &questions()), []);
 }
 
 fn table_of(random: &mut Random, sites: &[Site], leg: Option<Leg>) -> Vec<u8> {
@@ -148,6 +162,101 @@ fn legs_and_lists_that_break_one_rule(service: &impl Service) {
         put_word(&mut table, LEG_FLAG, random.pick(&[2, 3, 256, 257, 65_535]));
         assert_refused(service, &table, &[Rule::LegFlag]);
     });
+}
+
+/// A sound table in this tour.
+fn table_in(random: &mut Random, book: &Book, tour: Tour) -> Vec<u8> {
+    let book = Book {
+        tour: Some(tour),
+        ..book.clone()
+    };
+    let table = shape::table(&book, &mut Dealing::Any(random));
+    assert_eq!(broken_rules(&table), []);
+    table
+}
+
+fn tours_that_break_one_rule(service: &impl Service) {
+    rounds(138, |random, book| {
+        let corner = book.leg.unwrap().s;
+        let remembered = Some(random.pick(&book.sites()).number);
+        let tour = Tour { corner, remembered };
+        // One step off the grid on each side, and as far as can be. There is nothing south or west.
+        for word in CORNER_WORDS {
+            for value in [FAR_EDGE + 1, 32_768, 65_535] {
+                let mut table = table_in(random, &book, tour);
+                put_word(&mut table, word, FAR_EDGE);
+                assert_taken(service, &table);
+                put_word(&mut table, word, value);
+                assert_refused(service, &table, &[Rule::CornerOnGrid]);
+            }
+        }
+        // A number that is not held, right behind one that is, the least and the largest.
+        let not_held = |number: &u16| !book.lines.contains_key(number);
+        let held = tour.remembered.unwrap();
+        let near = [held.wrapping_sub(1), held.wrapping_add(1), 1, u16::MAX];
+        for number in near.into_iter().filter(|n| *n != 0).filter(not_held) {
+            let mut table = table_in(random, &book, tour);
+            put_word(&mut table, REMEMBERED, number);
+            assert_refused(service, &table, &[Rule::RememberedHeld]);
+        }
+        // Every held number is as good, and 0, which says that there was no leg yet.
+        let numbers: Vec<u16> = book.lines.keys().copied().chain([0]).collect();
+        for number in [random.pick(&numbers), random.pick(&numbers), 0] {
+            let mut table = table_in(random, &book, tour);
+            put_word(&mut table, REMEMBERED, number);
+            assert_taken(service, &table);
+        }
+        for flag in [2, 3, 255, 256, 257, 65_535] {
+            let mut table = table_in(random, &book, tour);
+            put_word(&mut table, TOUR_FLAG, flag);
+            assert_refused(service, &table, &[Rule::TourFlag]);
+        }
+        // Without a tour: a corner's coordinate, each alone, or a number, also a held one.
+        for (word, value) in [
+            (CORNER_WORDS[0], 1),
+            (CORNER_WORDS[1], FAR_EDGE),
+            (REMEMBERED, held),
+            (REMEMBERED, 256),
+        ] {
+            let mut table = shape::table(&book, &mut Dealing::Any(random));
+            put_word(&mut table, word, value);
+            assert_refused(service, &table, &[Rule::NoTourIsZero]);
+        }
+        let mut table = table_in(random, &book, tour);
+        put_word(&mut table, TOUR_FLAG, 0);
+        assert_refused(service, &table, &[Rule::NoTourIsZero]);
+        let kept = HEADER_KEPT.start + random.index(HEADER_KEPT.len());
+        let mut table = table_in(random, &book, tour);
+        table[kept] = 1 << random.index(8);
+        assert_refused(service, &table, &[Rule::HeaderKeptZero]);
+    });
+}
+
+/// A tour that outlived the removal of the site it remembers, as no service leaves it.
+fn the_remembered_site_is_gone(service: &impl Service) {
+    rounds(139, |random, book| {
+        let mut sites = book.sites();
+        let gone = sites.remove(random.index(sites.len()));
+        let fewer = Book::of(&sites, book.leg);
+        let corner = gone.position;
+        for remembered in [None, Some(gone.number), Some(sites[0].number)] {
+            let mut table = shape::table(&fewer, &mut Dealing::Any(random));
+            shape::write_tour(&mut table, Some(Tour { corner, remembered }));
+            if remembered == Some(gone.number) {
+                assert_refused(service, &table, &[Rule::RememberedHeld]);
+            } else {
+                assert_taken(service, &table);
+            }
+        }
+    });
+    // Without a site only 0 can be remembered.
+    let mut table = empty_table();
+    let corner = Position::new(5, 5);
+    shape::write_tour(&mut table, Some(Tour::begun(corner)));
+    assert_taken(service, &table);
+    let remembered = Some(1);
+    shape::write_tour(&mut table, Some(Tour { corner, remembered }));
+    assert_refused(service, &table, &[Rule::RememberedHeld]);
 }
 
 fn leaves_that_do_not_hold_the_sites(service: &impl Service) {

@@ -2,9 +2,9 @@
 //! lists, and calls of a million bytes.
 
 use reference::book::{ALL_USED, NO_ROOM};
-use reference::command::{add, list, move_site, print, remove, stand};
+use reference::command::{add, begin, corner, list, move_site, print, remove, stand};
 use reference::grid::{
-    HALF_WIDTH, LARGEST_DENOMINATOR, Leg, MOST_SITES, Site, TABLE_LEN, WORK_LEN,
+    HALF_WIDTH, LARGEST_DENOMINATOR, Leg, MOST_SITES, Position, Site, TABLE_LEN, WORK_LEN,
 };
 use reference::random::Random;
 use reference::record::Record;
@@ -72,6 +72,9 @@ fn every_record_needs_just_its_own_length(service: &impl Service) {
         (add(Site::new(1, 1, 1)), 2),
         (remove(2), 2),
         (stand(Leg::new((0, 0), (0, HALF_WIDTH + 1))), 2),
+        (begin(leg.s), 1),
+        (begin(Position::new(0, HALF_WIDTH + 1)), 2),
+        (corner(leg.e), 2),
         (list(leg), 13),
         (print(), 13),
     ];

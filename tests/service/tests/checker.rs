@@ -1,13 +1,13 @@
 //! The checker of tables: it takes every legal shape, and each rule, broken alone, is named.
 
 use reference::book::Book;
-use reference::command::{add, stand};
-use reference::grid::{Leg, MOST_SITES, Site, WORK_LEN};
+use reference::command::{add, begin, corner, stand};
+use reference::grid::{Leg, MOST_SITES, Position, Site, WORK_LEN};
 use reference::random::Random;
 use service::bytes::{
     ENTRIES_LISTED, FAR_EDGE, FREE_NODES, HEADER_KEPT, LAYOUT, LAYOUT_NUMBER, LEG_FLAG, LEG_WORDS,
-    LEVELS, RECORD_LEN, ROOT, SITE_ARRAY, SITES_HELD, empty_table, entry_at, free_at, listed_at,
-    node_at, number, put_number, put_word, record_at, word,
+    LEVELS, RECORD_LEN, ROOT, SITE_ARRAY, SITES_HELD, TOUR, empty_table, entry_at, free_at,
+    listed_at, node_at, number, put_number, put_word, record_at, word,
 };
 use service::draw::Pool;
 use service::shape::{self, Dealing};
@@ -25,6 +25,10 @@ fn book(random: &mut Random, count: usize) -> Book {
     if random.once_in(2) {
         book.records(&[stand(pool.leg(random))]);
     }
+    if random.once_in(2) {
+        let Leg { s, e } = pool.leg(random);
+        book.records(&[begin(s), corner(e)]);
+    }
     assert_eq!(book.lines.len(), count);
     book
 }
@@ -33,7 +37,7 @@ fn book(random: &mut Random, count: usize) -> Book {
 fn every_legal_shape_breaks_no_rule_and_means_its_book() {
     let mut random = Random::new(61);
     let mut by_levels = [0; 7];
-    let (mut most_nodes, mut with_list) = (0, 0);
+    let (mut most_nodes, mut with_list, mut in_a_tour) = (0, 0, 0);
     for nth in 0..SHAPES {
         let count = match nth % 3 {
             0 => random.index(20) + 1,
@@ -51,8 +55,10 @@ fn every_legal_shape_breaks_no_rule_and_means_its_book() {
         by_levels[meaning.levels] += 1;
         most_nodes = most_nodes.max(meaning.nodes);
         with_list += usize::from(!meaning.listed.is_empty());
+        in_a_tour += usize::from(meaning.book.tour.is_some());
     }
     println!("by levels: {by_levels:?}; most nodes: {most_nodes}; with a list: {with_list}");
+    assert!(in_a_tour >= SHAPES / 3, "{in_a_tour}");
     assert!(by_levels[1..].iter().all(|times| *times >= SHAPES / 100));
     assert!(most_nodes >= 240 && with_list >= SHAPES / 3);
 }
@@ -78,7 +84,7 @@ fn one_site_and_a_leg_stand_where_the_layout_says() {
         1, 0, 1, 0, 0xE0, 0x2E, 0xE0, 0x2E, 0xEA, 0x2E, 0xD6, 0x2E, 1, 0, 2, 0,
     ];
     assert_eq!(table[..16], header);
-    assert!(table[HEADER_KEPT].iter().all(|byte| *byte == 0));
+    assert!(table[16..64].iter().all(|byte| *byte == 0));
     // Site 513 at (12002,11997).
     let record = [0x01, 0x02, 0xE2, 0x2E, 0xDD, 0x2E, 0, 0];
     assert_eq!(table[64..72], record);
@@ -173,6 +179,55 @@ fn rules_on_the_standing_leg_are_named() {
     for at in LEG_WORDS {
         let off_grid = edited(|t, _| put_word(t, at, FAR_EDGE + 1));
         assert_eq!(off_grid, [Rule::LegOnGrid]);
+    }
+}
+
+/// That table in a tour which came from (0,0) to (100,-100).
+fn in_a_tour(edit: impl Fn(&mut Vec<u8>)) -> Vec<Rule> {
+    edited(|t, _| {
+        let mut book = meaning(t).unwrap().book;
+        book.records(&[begin(Position::new(0, 0)), corner(Position::new(100, -100))]);
+        shape::write_tour(t, book.tour);
+        // Site 33 is at (99,0), the nearest in the end.
+        assert_eq!(t[TOUR], [1, 0, 0x44, 0x2F, 0x7C, 0x2E, 33, 0]);
+        edit(t);
+    })
+}
+
+#[test]
+fn rules_on_a_tour_are_named() {
+    assert_eq!(in_a_tour(|_| {}), []);
+    for flag in [2, 256, 257, 65_535] {
+        assert_eq!(in_a_tour(|t| put_word(t, 16, flag)), [Rule::TourFlag]);
+        assert_eq!(edited(|t, _| put_word(t, 16, flag)), [Rule::TourFlag]);
+    }
+    assert_eq!(in_a_tour(|t| put_word(t, 16, 0)), [Rule::NoTourIsZero]);
+    for at in [18, 20] {
+        assert_eq!(in_a_tour(|t| put_word(t, at, 0)), []);
+        assert_eq!(in_a_tour(|t| put_word(t, at, 24_000)), []);
+        let off = in_a_tour(|t| put_word(t, at, 24_001));
+        assert_eq!(off, [Rule::CornerOnGrid]);
+        let without = edited(|t, _| put_word(t, at, 1));
+        assert_eq!(without, [Rule::NoTourIsZero]);
+    }
+    for number in 0..=40 {
+        assert_eq!(in_a_tour(|t| put_word(t, 22, number)), []);
+    }
+    for number in [41, 256 + 33, 33 * 256, 65_535] {
+        let not_held = in_a_tour(|t| put_word(t, 22, number));
+        assert_eq!(not_held, [Rule::RememberedHeld]);
+    }
+    let without = edited(|t, _| put_word(t, 22, 33));
+    assert_eq!(without, [Rule::NoTourIsZero]);
+    // All 0 but the flag: a tour from the grid's corner on.
+    assert_eq!(edited(|t, _| put_word(t, 16, 1)), []);
+    let both = in_a_tour(|t| {
+        put_word(t, 20, 65_535);
+        put_word(t, 22, 41);
+    });
+    assert_eq!(both, [Rule::CornerOnGrid, Rule::RememberedHeld]);
+    for at in 24..64 {
+        assert_eq!(in_a_tour(|t| t[at] = 1), [Rule::HeaderKeptZero]);
     }
 }
 

@@ -8,7 +8,7 @@ use reference::record::Record;
 use std::path::{Path, PathBuf};
 use std::process::Command;
 
-const REFUSALS: [&str; 8] = [
+const REFUSALS: [&str; 9] = [
     "",
     "number 0 is no stop's",
     "it is off the grid",
@@ -17,6 +17,7 @@ const REFUSALS: [&str; 8] = [
     "the table is full",
     "no stop is held",
     "no leg is standing",
+    "no tour is under way",
 ];
 
 fn at_root(path: &str) -> PathBuf {

@@ -1,19 +1,20 @@
 //! Damaged tables: 65 comes exactly when the checker finds a broken rule, and leaves table and
 //! report; where it finds none, the answer is that of the book in the bytes.
 
-use reference::book::Book;
-use reference::command::{add, list, print, remove, stand};
+use reference::book::{Book, Tour};
+use reference::command::{add, begin, corner, list, print, remove, stand};
 use reference::grid::{Leg, MOST_SITES, Site, TABLE_LEN, WRONG_WORK};
 use reference::random::Random;
 use service::bytes::{
-    ENTRY_LEN, FREE_NODES, HALF_WIDTH, LEVELS, NODE_POOL, ROOT, SITE_ARRAY, SITES_HELD, STACK_END,
-    STANDING_LIST, empty_table, entry_at, leaf_entry, node_at, number, put_number,
+    CORNER_WORDS, ENTRY_LEN, FAR_EDGE, FREE_NODES, HALF_WIDTH, LEVELS, NODE_POOL, REMEMBERED, ROOT,
+    SITE_ARRAY, SITES_HELD, STACK_END, STANDING_LIST, TOUR, TOUR_FLAG, empty_table, entry_at,
+    leaf_entry, node_at, number, put_number, put_word, word,
 };
 use service::damage::{assert_wrong_length_first, flipped, nodes, offer, regions};
 use service::desk::Desk;
 use service::draw::Pool;
 use service::shape::{self, Dealing};
-use service::table::broken_rules;
+use service::table::{broken_rules, meaning};
 use service::{Service, on_each_service};
 use std::collections::BTreeMap;
 
@@ -30,6 +31,8 @@ const TOUCHED_FREE_BYTES: usize = 500;
 
 on_each_service!(
     one_flipped_bit_in_every_byte_that_counts,
+    each_byte_of_a_tour_and_behind_it,
+    each_value_of_a_tours_words,
     words_changed_to_likely_values,
     swapped_entries,
     rubbish,
@@ -48,12 +51,25 @@ fn sound_table(random: &mut Random, count: usize) -> (Vec<u8>, Pool) {
     if !random.once_in(3) {
         book.records(&[stand(pool.leg(random))]);
     }
+    if random.once_in(2) {
+        book.tour = Some(some_tour(random, &book, &pool));
+    }
     let table = match random.between(1, 3) {
         1 => shape::table(&book, &mut Dealing::Even),
         2 => shape::table(&book, &mut Dealing::Tallest),
         _ => shape::table(&book, &mut Dealing::Any(random)),
     };
     (table, pool)
+}
+
+/// At a corner anywhere, with a remembered site or none.
+fn some_tour(random: &mut Random, book: &Book, pool: &Pool) -> Tour {
+    let held: Vec<u16> = book.lines.keys().copied().collect();
+    let some = !held.is_empty() && random.once_in(2);
+    Tour {
+        corner: pool.leg(random).s,
+        remembered: some.then(|| random.pick(&held)),
+    }
 }
 
 /// Nine sites in a row along the standing leg, all listed.
@@ -68,7 +84,9 @@ fn row() -> Vec<u8> {
 
 /// Commands that read all of the book and change it.
 fn questions(random: &mut Random, pool: &Pool) -> Vec<u8> {
-    let mut commands = vec![list(pool.leg(random)), print(), list(pool.leg(random))];
+    let Leg { s, e } = pool.leg(random);
+    let mut commands = vec![corner(s), list(pool.leg(random)), print(), corner(e)];
+    commands.extend([list(pool.leg(random)), begin(s), corner(e)]);
     commands.extend(pool.commands(random, 4));
     commands.extend([add(Site::new(40_000, 3, 4)), print(), remove(40_000)]);
     commands.concat()
@@ -104,6 +122,108 @@ fn one_flipped_bit_in_every_byte_that_counts(service: &impl Service) {
     assert!(told.values().all(|[refused, _]| *refused >= 100));
     // A leg that moves a little may have the same list.
     assert!(told["header"][1] >= 10);
+}
+
+/// Tables of many sizes, each without a tour, with one that begins, and with one that remembers a site.
+fn with_and_without_a_tour(random: &mut Random) -> Vec<(Vec<u8>, Pool)> {
+    let mut tables = vec![row()];
+    tables.extend([0, 1, 2, 9, 30].map(|count| sound_table(random, count).0));
+    let mut toured = Vec::new();
+    for table in tables {
+        let pool = Pool::new(random, 5);
+        let book = meaning(&table).expect("the table is sound").book;
+        let corner = pool.leg(random).s;
+        let remembered = book.lines.keys().next_back().copied();
+        for tour in [
+            None,
+            Some(Tour::begun(corner)),
+            Some(Tour { corner, remembered }),
+        ] {
+            let mut table = table.clone();
+            shape::write_tour(&mut table, tour);
+            toured.push((table, Pool::new(random, 5)));
+        }
+    }
+    toured
+}
+
+/// The 48 bytes from 16 to 63, which were all kept for later before tours: each with every value
+/// where a tour stands, and behind it with one bit or all but one.
+fn each_byte_of_a_tour_and_behind_it(service: &impl Service) {
+    let mut random = Random::new(76);
+    let (mut refused, mut taken) = ([0; 48], [0; 48]);
+    for (table, pool) in with_and_without_a_tour(&mut random) {
+        let commands = questions(&mut random, &pool);
+        for at in TOUR.start..SITE_ARRAY {
+            let bits = (0..8).flat_map(|bit| [1 << bit, !(1 << bit)]);
+            let values: Vec<u8> = match at {
+                at if TOUR.contains(&at) => (0..=255).collect(),
+                _ => bits.chain([0, 2, 3, 0xFF]).collect(),
+            };
+            for value in values {
+                let mut damaged = table.clone();
+                damaged[at] = value;
+                let sound = offer(service, &damaged, &commands).is_empty();
+                let outcome = if sound { &mut taken } else { &mut refused };
+                outcome[at - TOUR.start] += 1;
+            }
+        }
+    }
+    println!("refused {refused:?}, taken {taken:?}");
+    assert!(refused.iter().all(|times| *times >= 100));
+    // A kept byte is taken as 0 alone, once a table.
+    let (tour, kept) = taken.split_at(TOUR.len());
+    assert!(kept.iter().all(|times| *times == kept[0]));
+    // Both bytes of a coordinate, and the low one of a number, have other values that are sound.
+    assert!(tour[2..6].iter().all(|times| *times >= 500));
+    assert!(tour[6] >= kept[0] + 10);
+}
+
+/// Every value of the flag and of the remembered number; of the corner those around the grid's edges
+/// and some between.
+fn each_value_of_a_tours_words(service: &impl Service) {
+    let mut random = Random::new(77);
+    let (table, pool) = sound_table(&mut random, 12);
+    let mut table = table;
+    let mut told = BTreeMap::new();
+    for flag in [0, 1] {
+        let tour = (flag == 1).then(|| Tour::begun(pool.leg(&mut random).s));
+        shape::write_tour(&mut table, tour);
+        for at in [TOUR_FLAG, CORNER_WORDS[0], CORNER_WORDS[1], REMEMBERED] {
+            for value in 0..=u16::MAX {
+                let beside_the_edge =
+                    value.abs_diff(FAR_EDGE) <= 3 || !(3..=65_532).contains(&value);
+                let coordinate = CORNER_WORDS.contains(&at);
+                if coordinate && !beside_the_edge && value % 97 != 0 {
+                    continue;
+                }
+                let mut damaged = table.clone();
+                put_word(&mut damaged, at, value);
+                let sound = offer(service, &damaged, &[]).is_empty();
+                let outcome: &mut [usize; 2] = told.entry((flag, at)).or_default();
+                outcome[usize::from(sound)] += 1;
+                if coordinate && flag == 1 {
+                    assert_eq!(sound, value <= FAR_EDGE, "{value}");
+                }
+            }
+        }
+    }
+    println!("refused and taken, by flag and byte: {told:?}");
+    let word_zero = usize::from(CORNER_WORDS.iter().all(|at| word(&table, *at) == 0));
+    // Without a tour: flag 0, or 1 with all else 0; with one: 1, or 0 where all else is 0.
+    assert_eq!(
+        (told[&(0, TOUR_FLAG)][1], told[&(1, TOUR_FLAG)][1]),
+        (2, 1 + word_zero)
+    );
+    assert_eq!(
+        (told[&(0, REMEMBERED)][1], told[&(1, REMEMBERED)][1]),
+        (1, 13)
+    );
+    assert!(
+        CORNER_WORDS
+            .iter()
+            .all(|at| told[&(0, *at)][1] == 1 && told[&(1, *at)][1] >= 200)
+    );
 }
 
 /// A value such as stands somewhere in a table: a count, an id, a number, a coordinate.

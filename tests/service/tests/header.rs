@@ -62,6 +62,7 @@ fn line(command: &[u8]) -> String {
         Bytes::Remove(number) => [i64::from(number), 0, 0, 0],
         Bytes::List(leg) | Bytes::Stand(leg) => [leg.s.east, leg.s.north, leg.e.east, leg.e.north],
         Bytes::Print => [0; 4],
+        Bytes::Begin(corner) | Bytes::Corner(corner) => [corner.east, corner.north, 0, 0],
     };
     format!("{mark} {a} {b} {c} {d}\n")
 }
@@ -76,6 +77,7 @@ fn commands_are_the_second_programs() {
         let leg = Leg::new((edge, 1), (-1 - edge, edge));
         commands.extend([command::add(site), command::move_site(site)]);
         commands.extend([command::list(leg), command::stand(leg)]);
+        commands.extend([command::begin(leg.s), command::corner(leg.e)]);
     }
     commands.extend([command::remove(0), command::remove(65_535)]);
     let lines: String = commands.iter().map(|command| line(command)).collect();
@@ -87,7 +89,8 @@ fn what_fits_no_word_is_not_written() {
     let program = program("header_misfits");
     let misfits = "A 65536 0 0 0\nA -1 0 0 0\nA 1 32768 0 0\nA 1 0 -32769 0\nM 1 0 65536 0\n\
                    D 65536 0 0 0\nD -1 0 0 0\nL 32768 0 0 0\nL 0 -32769 0 0\nL 0 0 99999 0\n\
-                   S 0 0 0 32768\nS 0 0 -40000 0\nP 0 0 0 0\n";
+                   S 0 0 0 32768\nS 0 0 -40000 0\nB 32768 0 0 0\nB 0 -32769 0 0\n\
+                   C -32769 0 0 0\nC 0 65536 0 0\nP 0 0 0 0\n";
     assert_eq!(run(&program, "write", misfits.as_bytes()), b"P");
 }
 

@@ -1,10 +1,10 @@
 //! Random lists of batch calls: each call against the site book, each run against fresh tables.
 
 use reference::book::Book;
-use reference::command::{add, list, move_site, remove, stand};
+use reference::command::{CORNER, add, begin, corner, list, move_site, remove, stand};
 use reference::grid::{HALF_WIDTH, Leg, Site, TABLE_LEN, WORK_LEN, WRONG_WORK};
 use reference::random::Random;
-use reference::record::Record::Accepted;
+use reference::record::Record::{Accepted, List};
 use service::desk::{Desk, Lent, Tally};
 use service::draw::{Pool, broken_off};
 use service::history::{Size, compare_with_fresh, run};
@@ -52,6 +52,10 @@ fn runs(service: &impl Service, seed: u64) {
     );
     assert!(tally.accepted >= 10 * RUNS && tally.lists >= 5 * RUNS);
     assert!(compared >= 6 * RUNS && tally.sided >= RUNS / 10);
+    let tours = &tally.tours;
+    assert!(tours.legs >= 3 * RUNS && tours.most_legs >= 8);
+    assert!(tours.left_out >= 2 * RUNS && tours.nothing >= RUNS);
+    assert!(tours.across_calls >= RUNS / 5 && tours.changed_at_corner >= RUNS / 20);
 }
 
 fn runs_answer_as_the_book_and_as_fresh_tables(service: &impl Service) {
@@ -112,6 +116,8 @@ fn a_call_that_accepts_nothing_leaves_every_byte(service: &impl Service) {
             list(off_grid),
             list(on_grid),
             stand(off_grid),
+            begin(off_grid.e),
+            corner(on_grid.s),
         ];
         let mut book: Book = desk.book.clone();
         let before = desk.table.clone();
@@ -121,6 +127,7 @@ fn a_call_that_accepts_nothing_leaves_every_byte(service: &impl Service) {
         // Accepted if there were room.
         desk.call(&remove(held), WORK_LEN, 0);
         desk.call(&stand(on_grid), WORK_LEN, 0);
+        desk.call(&begin(on_grid.s), WORK_LEN, 0);
         desk.serve(&idle.concat());
         assert!(desk.table == before);
         assert_eq!(desk.book, book);
@@ -130,8 +137,8 @@ fn a_call_that_accepts_nothing_leaves_every_byte(service: &impl Service) {
     }
 }
 
-/// The table after a run is, byte for byte, the one after its accepted changes alone, each in a
-/// call of its own.
+/// The table after a run is, byte for byte, the one after its accepted changes and its tours' legs
+/// alone, each in a call of its own.
 fn what_is_not_accepted_leaves_no_trace_among_changes(service: &impl Service) {
     let mut random = Random::new(55);
     let mut dropped = 0;
@@ -145,7 +152,7 @@ fn what_is_not_accepted_leaves_no_trace_among_changes(service: &impl Service) {
         plain.records(&additions);
         let commands = pool.commands(&mut random, 60);
         for (command, record) in commands.iter().zip(mixed.records(&commands)) {
-            if record == Accepted {
+            if record == Accepted || command[0] == CORNER && matches!(record, List(_)) {
                 plain.records(std::slice::from_ref(command));
             } else {
                 dropped += 1;

@@ -3,9 +3,10 @@
 
 use reference::grid::LARGEST_DENOMINATOR;
 use service::bytes::{
-    ENTRIES_LISTED, FAR_EDGE, FREE_NODES, HALF_WIDTH, HEADER_KEPT, LAYOUT, LAYOUT_NUMBER, LEG_FLAG,
-    LEG_WORDS, LEVELS, MOST_NODES, MOST_SITES, NODE_LEN, NODE_POOL, RECORD_LEN, ROOT, SITE_ARRAY,
-    SITES_HELD, STACK, STACK_END, STANDING_LIST, TABLE_LEN, WORK_LEN,
+    CORNER_WORDS, ENTRIES_LISTED, FAR_EDGE, FREE_NODES, HALF_WIDTH, HEADER_KEPT, LAYOUT,
+    LAYOUT_NUMBER, LEG_FLAG, LEG_WORDS, LEVELS, MOST_NODES, MOST_SITES, NODE_LEN, NODE_POOL,
+    RECORD_LEN, REMEMBERED, ROOT, SITE_ARRAY, SITES_HELD, STACK, STACK_END, STANDING_LIST,
+    TABLE_LEN, TOUR_FLAG, WORK_LEN,
 };
 use std::path::Path;
 
@@ -91,6 +92,16 @@ fn the_words_stand_where_the_code_reads_them() {
     assert_eq!(leg.map(at), LEG_WORDS);
     assert_eq!(at("number of entries of the standing list"), ENTRIES_LISTED);
     assert_eq!(at("number of the layout"), LAYOUT);
+    assert_eq!(at("1 while a tour is under way"), TOUR_FLAG);
+    let corner = [
+        "easting of the tour's last corner",
+        "northing of the tour's last corner",
+    ];
+    assert_eq!(corner.map(at), CORNER_WORDS);
+    assert_eq!(
+        at("number of the site that is remembered in the tour"),
+        REMEMBERED
+    );
     assert_eq!(at("kept for later"), HEADER_KEPT.start);
     assert_eq!(at("number of levels"), LEVELS);
     assert_eq!(at("id of the root node"), ROOT);

@@ -4,7 +4,7 @@
 
 use binding::call::{Answer, batch, lay_out, raw};
 use reference::book::{ALL_USED, CUT_COMMAND, NO_ROOM, UNKNOWN_COMMAND, WRONG_LENGTH};
-use reference::command::{add, list, move_site, print, remove, stand};
+use reference::command::{CORNER, add, begin, corner, list, move_site, print, remove, stand};
 use reference::grid::{HALF_WIDTH, Leg, Site, TABLE_LEN, WORK_LEN, spread};
 use reference::random::{self, Random};
 use reference::record::ENTRY_LEN;
@@ -21,6 +21,14 @@ fn filled() -> Vec<u8> {
     let mut desk = Desk::lay_out(&Proved);
     let sites = [Site::new(1, 2, 3), Site::new(2, 7, 1)];
     desk.serve(&[add(sites[0]), add(sites[1]), stand(LEG)].concat());
+    desk.table
+}
+
+/// The same in a tour after its first leg.
+fn in_a_tour() -> Vec<u8> {
+    let mut desk = Desk::take_up(&Proved, filled());
+    desk.serve(&[begin(LEG.s), corner(LEG.e)].concat());
+    assert_eq!(desk.tally.tours.legs, 1);
     desk.table
 }
 
@@ -233,10 +241,16 @@ impl Drop for ReadOnly {
     }
 }
 
+/// Without a tour, where a 43 is refused, and in one.
 #[test]
 fn a_table_that_can_only_be_read() {
-    let table = ReadOnly::of(&filled());
-    let mut desk = Desk::take_up(&Proved, filled());
+    only_read(&filled(), &[corner(LEG.e)]);
+    only_read(&in_a_tour(), &[]);
+}
+
+fn only_read(bytes: &[u8], more: &[Vec<u8>]) {
+    let table = ReadOnly::of(bytes);
+    let mut desk = Desk::take_up(&Proved, bytes.to_vec());
     let off_grid = Leg::new((0, 0), (0, HALF_WIDTH + 1));
     let refused = [
         add(Site::new(0, 0, 0)),
@@ -246,6 +260,8 @@ fn a_table_that_can_only_be_read() {
         move_site(Site::new(3, 0, 0)),
         list(off_grid),
         stand(off_grid),
+        begin(off_grid.e),
+        corner(off_grid.e),
     ];
     let listed = [list(LEG), print(), list(Leg::new((5, 5), (5, 5)))];
     for commands in [
@@ -253,6 +269,7 @@ fn a_table_that_can_only_be_read() {
         refused.concat(),
         listed.concat(),
         [&refused[..], &listed].concat().concat(),
+        [&more[..], &listed].concat().concat(),
     ] {
         let expected = desk.serve(&commands);
         let mut report = vec![0; 4 * LONGEST_RECORD];
@@ -264,7 +281,7 @@ fn a_table_that_can_only_be_read() {
 
 #[test]
 fn calls_that_end_early_leave_a_table_that_can_only_be_read() {
-    let table = ReadOnly::of(&filled());
+    let table = ReadOnly::of(&in_a_tour());
     let change = add(Site::new(3, 4, 4));
     let ended = |work_len: usize, commands: &[u8], room: usize| {
         table.batch(&mut vec![1; work_len], commands, &mut vec![0; room])
@@ -272,6 +289,15 @@ fn calls_that_end_early_leave_a_table_that_can_only_be_read() {
     assert_eq!(ended(WORK_LEN, b"?", 9), answer(UNKNOWN_COMMAND, 0, 0));
     assert_eq!(ended(WORK_LEN, &change[..6], 9), answer(CUT_COMMAND, 0, 0));
     assert_eq!(ended(WORK_LEN, &change, 0), answer(NO_ROOM, 0, 0));
+    // A leg, the way back, and the beginning of another tour.
+    for command in [corner(LEG.e), corner(LEG.s), begin(LEG.s)] {
+        assert_eq!(
+            ended(WORK_LEN, &command[..4], 99),
+            answer(CUT_COMMAND, 0, 0)
+        );
+        let room = usize::from(command[0] == CORNER) * 2;
+        assert_eq!(ended(WORK_LEN, &command, room), answer(NO_ROOM, 0, 0));
+    }
     assert_eq!(ended(WORK_LEN - 1, &change, 9), answer(WRONG_LENGTH, 0, 0));
     let mut broken = filled();
     broken[0] = 3;

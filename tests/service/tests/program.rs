@@ -3,9 +3,11 @@
 #![cfg(feature = "proved")]
 
 use reference::batch_program;
-use reference::command::{add, print, stand};
+use reference::command::{add, begin, corner, print, stand};
 use reference::grid::{HALF_WIDTH, INPUT_LEN, Leg, MOST_SITES, Site, spread};
 use reference::random::{self, Random};
+use reference::record::ENTRY_LEN;
+use reference::tours::at;
 use service::desk::LONGEST_RECORD;
 use service::draw::{Pool, unknown_byte};
 use std::fs::File;
@@ -134,6 +136,22 @@ fn the_longest_lists() {
         let output = assert_prints(&[&input[..], &print().repeat(prints)].concat());
         assert_eq!(output.len(), 1 + MOST_SITES + prints * LONGEST_RECORD + 2);
     }
+}
+
+/// Each leg's record is longer than half the report buffer, so that each but the first is asked for
+/// again after 68.
+#[test]
+fn a_tour_of_the_longest_lists() {
+    let nth = |number: u16| add(Site::new(number, spread(number.into()), 0));
+    let mut input = (1..=512).flat_map(nth).collect::<Vec<u8>>();
+    let (west, east) = (at(-HALF_WIDTH, 0), at(HALF_WIDTH, 0));
+    input.extend(begin(west));
+    for _ in 0..20 {
+        input.extend([corner(east), corner(west), corner(west)].concat());
+    }
+    let output = assert_prints(&input);
+    let records = 20 * (2 * (LONGEST_RECORD - ENTRY_LEN) + 3) + ENTRY_LEN;
+    assert_eq!(output.len(), MOST_SITES + 1 + records + 2);
 }
 
 #[test]

@@ -1,22 +1,29 @@
 //! Wrong services, document 01's six and more: the comparisons of the other tests reject each,
 //! and for the reason that it is wrong. Each is the model with one fault.
 
-use reference::command::{Command, LIST, list};
-use reference::grid::{Leg, WORK_LEN, WRONG_WORK};
+use reference::book::Tour;
+use reference::command::{self, Command, LIST, list};
+use reference::grid::{Leg, Site, WORK_LEN, WRONG_WORK};
+use reference::layout::MIRRORED;
 use reference::random::Random;
 use reference::record::{ACCEPTED, LISTED, REFUSED};
 use reference::ties::{
     left_first, not_left_first, number_alone, right_by_narrow_products,
     right_of_the_way_back_first, right_then_higher, south_first,
 };
+use reference::tours;
 use service::bytes::{
-    ENTRIES_LISTED, HEADER_KEPT, LEVELS, ROOT, STACK_END, empty_table, entry_at, leg, number, sites,
+    ENTRIES_LISTED, FAR_EDGE, HEADER_KEPT, LEVELS, REMEMBERED, ROOT, STACK_END, TOUR, TOUR_FLAG,
+    empty_table, entry_at, leg, number, put_word, sites, tour, word,
 };
 use service::damage::{assert_wrong_length_first, flipped, offer, regions, stored_by};
+use service::desk::Desk;
+use service::draw::Pool;
+use service::hearing::hear_alone;
 use service::history::{Size, compare_with_fresh, run};
 use service::shape::{self, Dealing};
 use service::table::{Rule, broken_rules, meaning};
-use service::wrong::{Wrong, listing_by};
+use service::wrong::{Step, Wrong, listing_by, slipping};
 use service::{Answer, BROKEN_TABLE, Model, Service};
 
 /// Of each size, so many that the rarest fault shows: the side by narrow products.
@@ -31,7 +38,7 @@ fn trial(service: &impl Service) {
     for size in [Size::Few, Size::Some].repeat(ROUNDS) {
         let mut run = run(&mut random, service, size);
         compare_with_fresh(&mut random, &mut run);
-        let table = run.desk.table;
+        let table = run.desk.table.clone();
         for region in regions(&table) {
             if !region.bytes.is_empty() {
                 let at = region.bytes.start + random.index(region.bytes.len());
@@ -41,6 +48,27 @@ fn trial(service: &impl Service) {
         offer(service, &flipped(&table, STACK_END, 0), &[0x50]);
         offer(service, &stored_by(number_alone, &table), &[0x50]);
         assert_wrong_length_first(service, &table, 0);
+        trial_of_tours(service, &mut random, &run.pool, &table);
+    }
+}
+
+/// The table in tours that others began, and with a tour's words that a rule forbids.
+fn trial_of_tours(service: &impl Service, random: &mut Random, pool: &Pool, table: &[u8]) {
+    let held: Vec<u16> = sites(table).iter().map(|site| site.number).collect();
+    let mut others = table.to_vec();
+    let remembered = (!held.is_empty()).then(|| random.pick(&held));
+    let corner = pool.leg(random).s;
+    shape::write_tour(&mut others, Some(Tour { corner, remembered }));
+    let to = command::corner(pool.leg(random).e);
+    offer(service, &others, &to);
+    for at in TOUR.step_by(2) {
+        let mut broken = others.clone();
+        put_word(
+            &mut broken,
+            at,
+            random.pick(&[0, 1, 2, FAR_EDGE + 1, 65_535]),
+        );
+        offer(service, &broken, &to);
     }
 }
 
@@ -56,7 +84,7 @@ fn read_all(mut commands: &[u8]) -> Vec<(Command, usize)> {
 
 #[test]
 fn the_model_passes_the_trial() {
-    trial(&Wrong(|t, w, c, r| Model.batch(t, w, c, r)));
+    trial_by_tours(&Wrong(|t, w, c, r| Model.batch(t, w, c, r)));
 }
 
 #[test]
@@ -98,8 +126,9 @@ fn prints_one_list_for_all_legs() {
     }));
 }
 
+/// Where that is refused for another cause, the written bytes show it.
 #[test]
-#[should_panic(expected = "reason, used and written")]
+#[should_panic(expected = "written")]
 fn says_5_on_its_first_command() {
     trial(&Wrong(|t, w, c, r| match read_all(c).first() {
         Some((_, length)) if r.len() >= 2 && w.len() == WORK_LEN => {
@@ -228,8 +257,9 @@ fn writes_past_what_it_counts() {
     }));
 }
 
+/// All of the table is left, or all but the tour's words where a leg was answered.
 #[test]
-#[should_panic(expected = "the table is left by")]
+#[should_panic(expected = " is left by ")]
 fn reshapes_the_tree_where_nothing_is_accepted() {
     trial(&Wrong(|t, w, c, r| {
         let answer = Model.batch(t, w, c, r);
@@ -375,5 +405,432 @@ fn takes_a_stored_list_of_the_earlier_rule_too() {
             }
         }
         Model.batch(t, w, c, r)
+    }));
+}
+
+// Tours: document 02, C-13.
+
+/// The tours to try, one command a call, first with too little room and then with just enough; then
+/// the trial of the others.
+fn trial_by_tours(service: &impl Service) {
+    for tried in tours::all() {
+        let mut desk = Desk::lay_out(service);
+        for (command, record) in tried.steps {
+            let length = record.bytes().len();
+            desk.call(&command, WORK_LEN, length - 1);
+            desk.call(&command, WORK_LEN, length);
+        }
+    }
+    trial(service);
+}
+
+/// Whether a leg was answered.
+fn answered(step: &Step) -> bool {
+    matches!(step.command, Command::Corner(_)) && step.record.first() == Some(&LISTED)
+}
+
+fn accepted(step: &Step) -> bool {
+    *step.record == [ACCEPTED]
+}
+
+fn refused(step: &Step) -> bool {
+    step.record.first() == Some(&REFUSED)
+}
+
+/// The model, but for what it does after a command.
+macro_rules! slips_after {
+    ($t:ident, $step:ident => $slip:expr) => {
+        Wrong(|t, w, c, r| {
+            let after = |$t: &mut [u8], $step: Step| $slip;
+            slipping(|_, _| {}, after, (t, w, c, r))
+        })
+    };
+}
+
+#[test]
+fn slips_nowhere_and_passes() {
+    trial_by_tours(&slips_after!(_t, _step => {}));
+}
+
+/// The tour's words as they were before the command.
+fn keep_tour(t: &mut [u8], step: &Step) {
+    t[TOUR].copy_from_slice(&step.before[TOUR]);
+}
+
+#[test]
+#[should_panic(expected = "the table holds")]
+fn remembers_the_first_site_of_a_record() {
+    trial_by_tours(&slips_after!(t, step => {
+        if answered(&step) && step.record.len() > 3 {
+            t[REMEMBERED..TOUR.end].copy_from_slice(&step.record[3..5]);
+        }
+    }));
+}
+
+/// Which is none where the count is 0.
+#[test]
+#[should_panic(expected = "the table holds")]
+fn remembers_the_last_site_of_a_record() {
+    trial_by_tours(&slips_after!(t, step => {
+        if answered(&step) {
+            let last = match step.record.len() {
+                3 => [0, 0],
+                length => [step.record[length - 10], step.record[length - 9]],
+            };
+            t[REMEMBERED..TOUR.end].copy_from_slice(&last);
+        }
+    }));
+}
+
+#[test]
+#[should_panic(expected = "the table holds")]
+fn remembers_the_site_of_the_leg_before_the_last() {
+    trial_by_tours(&slips_after!(t, step => {
+        if answered(&step) && word(step.before, REMEMBERED) != 0 {
+            put_word(t, REMEMBERED, word(step.before, REMEMBERED));
+        }
+    }));
+}
+
+/// A table that others made shows it: two sites at one position, the higher number remembered.
+#[test]
+#[should_panic(expected = "written")]
+fn leaves_out_an_entry_for_its_position_alone() {
+    trial_by_tours(&Wrong(|t, w, c, r| {
+        let by_position = |t: &mut [u8], command: &Command| {
+            let sites = sites(t);
+            let number = word(t, REMEMBERED);
+            let there = sites.iter().find(|site| site.number == number);
+            let same = |site: &&Site| there.is_some_and(|s| s.position == site.position);
+            if let (Command::Corner(_), Some(first)) = (command, sites.iter().find(same)) {
+                put_word(t, REMEMBERED, first.number);
+            }
+        };
+        let if_answered = |t: &mut [u8], step: Step| {
+            if matches!(step.command, Command::Corner(_)) && !answered(&step) {
+                keep_tour(t, &step);
+            }
+        };
+        if meaning(t).is_err() {
+            return Model.batch(t, w, c, r);
+        }
+        slipping(by_position, if_answered, (t, w, c, r))
+    }));
+}
+
+#[test]
+#[should_panic(expected = "the table is left by")]
+fn ends_the_tour_at_a_refused_command() {
+    trial_by_tours(&slips_after!(t, step => {
+        if refused(&step) {
+            t[TOUR].fill(0);
+        }
+    }));
+}
+
+#[test]
+#[should_panic(expected = "the table holds")]
+fn ends_the_tour_at_an_accepted_53() {
+    trial_by_tours(&slips_after!(t, step => {
+        if accepted(&step) && matches!(step.command, Command::Stand(_)) {
+            t[TOUR].fill(0);
+        }
+    }));
+}
+
+#[test]
+#[should_panic(expected = "the table is left by")]
+fn ends_the_tour_at_4c() {
+    trial_by_tours(&slips_after!(t, step => {
+        if matches!(step.command, Command::List(_)) {
+            t[TOUR].fill(0);
+        }
+    }));
+}
+
+#[test]
+#[should_panic(expected = "the table holds")]
+fn keeps_the_tour_at_an_accepted_41() {
+    trial_by_tours(&slips_after!(t, step => {
+        if accepted(&step) && matches!(step.command, Command::Add(_)) {
+            keep_tour(t, &step);
+        }
+    }));
+}
+
+/// The table breaks a rule where the remembered site is the one that goes.
+#[test]
+#[should_panic(expected = "the table holds")]
+fn keeps_the_tour_at_an_accepted_44() {
+    trial_by_tours(&slips_after!(t, step => {
+        if let (true, Command::Remove(number)) = (accepted(&step), step.command)
+            && word(step.before, REMEMBERED) != number
+        {
+            keep_tour(t, &step);
+        }
+    }));
+}
+
+#[test]
+#[should_panic(expected = "the table breaks [RememberedHeld]")]
+fn remembers_a_site_that_was_removed() {
+    trial_by_tours(&slips_after!(t, step => {
+        if let (true, Command::Remove(number)) = (accepted(&step), step.command)
+            && word(step.before, REMEMBERED) == number
+        {
+            keep_tour(t, &step);
+        }
+    }));
+}
+
+#[test]
+#[should_panic(expected = "the table holds")]
+fn keeps_the_tour_at_a_move_to_the_same_place() {
+    trial_by_tours(&slips_after!(t, step => {
+        let stays = |site: &Site| sites(step.before).contains(site);
+        if let (true, Command::Move(site)) = (accepted(&step), step.command)
+            && stays(&site)
+        {
+            keep_tour(t, &step);
+        }
+    }));
+}
+
+#[test]
+#[should_panic(expected = "the table is left by")]
+fn goes_on_without_room() {
+    trial_by_tours(&slips_after!(t, step => {
+        if let (Command::Corner(corner), []) = (step.command, &*step.record) {
+            let remembered = tour(t).and_then(|tour| tour.remembered);
+            shape::write_tour(t, Some(Tour { corner, remembered }));
+        }
+    }));
+}
+
+#[test]
+#[should_panic(expected = "the table holds")]
+fn stays_at_the_first_corner() {
+    trial_by_tours(&slips_after!(t, step => {
+        if answered(&step) {
+            t[TOUR.start..REMEMBERED].copy_from_slice(&step.before[TOUR.start..REMEMBERED]);
+        }
+    }));
+}
+
+#[test]
+#[should_panic(expected = "the table holds")]
+fn begins_no_tour_within_another() {
+    trial_by_tours(&slips_after!(t, step => {
+        if matches!(step.command, Command::Begin(_)) && tour(step.before).is_some() {
+            keep_tour(t, &step);
+        }
+    }));
+}
+
+#[test]
+#[should_panic(expected = "the table holds")]
+fn remembers_a_site_through_42() {
+    trial_by_tours(&slips_after!(t, step => {
+        if accepted(&step) && matches!(step.command, Command::Begin(_)) {
+            put_word(t, REMEMBERED, word(step.before, REMEMBERED));
+        }
+    }));
+}
+
+#[test]
+#[should_panic(expected = "is written, not")]
+fn refuses_a_corner_off_the_grid_with_2_without_a_tour() {
+    trial_by_tours(&slips_after!(_t, step => {
+        if let (Command::Corner(corner), [REFUSED, number]) = (step.command, step.record)
+            && !corner.on_grid()
+        {
+            *number = 2;
+        }
+    }));
+}
+
+#[test]
+#[should_panic(expected = "is written, not")]
+fn refuses_a_corner_with_6_before_2() {
+    trial_by_tours(&slips_after!(t, step => {
+        if let (Command::Corner(_), [REFUSED, number @ 2]) = (step.command, step.record)
+            && sites(t).is_empty()
+        {
+            *number = 6;
+        }
+    }));
+}
+
+/// The first start that is printed becomes 0.
+#[test]
+#[should_panic(expected = "is written, not")]
+fn counts_the_starts_from_the_first_that_is_printed() {
+    trial_by_tours(&slips_after!(_t, step => {
+        if answered(&step) && step.record.len() > 3 {
+            step.record[5..13].copy_from_slice(&[0, 0, 0, 0, 1, 0, 0, 0]);
+        }
+    }));
+}
+
+/// Asks for room for the whole list, though its first entry is left out.
+#[test]
+#[should_panic(expected = "reason, used and written")]
+fn asks_for_room_for_what_it_leaves_out() {
+    trial_by_tours(&Wrong(|t, w, c, r| {
+        let mut whole = t.to_vec();
+        put_word(&mut whole, REMEMBERED, 0);
+        let one = matches!(read_all(c)[..], [(Command::Corner(_), _)]);
+        let room = &mut r.to_vec();
+        if one && meaning(t).is_ok() && Model.batch(&mut whole, w, c, room).0 == 68 {
+            return (68, 0, 0);
+        }
+        Model.batch(t, w, c, r)
+    }));
+}
+
+/// As the model, but tables with this rule broken alone are taken, mended for the call.
+fn taking_broken(rule: Rule, t: &mut [u8], w: &mut [u8], c: &[u8], r: &mut [u8]) -> Answer {
+    if broken_rules(t) != [rule] {
+        return Model.batch(t, w, c, r);
+    }
+    let mut mended = t.to_vec();
+    shape::write_tour(&mut mended, None);
+    let answer = Model.batch(&mut mended, w, c, r);
+    if answer.1 > 0 {
+        t.copy_from_slice(&mended);
+    }
+    answer
+}
+
+#[test]
+#[should_panic(expected = "[TourFlag]")]
+fn takes_another_flag_of_a_tour() {
+    trial_by_tours(&Wrong(|t, w, c, r| {
+        taking_broken(Rule::TourFlag, t, w, c, r)
+    }));
+}
+
+#[test]
+#[should_panic(expected = "[CornerOnGrid]")]
+fn takes_a_corner_off_the_grid() {
+    trial_by_tours(&Wrong(|t, w, c, r| {
+        taking_broken(Rule::CornerOnGrid, t, w, c, r)
+    }));
+}
+
+#[test]
+#[should_panic(expected = "[RememberedHeld]")]
+fn takes_a_remembered_site_that_is_not_held() {
+    trial_by_tours(&Wrong(|t, w, c, r| {
+        taking_broken(Rule::RememberedHeld, t, w, c, r)
+    }));
+}
+
+#[test]
+#[should_panic(expected = "[NoTourIsZero]")]
+fn takes_a_corner_without_a_tour() {
+    trial_by_tours(&Wrong(|t, w, c, r| {
+        taking_broken(Rule::NoTourIsZero, t, w, c, r)
+    }));
+}
+
+#[test]
+#[should_panic(expected = "reason, used and written")]
+fn refuses_a_table_with_a_tour() {
+    trial_by_tours(&Wrong(|t, w, c, r| {
+        if w.len() == WORK_LEN && word(t, TOUR_FLAG) != 0 {
+            w.fill(0);
+            return (BROKEN_TABLE, 0, 0);
+        }
+        Model.batch(t, w, c, r)
+    }));
+}
+
+#[test]
+#[should_panic(expected = "reason, used and written")]
+fn refuses_a_tour_without_a_remembered_site() {
+    trial_by_tours(&Wrong(|t, w, c, r| {
+        if w.len() == WORK_LEN && tour(t).is_some_and(|tour| tour.remembered.is_none()) {
+            w.fill(0);
+            return (BROKEN_TABLE, 0, 0);
+        }
+        Model.batch(t, w, c, r)
+    }));
+}
+
+/// What a listener says who has no book: only names count, so that not each of these services is
+/// wrong to him.
+fn heard(service: &impl Service) {
+    let mut random = Random::new(112);
+    for layout in MIRRORED.repeat(20) {
+        let pool = Pool::of(&mut random, layout, 12);
+        hear_alone(service, &mut random, &pool, 10);
+    }
+}
+
+#[test]
+fn the_model_keeps_the_promise() {
+    heard(&Model);
+}
+
+#[test]
+#[should_panic(expected = "heard of Corner")]
+fn a_listener_misses_what_the_leg_before_the_last_hides() {
+    heard(&slips_after!(t, step => {
+        if answered(&step) && word(step.before, REMEMBERED) != 0 {
+            put_word(t, REMEMBERED, word(step.before, REMEMBERED));
+        }
+    }));
+}
+
+#[test]
+#[should_panic(expected = "heard of Corner")]
+fn a_listener_notices_a_tour_that_a_refusal_ended() {
+    heard(&slips_after!(t, step => {
+        if refused(&step) {
+            t[TOUR].fill(0);
+        }
+    }));
+}
+
+#[test]
+#[should_panic(expected = "heard of Corner")]
+fn a_listener_notices_a_tour_that_outlives_a_change() {
+    heard(&slips_after!(t, step => {
+        if accepted(&step) && matches!(step.command, Command::Move(_)) {
+            keep_tour(t, &step);
+        }
+    }));
+}
+
+#[test]
+#[should_panic(expected = "heard of Corner")]
+fn a_listener_notices_a_leg_that_began_elsewhere() {
+    heard(&slips_after!(t, step => {
+        if let (Command::Corner(corner), []) = (step.command, &*step.record) {
+            let remembered = tour(t).and_then(|tour| tour.remembered);
+            shape::write_tour(t, Some(Tour { corner, remembered }));
+        }
+    }));
+}
+
+/// The first site of a record of several is not near the corner where it ends, so that no entry is
+/// left out for it.
+#[test]
+fn a_listener_takes_the_first_site_of_a_record_remembered() {
+    heard(&slips_after!(t, step => {
+        if answered(&step) && step.record.len() > 3 {
+            t[REMEMBERED..TOUR.end].copy_from_slice(&step.record[3..5]);
+        }
+    }));
+}
+
+/// All names are told where the first entry is never left out; the book alone says that it is.
+#[test]
+fn a_listener_takes_whole_lists_as_well() {
+    heard(&slips_after!(t, step => {
+        if answered(&step) {
+            put_word(t, REMEMBERED, 0);
+        }
     }));
 }

@@ -1,6 +1,7 @@
 //! What came up in years without a difference.
 
-use reference::command::{ADD, LIST, MOVE, PRINT, REMOVE, STAND};
+use reference::command::{ADD, BEGIN, CORNER, LIST, MOVE, PRINT, REMOVE, STAND};
+use reference::listener::Told;
 use service::desk::Tally;
 use std::fmt::{Display, Formatter, Result};
 
@@ -10,6 +11,8 @@ pub struct Counts {
     pub tally: Tally,
     /// Lists compared with those of fresh tables.
     pub fresh_lists: usize,
+    /// What was heard of tours with no book beside the service.
+    pub heard_alone: Told,
     /// Tables with a flipped bit, and those among them in which a rule was broken.
     pub damaged: usize,
     pub broken: usize,
@@ -20,18 +23,21 @@ impl Counts {
         self.years += other.years;
         self.tally.add(&other.tally);
         self.fresh_lists += other.fresh_lists;
+        self.heard_alone.add(&other.heard_alone);
         self.damaged += other.damaged;
         self.broken += other.broken;
     }
 }
 
-const KINDS: [(u8, &str); 6] = [
+const KINDS: [(u8, &str); 8] = [
     (ADD, "add"),
     (REMOVE, "remove"),
     (MOVE, "move"),
     (LIST, "list"),
     (STAND, "stand"),
     (PRINT, "print"),
+    (BEGIN, "begin"),
+    (CORNER, "corner"),
 ];
 
 impl Display for Counts {
@@ -66,7 +72,35 @@ impl Display for Counts {
         write!(f, "tables checked {}", tally.checked)?;
         writeln!(f, ", up to {levels} levels and {nodes} nodes")?;
         writeln!(f, "  side decides {} standing lists", tally.sided)?;
+        write_tours(f, "tours", &tally.tours)?;
+        write_tours(f, "heard alone", &self.heard_alone)?;
         let (damaged, broken) = (self.damaged, self.broken);
         write!(f, "damaged tables {damaged}, of which {broken} broken")
     }
+}
+
+fn write_tours(f: &mut Formatter, what: &str, told: &Told) -> Result {
+    let Told {
+        begun,
+        legs,
+        across_calls,
+        most_legs,
+        left_out,
+        changed_at_corner,
+        nothing,
+        nothing_again,
+        fractions,
+    } = told;
+    write!(
+        f,
+        "{what:14} {begun} begun, {legs} legs answered, up to {most_legs} in one, "
+    )?;
+    writeln!(f, "{across_calls} from a corner of an earlier call")?;
+    write!(f, "  first entry  left out {left_out} times, ")?;
+    writeln!(f, "another one after a corner {changed_at_corner} times")?;
+    write!(
+        f,
+        "  counts of 0  {nothing}, of which {nothing_again} after another; "
+    )?;
+    writeln!(f, "{fractions} fractions compared")
 }

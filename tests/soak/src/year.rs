@@ -2,21 +2,25 @@
 
 use crate::counts::Counts;
 use reference::book::Book;
-use reference::command::stand;
-use reference::grid::MOST_SITES;
+use reference::command::{begin, corner, stand};
+use reference::grid::{Leg, MOST_SITES};
 use reference::random::Random;
 use service::Service;
 use service::damage::{flipped, offer, regions};
 use service::desk::Desk;
 use service::draw::{Pool, broken_off};
+use service::hearing::hear_alone;
 use service::history::{Run, call, compare_with_fresh};
 use service::shape::{self, Dealing};
 
 const DAYS: usize = 365;
 const MOST_COMMANDS_A_CALL: usize = 20;
-/// After so many days come fresh tables and damaged ones.
+/// After so many days come fresh tables, one with a listener alone, and damaged ones.
 const QUARTER: usize = 91;
+const HEARD_A_QUARTER: usize = 20;
 const DAMAGED_A_QUARTER: usize = 10;
+/// Once in so many days the commands are a tour's.
+const TOUR_ONCE_IN: i64 = 6;
 
 pub struct Year {
     random: Random,
@@ -47,6 +51,8 @@ impl Year {
             self.call(&mut run);
             if day % QUARTER == 0 {
                 counts.fresh_lists += compare_with_fresh(&mut self.random, &mut run);
+                let heard = hear_alone(service, &mut self.random, &run.pool, HEARD_A_QUARTER);
+                counts.heard_alone.add(&heard);
                 for _ in 0..DAMAGED_A_QUARTER {
                     counts.damaged += 1;
                     counts.broken += usize::from(self.damage(&run));
@@ -80,6 +86,10 @@ impl Year {
         if random.once_in(2) {
             book.records(&[stand(pool.leg(random))]);
         }
+        if random.once_in(2) {
+            let Leg { s, e } = pool.leg(random);
+            book.records(&[begin(s), corner(e)]);
+        }
         let dealing = &mut match random.once_in(4) {
             true => Dealing::Tallest,
             false => Dealing::Any(random),
@@ -88,8 +98,12 @@ impl Year {
     }
 
     fn call<S: Service>(&mut self, run: &mut Run<S>) {
-        let count = self.random.index(MOST_COMMANDS_A_CALL + 1);
-        let commands = run.pool.commands(&mut self.random, count);
+        let commands = if self.random.once_in(TOUR_ONCE_IN) {
+            run.pool.tour(&mut self.random)
+        } else {
+            let count = self.random.index(MOST_COMMANDS_A_CALL + 1);
+            run.pool.commands(&mut self.random, count)
+        };
         self.commands = broken_off(&mut self.random, commands);
         call(&mut self.random, &mut run.desk, &self.commands);
     }

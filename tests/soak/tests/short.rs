@@ -19,6 +19,13 @@ fn some_years_show_no_difference(service: &impl Service) {
     assert!(tally.calls >= YEARS * 365 && tally.lists >= YEARS * 365);
     assert!(tally.sided >= YEARS, "ties along the whole leg");
     assert!(counts.fresh_lists >= 4 * 6 * YEARS && counts.broken >= YEARS);
+    let tours = &tally.tours;
+    assert!(tours.legs >= 365 * YEARS && tours.most_legs >= 10, "tours");
+    assert!(tours.left_out >= 200 * YEARS && tours.nothing >= 50 * YEARS);
+    assert!(tours.nothing_again >= 10 * YEARS && tours.across_calls >= 10 * YEARS);
+    assert!(tours.changed_at_corner >= 5 * YEARS);
+    let alone = &counts.heard_alone;
+    assert!(alone.legs >= 4 * 30 * YEARS && alone.left_out >= 4 * 15 * YEARS);
 }
 
 /// The model, but for a wrong byte in a report that begins with a printed list of three or more.

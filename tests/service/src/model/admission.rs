@@ -4,13 +4,13 @@
 use crate::bytes::{
     self, ENTRIES_LISTED, Entry, FEWEST_ENTRIES, FEWEST_IN_ROOT, FREE_NODES, HEADER_KEPT, LAYOUT,
     LAYOUT_NUMBER, LEG_FLAG, LEG_WORDS, LEVELS, MOST_ENTRIES, MOST_LEVELS, MOST_NODES, ROOT,
-    SITES_HELD, free_at, leg, listed, node_at, number, position, sites, word,
+    SITES_HELD, TOUR, TOUR_FLAG, free_at, leg, listed, node_at, number, position, sites, word,
 };
 use reference::grid::{MOST_SITES, Site};
 use reference::hull;
 
 pub(super) fn admits(table: &[u8]) -> bool {
-    header(table) && records(table) && standing(table) && tree(table)
+    header(table) && records(table) && standing(table) && toured(table) && tree(table)
 }
 
 fn header(table: &[u8]) -> bool {
@@ -40,6 +40,17 @@ fn standing(table: &[u8]) -> bool {
             on_grid && list().iter().map(|entry| entry.site).eq(numbers)
         }
         (0, None) => numbers.is_empty() && LEG_WORDS.iter().all(|at| word(table, *at) == 0),
+        _ => false,
+    }
+}
+
+fn toured(table: &[u8]) -> bool {
+    match (word(table, TOUR_FLAG), bytes::tour(table)) {
+        (1, Some(tour)) => {
+            let held = |number: u16| sites(table).iter().any(|site| site.number == number);
+            tour.corner.on_grid() && tour.remembered.is_none_or(held)
+        }
+        (0, None) => table[TOUR].iter().all(|byte| *byte == 0),
         _ => false,
     }
 }
