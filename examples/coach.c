@@ -31,6 +31,7 @@ static const char *const refusals[] = {
     "the table is full",
     "no stop is held",
     "no leg is standing",
+    "no tour is under way",
 };
 
 /* One batch with one command of this length; its record. */

@@ -3,9 +3,9 @@
 #ifndef STOPS_H
 #define STOPS_H
 
-#define STOPS_VERSION "0.9.0"
+#define STOPS_VERSION "0.10.0"
 /* 10000 times the first number, 100 times the second, and the third. */
-#define STOPS_VERSION_NUMBER 900
+#define STOPS_VERSION_NUMBER 1000
 
 #include <stddef.h>
 #include <stdint.h>
@@ -45,7 +45,11 @@ enum stops_command {
     STOPS_MOVE = 0x4D,   /* number, position */
     STOPS_LIST = 0x4C,   /* start and end of a leg: two positions */
     STOPS_STAND = 0x53,  /* start and end of the standing leg */
-    STOPS_PRINT = 0x50   /* nothing: prints the standing list */
+    STOPS_PRINT = 0x50,  /* nothing: prints the standing list */
+    STOPS_BEGIN = 0x42,  /* position: begins a tour there, also within another one; an accepted
+                            STOPS_ADD, STOPS_REMOVE or STOPS_MOVE ends it */
+    STOPS_CORNER = 0x43  /* position: lists the leg from the tour's last corner to this one, which
+                            is the last corner then */
 };
 
 /* First bytes of the records in a report. */
@@ -55,7 +59,12 @@ enum stops_record {
     STOPS_LISTED = 0x3D    /* a 16-bit count, then the entries: 16-bit number of the site,
                               32-bit numerator and denominator of its start, all unsigned:
                               a denominator may pass 2,147,483,647; of sites that tie along
-                              the whole leg, one on its right, then the lower number */
+                              the whole leg, one on its right, then the lower number.
+                              STOPS_CORNER's leaves out its first entry, that from 0 on, where
+                              it names the site that ended the whole list of the tour's leg
+                              before; then the count may be 0. That site is still the nearest,
+                              up to the first start or all along: it is the last one in the
+                              tour's earlier records */
 };
 
 /* Why a command was refused; the table is left, and the batch goes on. */
@@ -66,10 +75,11 @@ enum stops_refusal {
     STOPS_NUMBER_NOT_HELD = 4,
     STOPS_TABLE_FULL = 5,
     STOPS_NO_SITE = 6,
-    STOPS_NO_STANDING_LEG = 7
+    STOPS_NO_STANDING_LEG = 7,
+    STOPS_NO_TOUR = 8 /* STOPS_CORNER, and no tour is under way */
 };
 
-/* Writes an empty table without a standing leg. Returns 0, or 64 and leaves the bytes. */
+/* Writes an empty table without a standing leg and a tour. Returns 0, or 64 and leaves the bytes. */
 uint32_t stops_lay_out(uint8_t *table, size_t table_len);
 
 /* Carries out the commands in turn and writes their records to the report. Returns the reason.
@@ -87,7 +97,7 @@ uint32_t stops_lay_out(uint8_t *table, size_t table_len);
    - lend buffers at any address: only used and written are aligned as a size_t has to be;
    - call from many threads at once, where each has a table and buffers of its own;
    - lend a table that can only be read, where the batch changes nothing: none of its commands is
-     accepted, they list or are refused, or the call ends before. */
+     accepted and no STOPS_CORNER lists; the others list or are refused, or the call ends before. */
 uint32_t stops_batch(uint8_t *table, size_t table_len,
                      uint8_t *work, size_t work_len,
                      const uint8_t *commands, size_t commands_len,
@@ -139,6 +149,17 @@ static inline size_t stops_put_leg(uint8_t *to, size_t room, uint8_t mark, int32
     return 9;
 }
 
+static inline size_t stops_put_position(uint8_t *to, size_t room, uint8_t mark, int32_t east,
+                                        int32_t north)
+{
+    if (room < 5 || !stops_fits_position(east, north))
+        return 0;
+    to[0] = mark;
+    stops_put_word(to + 1, east);
+    stops_put_word(to + 3, north);
+    return 5;
+}
+
 static inline size_t stops_put_add(uint8_t *to, size_t room, int32_t number, int32_t east,
                                    int32_t north)
 {
@@ -178,6 +199,16 @@ static inline size_t stops_put_print(uint8_t *to, size_t room)
         return 0;
     to[0] = STOPS_PRINT;
     return 1;
+}
+
+static inline size_t stops_put_begin(uint8_t *to, size_t room, int32_t east, int32_t north)
+{
+    return stops_put_position(to, room, STOPS_BEGIN, east, north);
+}
+
+static inline size_t stops_put_corner(uint8_t *to, size_t room, int32_t east, int32_t north)
+{
+    return stops_put_position(to, room, STOPS_CORNER, east, north);
 }
 
 /* Reading records. */

@@ -24,7 +24,14 @@ pub const LEG_FLAG: usize = 2;
 pub const LEG_WORDS: [usize; 4] = [4, 6, 8, 10];
 pub const ENTRIES_LISTED: usize = 12;
 pub const LAYOUT: usize = 14;
-pub const HEADER_KEPT: Range<usize> = 16..64;
+/// The tour's words; all 0 without one, and in every table of an earlier release.
+pub const TOUR: Range<usize> = 16..24;
+pub const TOUR_FLAG: usize = 16;
+/// Easting and northing of its last corner.
+pub const CORNER_WORDS: [usize; 2] = [18, 20];
+/// The number of the site that ended the list of its previous leg; 0 before its first leg.
+pub const REMEMBERED: usize = 22;
+pub const HEADER_KEPT: Range<usize> = 24..64;
 
 pub const SITE_ARRAY: usize = 64;
 pub const RECORD_LEN: usize = 8;
@@ -119,6 +126,27 @@ pub fn leg_words(table: &[u8]) -> Option<[u16; 4]> {
     (word(table, LEG_FLAG) == 1).then(|| LEG_WORDS.map(|at| word(table, at)))
 }
 
+/// Easting and northing of the tour's last corner, in steps from the south-west corner, and the
+/// remembered number; none without a tour.
+pub fn tour_words(table: &[u8]) -> Option<([u16; 2], u16)> {
+    let words = || {
+        (
+            CORNER_WORDS.map(|at| word(table, at)),
+            word(table, REMEMBERED),
+        )
+    };
+    (word(table, TOUR_FLAG) == 1).then(words)
+}
+
+/// The header's bytes that are 0 in the table's layout: the earlier ones know no tour.
+pub fn header_kept(table: &[u8]) -> Range<usize> {
+    if is_earlier(table) {
+        TOUR.start..HEADER_KEPT.end
+    } else {
+        HEADER_KEPT
+    }
+}
+
 /// The site numbers of the standing list; a count that is too large reads no further.
 pub fn listed(table: &[u8]) -> Vec<u16> {
     let entries = number(table, ENTRIES_LISTED).min(MOST_SITES);
@@ -163,6 +191,7 @@ pub fn empty_table() -> Vec<u8> {
 
 // The regions follow each other as the layout's first table says.
 const _: () = {
+    assert!(HEADER_KEPT.start == TOUR.end && TOUR.end == REMEMBERED + 2);
     assert!(SITE_ARRAY == HEADER_KEPT.end);
     assert!(STANDING_LIST == SITE_ARRAY + RECORD_LEN * MOST_SITES);
     assert!(LEVELS == STANDING_LIST + 2 * MOST_SITES);

@@ -7,6 +7,7 @@ use std::os::unix::ffi::OsStringExt;
 pub enum Act {
     Sites,
     Standing,
+    Touring,
     Tree,
     Save,
     Draw(OsString),
@@ -20,6 +21,7 @@ impl Act {
         match self {
             Act::Sites => "sites",
             Act::Standing => "standing",
+            Act::Touring => "touring",
             Act::Tree => "tree",
             Act::Save => "save",
             Act::Draw(_) => "draw",

@@ -21,6 +21,7 @@ impl Session {
         match act {
             Act::Sites => show::sites(name, &self.service, desk),
             Act::Standing => show::standing(name, &mut self.service, desk),
+            Act::Touring => show::touring(name, &self.service, desk),
             Act::Tree => show::tree(name, &self.service, desk),
             Act::Help => desk.say(help::lines()),
             Act::Save if self.store.is_none() => self.complain(number, &Complaint::NoTable, desk),

@@ -1,4 +1,4 @@
-//! The six commands of document 01 and their bytes.
+//! The commands of documents 01 and 02 and their bytes.
 
 use crate::grid::{Leg, Position, Site};
 
@@ -8,6 +8,9 @@ const MOVE: u8 = 0x4D;
 const LIST: u8 = 0x4C;
 const STAND: u8 = 0x53;
 const PRINT: u8 = 0x50;
+const BEGIN: u8 = 0x42;
+const CORNER: u8 = 0x43;
+const MARKS: [u8; 8] = [ADD, REMOVE, MOVE, LIST, STAND, PRINT, BEGIN, CORNER];
 
 #[derive(Clone, Copy, Debug, PartialEq, Eq)]
 pub enum Command {
@@ -17,6 +20,10 @@ pub enum Command {
     List(Leg),
     Stand(Leg),
     Print,
+    /// A tour, at its first corner.
+    Begin(Position),
+    /// The tour's next corner.
+    Corner(Position),
 }
 
 impl Command {
@@ -32,12 +39,14 @@ impl Command {
             Command::List(leg) => put_leg(bytes, LIST, leg),
             Command::Stand(leg) => put_leg(bytes, STAND, leg),
             Command::Print => bytes.push(PRINT),
+            Command::Begin(at) => put_corner(bytes, BEGIN, at),
+            Command::Corner(at) => put_corner(bytes, CORNER, at),
         }
     }
 
     /// Whether the byte begins a command.
     pub fn is_mark(byte: u8) -> bool {
-        [ADD, REMOVE, MOVE, LIST, STAND, PRINT].contains(&byte)
+        MARKS.contains(&byte)
     }
 
     /// The first command and its length; none where the bytes begin with no whole command.
@@ -50,6 +59,8 @@ impl Command {
             LIST => (Command::List(leg(operands)?), 9),
             STAND => (Command::Stand(leg(operands)?), 9),
             PRINT => (Command::Print, 1),
+            BEGIN => (Command::Begin(position(operands, 0)?), 5),
+            CORNER => (Command::Corner(position(operands, 0)?), 5),
             _ => return None,
         };
         Some(command)
@@ -68,6 +79,8 @@ impl std::fmt::Display for Command {
             Command::List(asked) => write!(f, "leg {}", leg(asked)),
             Command::Stand(set) => write!(f, "stand {}", leg(set)),
             Command::Print => write!(f, "print"),
+            Command::Begin(at) => write!(f, "tour {} {}", at.east, at.north),
+            Command::Corner(at) => write!(f, "corner {} {}", at.east, at.north),
         }
     }
 }
@@ -82,6 +95,11 @@ fn put_leg(bytes: &mut Vec<u8>, mark: u8, leg: Leg) {
     bytes.push(mark);
     put_position(bytes, leg.s);
     put_position(bytes, leg.e);
+}
+
+fn put_corner(bytes: &mut Vec<u8>, mark: u8, at: Position) {
+    bytes.push(mark);
+    put_position(bytes, at);
 }
 
 fn put_position(bytes: &mut Vec<u8>, position: Position) {
@@ -139,6 +157,32 @@ mod tests {
                 assert_eq!(Command::read(&bytes[..length]), None);
             }
         }
-        assert_eq!(Command::read(&[0x42; 9]), None);
+        assert_eq!(Command::read(&[0x45; 9]), None);
+    }
+
+    #[test]
+    fn corners_come_back_byte_for_byte() {
+        let at = Position {
+            east: -2,
+            north: 0x0304,
+        };
+        for (command, bytes) in [
+            (Command::Begin(at), [0x42, 0xFE, 0xFF, 4, 3]),
+            (Command::Corner(at), [0x43, 0xFE, 0xFF, 4, 3]),
+        ] {
+            let mut written = Vec::new();
+            command.write(&mut written);
+            assert_eq!(written, bytes);
+            assert_eq!(Command::read(&bytes), Some((command, 5)));
+            assert!((0..5).all(|length| Command::read(&bytes[..length]).is_none()));
+        }
+    }
+
+    #[test]
+    fn marks_are_the_bytes_that_begin_a_command() {
+        for byte in 0..=u8::MAX {
+            let read = Command::read(&[byte, 0, 0, 0, 0, 0, 0, 0, 0]);
+            assert_eq!(Command::is_mark(byte), read.is_some(), "{byte:02X}");
+        }
     }
 }

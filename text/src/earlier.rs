@@ -1,6 +1,6 @@
 //! Tables of earlier releases. In layouts 0 and 1 all stands where it stands now, but coordinates
-//! are counted from the corner of a smaller grid; and before 0.9.0 the standing list had the lowest
-//! number of sites that tie.
+//! are counted from the corner of a smaller grid; before 0.9.0 the standing list had the lowest
+//! number of sites that tie; and before 0.10.0 there were no tours.
 
 use crate::check;
 use crate::lists::{Lists, stands};
@@ -8,7 +8,7 @@ use crate::service::Service;
 use crate::status::Failure;
 use binding::layout::{
     EARLIER_HALF_WIDTH, HALF_WIDTH, LAYOUT, LAYOUT_NUMBER, LEG_FLAG, LEG_WORDS, MOST_ENTRIES,
-    MOST_NODES, MOST_SITES, SITES_HELD, entry_at, is_earlier, listed_at, number, put_word,
+    MOST_NODES, MOST_SITES, SITES_HELD, TOUR, entry_at, is_earlier, listed_at, number, put_word,
     record_at, word,
 };
 
@@ -16,7 +16,7 @@ use binding::layout::{
 /// exactly where the table is sound now or was in its release: one without a list of then is left.
 pub fn renewed(table: &[u8]) -> Result<Vec<u8>, Failure> {
     let mut renewed = table.to_vec();
-    if !check::is_readable(table) {
+    if !check::is_readable(table) || table[TOUR].iter().any(|byte| *byte != 0) {
         return Ok(renewed);
     }
     let Lists { today, earlier } = Lists::of(table)?;

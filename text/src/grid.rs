@@ -25,6 +25,29 @@ pub struct Leg {
     pub e: Position,
 }
 
+/// What a picture is about.
+#[derive(Clone, Debug, PartialEq, Eq)]
+pub enum Route {
+    Leg(Leg),
+    /// From corner to corner.
+    Tour(Vec<Position>),
+}
+
+impl Route {
+    pub fn legs(&self) -> Vec<Leg> {
+        match self {
+            Route::Leg(leg) => vec![*leg],
+            Route::Tour(corners) => {
+                let leg = |pair: &[Position]| Leg {
+                    s: pair[0],
+                    e: pair[1],
+                };
+                corners.windows(2).map(leg).collect()
+            }
+        }
+    }
+}
+
 impl fmt::Display for Position {
     fn fmt(&self, f: &mut fmt::Formatter) -> fmt::Result {
         write!(f, "({}, {})", self.east, self.north)

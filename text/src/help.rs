@@ -17,7 +17,9 @@ mod tests {
     fn the_part_is_that_on_lines() {
         assert!(super::lines().starts_with("    add NUMBER"));
         assert!(!super::lines().contains("ANSWERS"));
-        for word in ["remove", "leg", "sites", "save", "draw", "quit"] {
+        for word in [
+            "remove", "leg", "tour", "corner", "sites", "touring", "save", "quit",
+        ] {
             assert!(super::lines().contains(word), "{word}");
         }
     }

@@ -28,10 +28,11 @@ pub enum Said {
     Act(Act),
 }
 
-const KNOWN: &str =
-    "add, remove, move, leg, stand, print; sites, standing, tree, save, draw, help, quit";
+const KNOWN: &str = "add, remove, move, leg, stand, print, tour, corner; \
+                     sites, standing, touring, tree, save, draw, help, quit";
 const SITE: &str = "site number, easting, northing";
 const LEG: &str = "easting and northing of the start, then of the end";
+const CORNER: &str = "easting, northing";
 /// What is shown of a word that is not understood.
 const SHOWN: usize = 24;
 
@@ -57,6 +58,7 @@ fn act(first: &[u8], operands: &[&[u8]]) -> Result<Option<Act>, Complaint> {
     let plain = [
         Act::Sites,
         Act::Standing,
+        Act::Touring,
         Act::Tree,
         Act::Save,
         Act::Help,
@@ -81,6 +83,8 @@ fn command(first: &[u8], operands: &[&[u8]]) -> Result<Command, Complaint> {
         b"move" => site("move", operands).map(Command::Move),
         b"leg" => leg("leg", operands).map(Command::List),
         b"stand" => leg("stand", operands).map(Command::Stand),
+        b"tour" => corner("tour", operands).map(Command::Begin),
+        b"corner" => corner("corner", operands).map(Command::Corner),
         b"remove" => {
             let [number] = counted("remove", "site number", operands)?;
             site_number(number).map(Command::Remove)
@@ -116,6 +120,11 @@ fn leg(name: &'static str, operands: &[&[u8]]) -> Result<Leg, Complaint> {
         s: position(s_east, s_north)?,
         e: position(e_east, e_north)?,
     })
+}
+
+fn corner(name: &'static str, operands: &[&[u8]]) -> Result<Position, Complaint> {
+    let [east, north] = counted(name, CORNER, operands)?;
+    position(east, north)
 }
 
 fn position(east: &[u8], north: &[u8]) -> Result<Position, Complaint> {
@@ -212,6 +221,8 @@ mod tests {
         assert_eq!(good("leg 0 -1 10 2"), Some(Command::List(leg)));
         assert_eq!(good("stand 0 -1 10 2"), Some(Command::Stand(leg)));
         assert_eq!(good("print"), Some(Command::Print));
+        assert_eq!(good("tour 0 -1"), Some(Command::Begin(leg.s)));
+        assert_eq!(good("corner 10 2"), Some(Command::Corner(leg.e)));
     }
 
     #[test]
@@ -219,6 +230,7 @@ mod tests {
         for act in [
             Act::Sites,
             Act::Standing,
+            Act::Touring,
             Act::Tree,
             Act::Save,
             Act::Help,
@@ -283,6 +295,11 @@ mod tests {
             ),
             ("print 1", "print takes 0 numbers (nothing), not 1".into()),
             ("leg 0 0 10", format!("leg takes 4 numbers ({ends}), not 3")),
+            ("tour", format!("tour takes 2 numbers ({CORNER}), not 0")),
+            (
+                "corner 1 2 3",
+                format!("corner takes 2 numbers ({CORNER}), not 3"),
+            ),
         ] {
             assert_eq!(bad(line.as_bytes()), complaint);
         }
@@ -305,6 +322,10 @@ mod tests {
             (
                 "move 1 32768 0",
                 "coordinate \"32768\" is off the grid, -12,000 to 12,000",
+            ),
+            (
+                "corner 0 40000",
+                "coordinate \"40000\" is off the grid, -12,000 to 12,000",
             ),
         ] {
             assert_eq!(bad(line.as_bytes()), complaint);

@@ -32,6 +32,7 @@ mod status;
 mod store;
 mod table;
 mod teller;
+mod tour;
 mod words;
 
 use console::Console;

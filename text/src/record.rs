@@ -1,10 +1,12 @@
-//! The report records of document 01, read from their bytes.
+//! The report records of documents 01 and 02, read from their bytes.
 
 const ACCEPTED: u8 = 0x2B;
 const REFUSED: u8 = 0x21;
 const LISTED: u8 = 0x3D;
 const ENTRY_LEN: usize = 10;
 const MOST_ENTRIES: usize = 512;
+/// Refusals are numbered from 1 up to this.
+const LAST_REFUSAL: u8 = 8;
 
 #[derive(Clone, Copy, Debug, PartialEq, Eq)]
 pub struct Entry {
@@ -31,11 +33,17 @@ pub enum Fault {
 }
 
 impl Record {
+    /// Whether it is a list from the leg's start on. Only a tour's record may be another: one
+    /// without the list's first entry.
+    pub fn is_whole_list(&self) -> bool {
+        matches!(self, Record::List(list) if is_whole(list))
+    }
+
     /// The first record and its length; none where more bytes are needed.
     pub fn read(bytes: &[u8]) -> Result<Option<(Record, usize)>, Fault> {
         match *bytes {
             [ACCEPTED, ..] => Ok(Some((Record::Accepted, 1))),
-            [REFUSED, number @ 1..=7, ..] => Ok(Some((Record::Refused(number), 2))),
+            [REFUSED, number @ 1..=LAST_REFUSAL, ..] => Ok(Some((Record::Refused(number), 2))),
             [REFUSED, number, ..] => Err(Fault::Refusal(number)),
             [LISTED, low, high, ref rest @ ..] => {
                 let count = usize::from(u16::from_le_bytes([low, high]));
@@ -48,8 +56,13 @@ impl Record {
     }
 }
 
+/// Whether the first entry is that from 0 on.
+pub fn is_whole(list: &[Entry]) -> bool {
+    list.first().is_some_and(|entry| entry.numerator == 0)
+}
+
 fn read_list(count: usize, rest: &[u8]) -> Result<Option<Vec<Entry>>, Fault> {
-    if !(1..=MOST_ENTRIES).contains(&count) {
+    if count > MOST_ENTRIES {
         return Err(Fault::Count(count));
     }
     let Some(bytes) = rest.get(..ENTRY_LEN * count) else {
@@ -106,7 +119,24 @@ mod tests {
         let list = Record::List(vec![entry]);
         assert_eq!(Record::read(&LIST), Ok(Some((list, 13))));
         assert_eq!(Record::read(&[0x2B, 9]), Ok(Some((Record::Accepted, 1))));
-        assert_eq!(Record::read(&[0x21, 7]), Ok(Some((Record::Refused(7), 2))));
+        assert_eq!(Record::read(&[0x21, 8]), Ok(Some((Record::Refused(8), 2))));
+        let none = Record::List(vec![]);
+        assert_eq!(Record::read(&[0x3D, 0, 0, 9]), Ok(Some((none, 3))));
+    }
+
+    #[test]
+    fn whole_lists_begin_at_0() {
+        let list = |numerator| {
+            let entry = Entry {
+                site: 2,
+                numerator,
+                denominator: 100,
+            };
+            Record::List(vec![entry])
+        };
+        assert!(list(0).is_whole_list());
+        let others = [list(1), Record::List(vec![]), Record::Accepted];
+        assert!(!others.iter().any(Record::is_whole_list));
     }
 
     #[test]
@@ -121,8 +151,7 @@ mod tests {
     fn faults() {
         assert_eq!(Record::read(&[0]), Err(Fault::Mark(0)));
         assert_eq!(Record::read(&[0x21, 0]), Err(Fault::Refusal(0)));
-        assert_eq!(Record::read(&[0x21, 8]), Err(Fault::Refusal(8)));
-        assert_eq!(Record::read(&[0x3D, 0, 0]), Err(Fault::Count(0)));
+        assert_eq!(Record::read(&[0x21, 9]), Err(Fault::Refusal(9)));
         assert_eq!(Record::read(&[0x3D, 1, 2]), Err(Fault::Count(513)));
         let mut one = LIST;
         one[5] = 0x64;

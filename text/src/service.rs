@@ -63,15 +63,24 @@ impl Service {
 
     /// What the service lists at this command; nothing where it refuses.
     pub fn list(&mut self, command: &Command) -> Result<Vec<Entry>, Failure> {
-        let (mut bytes, mut list) = (Vec::new(), Vec::new());
-        command.write(&mut bytes);
+        let lists = self.lists(std::slice::from_ref(command))?;
+        Ok(lists.into_iter().flatten().collect())
+    }
+
+    /// The same of each command in turn.
+    pub fn lists(&mut self, commands: &[Command]) -> Result<Vec<Vec<Entry>>, Failure> {
+        let (mut bytes, mut lists) = (Vec::new(), Vec::new());
+        commands
+            .iter()
+            .for_each(|command| command.write(&mut bytes));
         self.serve(&bytes, |record| {
-            if let Record::List(entries) = record {
-                list = entries;
-            }
+            lists.push(match record {
+                Record::List(entries) => entries,
+                _ => Vec::new(),
+            });
             Ok(())
         })?;
-        Ok(list)
+        Ok(lists)
     }
 
     /// Hands over the record of each command in turn; the commands are whole and known.

@@ -4,8 +4,9 @@ use crate::picture::{self, Look};
 use crate::service::Service;
 use crate::status::{Failure, Met};
 use crate::store::Store;
-use crate::table;
+use crate::table::{self, UnderWay};
 use crate::teller::Teller;
+use crate::tour::Tour;
 use crate::words::Name;
 use std::ffi::OsStr;
 
@@ -24,8 +25,10 @@ pub struct Session {
 
 impl Session {
     pub fn new(service: Service) -> Self {
+        let tour = |tour: UnderWay| Tour::under_way(tour.corner, tour.remembered);
+        let table = service.table();
         Session {
-            teller: Teller::new(table::leg(service.table())),
+            teller: Teller::new(table::leg(table), table::tour(table).map(tour)),
             service,
             met: Met::default(),
             plain: false,
@@ -53,7 +56,7 @@ impl Session {
     }
 
     pub fn picture(&mut self) -> Result<String, Failure> {
-        picture::of(&mut self.service, self.teller.leg(), &self.look)
+        picture::of(&mut self.service, self.teller.route(), &self.look)
     }
 
     pub fn draw(&mut self, file: &OsStr) -> Result<(), Failure> {

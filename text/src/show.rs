@@ -1,11 +1,11 @@
-//! What a table holds, in words: its sites, its standing leg and list, its tree.
+//! What a table holds, in words: its sites, its standing leg and list, its tour, its tree.
 
 use crate::command::Command;
 use crate::desk::Desk;
 use crate::grid::Site;
 use crate::service::Service;
 use crate::status::Failure;
-use crate::table;
+use crate::table::{self, UnderWay};
 use crate::words::{self, Name};
 use std::io::Write;
 
@@ -34,6 +34,26 @@ pub fn standing<W: Write, E: Write>(
     words::tell_entries(&list, Some(&leg), &mut desk.out).map_err(Failure::writing)
 }
 
+pub fn touring<W: Write, E: Write>(
+    name: Name,
+    service: &Service,
+    desk: &mut Desk<W, E>,
+) -> Result<(), Failure> {
+    match table::tour(service.table()) {
+        None => desk.say(format_args!("{name}no tour under way")),
+        Some(tour) => desk.say(format_args!("{name}{}", tour_in_words(&tour))),
+    }
+}
+
+fn tour_in_words(tour: &UnderWay) -> String {
+    let remembered = match tour.remembered {
+        None => "no site".into(),
+        Some(site) => format!("site {site}"),
+    };
+    let corner = tour.corner;
+    format!("tour under way, last corner {corner}, {remembered} remembered")
+}
+
 pub fn tree<W: Write, E: Write>(
     name: Name,
     service: &Service,
@@ -53,7 +73,7 @@ pub fn tree<W: Write, E: Write>(
     Ok(())
 }
 
-/// How much a table holds.
+/// How much a table holds; of a tour only where one is under way.
 pub fn counts<W: Write, E: Write>(
     service: &mut Service,
     desk: &mut Desk<W, E>,
@@ -63,13 +83,15 @@ pub fn counts<W: Write, E: Write>(
     let (sites, levels) = (plural(sites, "site"), plural(levels, "level"));
     let nodes = plural(table::nodes(table).len(), "node");
     desk.say(format_args!("{sites}, tree of {levels}, {nodes}"))?;
+    let tour = table::tour(table);
     match table::leg(table) {
-        None => desk.say("no standing leg"),
+        None => desk.say("no standing leg")?,
         Some(leg) => {
             let entries = words::entries(service.list(&Command::Print)?.len());
-            desk.say(format_args!("standing leg {leg}, list of {entries}"))
+            desk.say(format_args!("standing leg {leg}, list of {entries}"))?;
         }
     }
+    tour.map_or(Ok(()), |tour| desk.say(tour_in_words(&tour)))
 }
 
 fn plural(count: usize, noun: &str) -> String {

@@ -1,4 +1,4 @@
-//! What a table's bytes say: the sites, the standing leg, and the boxes of the tree.
+//! What a table's bytes say: the sites, the standing leg, the tour, and the boxes of the tree.
 
 use crate::grid::{Leg, Position, Site};
 use binding::layout::{
@@ -39,6 +39,23 @@ pub fn leg(table: &[u8]) -> Option<Leg> {
         e: position(table, e_east, e_north),
     };
     layout::leg_words(table).map(leg)
+}
+
+/// A tour that is under way.
+#[derive(Clone, Copy, Debug, PartialEq, Eq)]
+pub struct UnderWay {
+    /// The last one.
+    pub corner: Position,
+    /// The site that ended the list of the previous leg; none before the first one.
+    pub remembered: Option<u16>,
+}
+
+pub fn tour(table: &[u8]) -> Option<UnderWay> {
+    let tour = |([east, north], remembered): ([u16; 2], u16)| UnderWay {
+        corner: position(table, east, north),
+        remembered: Some(remembered).filter(|number| *number > 0),
+    };
+    layout::tour_words(table).map(tour)
 }
 
 /// The number of levels of the tree.
@@ -172,6 +189,24 @@ mod tests {
         for count in [0, 1, 8] {
             assert_eq!(areas(&table(count, 53).0), []);
         }
+    }
+
+    #[test]
+    fn a_tour_is_read_from_its_words() {
+        let mut table = layout::empty_table();
+        assert_eq!(tour(&table), None);
+        layout::put_word(&mut table, layout::TOUR_FLAG, 1);
+        for (at, word) in layout::CORNER_WORDS.into_iter().zip([12_010, 11_995]) {
+            layout::put_word(&mut table, at, word);
+        }
+        let corner = Position {
+            east: 10,
+            north: -5,
+        };
+        let of = |remembered| Some(UnderWay { corner, remembered });
+        assert_eq!(tour(&table), of(None));
+        layout::put_word(&mut table, layout::REMEMBERED, 65_535);
+        assert_eq!(tour(&table), of(Some(65_535)));
     }
 
     #[test]

@@ -1,9 +1,11 @@
-//! Puts each record in words beside its command, and remembers the legs that it needs for that.
+//! Puts each record in words beside its command, and remembers what it needs for that: legs, and
+//! where a tour is.
 
 use crate::command::Command;
-use crate::grid::Leg;
+use crate::grid::{Leg, Route};
 use crate::record::Record;
-use crate::words::{self, Name};
+use crate::tour::Tour;
+use crate::words::{self, Known, Name};
 use std::io::{self, Write};
 
 const OFF_GRID: u8 = 2;
@@ -12,16 +14,25 @@ const OFF_GRID: u8 = 2;
 pub struct Teller {
     /// Of the last accepted `stand`.
     standing: Option<Leg>,
-    /// Of the last `leg` that lies on the grid.
-    asked: Option<Leg>,
+    tour: Tour,
+    asked: Option<Asked>,
     pub refused: bool,
 }
 
+/// What was asked for last.
+enum Asked {
+    /// By a `leg` that lies on the grid.
+    Leg(Leg),
+    /// By a `corner` that was answered.
+    Tour,
+}
+
 impl Teller {
-    /// Of a table with this standing leg.
-    pub fn new(standing: Option<Leg>) -> Self {
+    /// Of a table with this standing leg and tour.
+    pub fn new(standing: Option<Leg>, tour: Option<Tour>) -> Self {
         Teller {
             standing,
+            tour: tour.unwrap_or_default(),
             ..Teller::default()
         }
     }
@@ -34,32 +45,61 @@ impl Teller {
         out: &mut impl Write,
     ) -> io::Result<()> {
         self.refused |= matches!(record, Record::Refused(_));
-        let mut listed = None;
-        match (command, record) {
-            (Some(Command::Stand(leg)), Record::Accepted) => self.standing = Some(*leg),
-            (Some(Command::List(_)), Record::Refused(OFF_GRID)) => {}
-            (Some(Command::List(leg)), _) => {
-                self.asked = Some(*leg);
-                listed = self.asked;
-            }
-            (Some(Command::Print), _) => listed = self.standing,
-            _ => {}
+        let known = command.map_or_else(Known::default, |command| self.known(command));
+        words::tell(record, name, &known, out)?;
+        if let Some(command) = command {
+            self.hear(command, record);
         }
-        words::tell(record, name, listed.as_ref(), out)
+        Ok(())
     }
 
-    /// The leg that a picture is about: the last one asked, else the standing one.
-    pub fn leg(&self) -> Option<Leg> {
-        self.asked.or(self.standing)
+    /// Of the list that this command asks for, if any.
+    fn known(&self, command: &Command) -> Known {
+        match *command {
+            Command::List(leg) => Known {
+                leg: Some(leg),
+                last: None,
+            },
+            Command::Print => Known {
+                leg: self.standing,
+                last: None,
+            },
+            Command::Corner(to) => Known {
+                leg: self.tour.leg(to),
+                last: self.tour.last(),
+            },
+            _ => Known::default(),
+        }
+    }
+
+    fn hear(&mut self, command: &Command, record: &Record) {
+        self.tour.hear(command, record);
+        match (command, record) {
+            (Command::Stand(leg), Record::Accepted) => self.standing = Some(*leg),
+            (Command::List(_), Record::Refused(OFF_GRID)) => {}
+            (Command::List(leg), _) => self.asked = Some(Asked::Leg(*leg)),
+            (Command::Corner(_), Record::List(_)) => self.asked = Some(Asked::Tour),
+            _ => {}
+        }
+    }
+
+    /// What a picture is about: the leg or tour asked for last, else the standing leg.
+    pub fn route(&self) -> Option<Route> {
+        match self.asked {
+            Some(Asked::Leg(leg)) => Some(Route::Leg(leg)),
+            Some(Asked::Tour) => Some(Route::Tour(self.tour.driven().to_vec())),
+            None => self.standing.map(Route::Leg),
+        }
     }
 }
 
 /// Whether the record can be the command's answer.
 pub fn answers(record: &Record, command: &Command) -> bool {
-    let lists = matches!(command, Command::List(_) | Command::Print);
-    match record {
-        Record::Accepted => !lists,
-        Record::Refused(_) => true,
-        Record::List(_) => lists,
+    match (command, record) {
+        (_, Record::Refused(_)) => true,
+        (Command::List(_) | Command::Print, _) => record.is_whole_list(),
+        (Command::Corner(_), _) => matches!(record, Record::List(_)),
+        (_, Record::Accepted) => true,
+        (_, Record::List(_)) => false,
     }
 }

@@ -1,8 +1,8 @@
-//! Records, refusals and reasons in the words of document 01.
+//! Records, refusals and reasons in the words of documents 01 and 02.
 
 use crate::grid::{self, Leg};
 use crate::point;
-use crate::record::{Entry, Record};
+use crate::record::{self, Entry, Record};
 use std::fmt;
 use std::io::{self, Write};
 
@@ -26,13 +26,16 @@ impl fmt::Display for Name {
     }
 }
 
+/// What is known of a list besides its record.
+#[derive(Clone, Copy, Debug, Default, PartialEq, Eq)]
+pub struct Known {
+    pub leg: Option<Leg>,
+    /// The site that the tour's earlier records end with.
+    pub last: Option<u16>,
+}
+
 /// The answer, one line or one for each entry more; with the leg, the starts' points too.
-pub fn tell(
-    record: &Record,
-    name: Name,
-    leg: Option<&Leg>,
-    out: &mut impl Write,
-) -> io::Result<()> {
+pub fn tell(record: &Record, name: Name, known: &Known, out: &mut impl Write) -> io::Result<()> {
     match record {
         Record::Accepted => writeln!(out, "accepted"),
         Record::Refused(number) => {
@@ -44,11 +47,14 @@ pub fn tell(
         }
         Record::List(list) => {
             write!(out, "{name}list of {}", entries(list.len()))?;
-            match (name, leg) {
+            match (name, known.leg) {
                 (Name::Plain, _) | (_, None) => writeln!(out)?,
                 (_, Some(leg)) => writeln!(out, ", {leg}")?,
             }
-            tell_entries(list, leg, out)
+            if !record::is_whole(list) {
+                tell_still(known.last, out)?;
+            }
+            tell_entries(list, known.leg.as_ref(), out)
         }
     }
 }
@@ -57,6 +63,14 @@ pub fn tell(
 pub fn entries(count: usize) -> String {
     let entries = if count == 1 { "entry" } else { "entries" };
     format!("{count} {entries}")
+}
+
+/// Up to the first start, or to the leg's end: the first entry is left out.
+fn tell_still(last: Option<u16>, out: &mut impl Write) -> io::Result<()> {
+    match last {
+        Some(site) => writeln!(out, "still site {site}"),
+        None => writeln!(out, "still the last site of the tour's earlier records"),
+    }
 }
 
 pub fn tell_entries(list: &[Entry], leg: Option<&Leg>, out: &mut impl Write) -> io::Result<()> {
@@ -86,6 +100,7 @@ fn refusal(number: u8) -> String {
         5 => "512 sites held",
         6 => "no site held",
         7 => "no standing leg",
+        8 => "no tour under way",
         _ => "no such refusal",
     };
     words.into()
@@ -112,11 +127,28 @@ mod tests {
     use super::*;
     use crate::grid::Position;
 
-    fn told(record: &Record, leg: Option<&Leg>) -> String {
+    fn named(record: &Record, name: Name, leg: Option<Leg>, last: Option<u16>) -> String {
         let mut out = Vec::new();
-        tell(record, Name::Plain, leg, &mut out).unwrap();
+        tell(record, name, &Known { leg, last }, &mut out).unwrap();
         String::from_utf8(out).unwrap()
     }
+
+    fn told(record: &Record, leg: Option<Leg>) -> String {
+        named(record, Name::Plain, leg, None)
+    }
+
+    fn entry(site: u16, numerator: u32, denominator: u32) -> Entry {
+        Entry {
+            site,
+            numerator,
+            denominator,
+        }
+    }
+
+    const LEG: Leg = Leg {
+        s: Position { east: 0, north: 0 },
+        e: Position { east: 10, north: 0 },
+    };
 
     #[test]
     fn every_refusal() {
@@ -128,6 +160,7 @@ mod tests {
             "refused 5: 512 sites held\n",
             "refused 6: no site held\n",
             "refused 7: no standing leg\n",
+            "refused 8: no tour under way\n",
         ];
         for (number, words) in (1..).zip(expected) {
             assert_eq!(told(&Record::Refused(number), None), words);
@@ -158,44 +191,56 @@ mod tests {
 
     #[test]
     fn lists_with_and_without_points() {
-        let entry = |site, numerator, denominator| Entry {
-            site,
-            numerator,
-            denominator,
-        };
-        let at = |east, north| Position { east, north };
-        let leg = Leg {
-            s: at(0, 0),
-            e: at(10, 0),
-        };
         let list = Record::List(vec![entry(1, 0, 1), entry(2, 37, 100)]);
         let plain = "list of 2 entries\nfrom 0/1 site 1\nfrom 37/100 site 2\n";
         assert_eq!(told(&list, None), plain);
         let points = "list of 2 entries\nfrom 0/1 (0.000, 0.000) site 1\nfrom 37/100 (3.700, 0.000) site 2\n";
-        assert_eq!(told(&list, Some(&leg)), points);
+        assert_eq!(told(&list, Some(LEG)), points);
         let one = Record::List(vec![entry(9, 0, 1)]);
         assert_eq!(told(&one, None), "list of 1 entry\nfrom 0/1 site 9\n");
-        assert_eq!(told(&Record::Accepted, Some(&leg)), "accepted\n");
-        let named = |record: &Record, name, leg| {
-            let mut out = Vec::new();
-            tell(record, name, leg, &mut out).unwrap();
-            String::from_utf8(out).unwrap()
-        };
+        assert_eq!(told(&Record::Accepted, Some(LEG)), "accepted\n");
         assert_eq!(
-            named(&one, Name::Line(3), Some(&leg)),
+            named(&one, Name::Line(3), Some(LEG), None),
             "line 3: list of 1 entry, (0, 0) to (10, 0)\nfrom 0/1 (0.000, 0.000) site 9\n"
         );
         assert_eq!(
-            named(&one, Name::Command(3), None),
+            named(&one, Name::Command(3), None, None),
             "command 3: list of 1 entry\nfrom 0/1 site 9\n"
         );
-        let refused = named(&Record::Refused(3), Name::Line(6), None);
+        let refused = named(&Record::Refused(3), Name::Line(6), None, None);
         assert_eq!(refused, "line 6: refused 3: number already held\n");
-        let zero = named(&Record::Refused(1), Name::Line(6), None);
+        let zero = named(&Record::Refused(1), Name::Line(6), None, None);
         assert_eq!(
             zero,
             "line 6: refused 1: site number 0, it is 1 to 65,535\n"
         );
-        assert_eq!(named(&Record::Accepted, Name::Line(6), None), "accepted\n");
+        assert_eq!(
+            named(&Record::Accepted, Name::Line(6), None, None),
+            "accepted\n"
+        );
+    }
+
+    #[test]
+    fn lists_without_their_first_entry() {
+        let one = Record::List(vec![entry(2, 37, 100)]);
+        assert_eq!(
+            named(&one, Name::Line(3), Some(LEG), Some(7)),
+            "line 3: list of 1 entry, (0, 0) to (10, 0)\nstill site 7\nfrom 37/100 (3.700, 0.000) site 2\n"
+        );
+        let none = Record::List(vec![]);
+        assert_eq!(
+            named(&none, Name::Line(3), Some(LEG), Some(7)),
+            "line 3: list of 0 entries, (0, 0) to (10, 0)\nstill site 7\n"
+        );
+        assert_eq!(
+            told(&none, None),
+            "list of 0 entries\nstill the last site of the tour's earlier records\n"
+        );
+        // A whole list needs no site before it.
+        let whole = Record::List(vec![entry(2, 0, 1)]);
+        assert_eq!(
+            named(&whole, Name::Plain, None, Some(7)),
+            "list of 1 entry\nfrom 0/1 site 2\n"
+        );
     }
 }

@@ -5,7 +5,7 @@ mod common;
 use common::{lines, run};
 use reference::random::{self, Random};
 
-const BAD: [&[u8]; 20] = [
+const BAD: [&[u8]; 23] = [
     b"ad 1 2 3",
     b"ADD 1 2 3",
     b"add",
@@ -23,6 +23,9 @@ const BAD: [&[u8]; 20] = [
     b"remove \xd9\xa7",
     b"leg 0 0 10",
     b"stand 0 0 10 0 0",
+    b"tour",
+    b"corner 1",
+    b"corner 32768 0",
     b"print print",
     b"\xff\xfe\0\0",
     b"A\x01\x00\x02\x00\x03\x00",

@@ -1,19 +1,20 @@
-//! Tables of earlier releases: refused by the service where they are no longer sound, told by
-//! --check, and carried over by --dump.
+//! Tables that releases left: taken as they are where they are sound today, and otherwise refused by
+//! the service, told by --check, and carried over by --dump.
 
 mod common;
 
-use common::{at_root, file_mode, in_words, on, run, table, without_points};
-use reference::book::Book;
+use common::{answers_from, at_root, file_mode, in_words, on, run, table, without_points};
+use reference::book::{Book, Tour};
 use reference::command::Command;
+use reference::grid::Position;
 use reference::record::Record;
 use reference::ties::{number_alone, renamed};
-use service::bytes::listed;
+use service::bytes::{self, TOUR, listed};
 use service::damage::aged;
 use std::path::Path;
 
 /// What the stops-text of a release left: a table that it began empty and saved after some 700
-/// random additions, removals and moves, corners among them; its --dump; lines that ask for lists,
+/// random additions, removals and moves, the grid's corners among them; its --dump; lines that ask for lists,
 /// and what it answered to them with --plain.
 fn kept(table: &str, what: &str) -> Vec<u8> {
     let file = at_root("tests/tables").join(format!("{table}.{what}"));
@@ -27,6 +28,10 @@ const OF_0_7_0: &str = "release-0.7.0";
 /// standing list of the first.
 const CHANGED: &str = "release-0.8.0-changed";
 const UNCHANGED: &str = "release-0.8.0-unchanged";
+/// As many ties; its standing list is by the right-hand rule, and by number alone another one.
+const OF_0_9_0: &str = "release-0.9.0";
+/// The same, with a tour of three legs under way; tour and corner lines are asked, too.
+const TOURING: &str = "release-0.10.0-touring";
 
 /// Writes the kept table; its bytes.
 fn put(file: &Path, table: &str) -> Vec<u8> {
@@ -35,16 +40,28 @@ fn put(file: &Path, table: &str) -> Vec<u8> {
     bytes
 }
 
+const END: &str = "end 0: all commands used\n";
+
+/// The commands that were asked of a kept table.
+fn asked(table: &str) -> Vec<Vec<u8>> {
+    let mut bytes = run(&["--bytes"], kept(table, "asked")).out;
+    let mut commands = Vec::new();
+    while !bytes.is_empty() {
+        let (_, length) = Command::read(&bytes).unwrap();
+        let behind = bytes.split_off(length);
+        commands.push(std::mem::replace(&mut bytes, behind));
+    }
+    commands
+}
+
 /// What the second program answers to the lines that were asked of a kept table: by the rule of
 /// then, and by that of today.
 fn second_answers(table: &str) -> [String; 2] {
     let mut book = Book::new();
     book.records(&[run(&["--bytes"], kept(table, "dump")).out]);
-    let asked = run(&["--bytes"], kept(table, "asked")).out;
-    let (mut asked, mut answers) = (&asked[..], [String::new(), String::new()]);
-    while !asked.is_empty() {
-        let (command, length) = Command::read(asked).unwrap();
-        asked = &asked[length..];
+    let mut answers = [String::new(), String::new()];
+    for command in asked(table) {
+        let (command, _) = Command::read(&command).unwrap();
         let leg = match command {
             Command::List(leg) => leg,
             Command::Print => book.leg.unwrap(),
@@ -53,10 +70,10 @@ fn second_answers(table: &str) -> [String; 2] {
         let now = book.split_list(&leg);
         let then = renamed(&leg, &book.sites(), &now, number_alone);
         for (answers, list) in answers.iter_mut().zip([then, now]) {
-            *answers += &in_words(&Record::List(list));
+            *answers += &in_words(&Record::List(list), None);
         }
     }
-    answers.map(|answers| answers + "end 0: all commands used\n")
+    answers.map(|answers| answers + END)
 }
 
 /// Asks a table of this release, with the sites and the leg of a kept one, what was asked of that:
@@ -124,6 +141,22 @@ fn a_table_whose_list_the_right_hand_rule_changes_is_carried_over() {
     assert_eq!(file_mode("--dump", &new).err, "");
 }
 
+/// Neither release took it.
+#[test]
+fn a_list_of_an_earlier_release_and_a_tour_do_not_go_together() {
+    let old = table("tour by number");
+    let mut bytes = put(&old, CHANGED);
+    bytes[16] = 1;
+    std::fs::write(&old, &bytes).unwrap();
+    let dump = file_mode("--dump", &old);
+    assert_eq!((dump.code, dump.text()), (5, ""));
+    let served = on(&old, &[], "print\n");
+    assert_eq!((served.code, served.text()), (5, ""));
+    assert!(served.err.contains("is no sound table: reason 65, "));
+    let told = file_mode("--check", &old);
+    assert!(!told.text().contains("--dump"), "{}", told.text());
+}
+
 /// `4,160`
 fn grouped(number: usize) -> String {
     match (number / 1_000, number % 1_000) {
@@ -182,6 +215,75 @@ fn a_table_whose_list_the_right_hand_rule_leaves_is_taken_as_it_is() {
     let dump = file_mode("--dump", &file);
     assert_eq!((dump.code, dump.err.as_str()), (0, ""));
     assert_eq!(dump.out, kept(UNCHANGED, "dump"));
+}
+
+/// Asks a kept table of today's rules what was asked of it then, for the same answers. It has the
+/// book that the second program has in the end.
+fn assert_same_answers(file: &Path, table: &str) {
+    let mut book = bytes::book(&kept(table, "stops"));
+    let last = book.tour.and_then(|tour| tour.remembered);
+    let commands = asked(table);
+    let second = answers_from(last, &commands, &book.records(&commands)) + END;
+    let lines = String::from_utf8(kept(table, "asked")).unwrap();
+    let answered = on(file, &["--plain"], &lines);
+    assert!(answered.out == kept(table, "answers"));
+    assert_eq!(without_points(answered.text()), second);
+    assert!(bytes::book(&std::fs::read(file).unwrap()) == book);
+}
+
+/// The bytes of a tour were kept for later, and 0.
+#[test]
+fn a_table_of_release_0_9_0_is_taken_as_it_is() {
+    let file = table("of 0.9.0");
+    let bytes = put(&file, OF_0_9_0);
+    let written = || std::fs::metadata(&file).unwrap().modified().unwrap();
+    let before = written();
+    assert_eq!(bytes[14..16], [2, 0]);
+    assert!(bytes[16..64].iter().all(|byte| *byte == 0));
+    let book = bytes::book(&bytes);
+    let list = book.split_list(&book.leg.unwrap());
+    let by_number = renamed(&book.leg.unwrap(), &book.sites(), &list, number_alone);
+    assert!(by_number != list, "another list before 0.9.0");
+    let told = file_mode("--check", &file);
+    assert!(told.text().starts_with("sound: no rule is broken\n"));
+    assert_eq!((told.code, told.err.as_str()), (0, ""));
+    assert_same_answers(&file, OF_0_9_0);
+    let dump = file_mode("--dump", &file);
+    assert_eq!((dump.code, dump.err.as_str()), (0, ""));
+    assert_eq!(dump.out, kept(OF_0_9_0, "dump"));
+    let refused = on(&file, &["--plain"], "corner 0 0\n");
+    assert_eq!(
+        refused.text(),
+        format!("refused 8: no tour under way\n{END}")
+    );
+    assert!(std::fs::read(&file).unwrap() == bytes && written() == before);
+    // The standing leg as a tour's has the same list.
+    let lines = "print\ntour -9000 -7000\ncorner 8600 6200\n";
+    let answers = on(&file, &["--plain"], lines);
+    let (printed, driven) = answers.text().split_once("accepted\n").unwrap();
+    assert_eq!(format!("{printed}{END}"), driven);
+    let toured = std::fs::read(&file).unwrap();
+    assert!(toured[..TOUR.start] == bytes[..TOUR.start] && toured[TOUR.end..] == bytes[TOUR.end..]);
+    assert_ne!(toured[TOUR], bytes[TOUR]);
+}
+
+#[test]
+fn a_tour_of_release_0_10_0_goes_on() {
+    let file = table("touring");
+    let bytes = put(&file, TOURING);
+    let tour = Tour {
+        corner: Position::new(3_400, 2_300),
+        remembered: Some(283),
+    };
+    assert_eq!(bytes::tour(&bytes), Some(tour));
+    let told = file_mode("--check", &file);
+    assert!(told.text().starts_with("sound: no rule is broken\n"));
+    assert_eq!((told.code, told.err.as_str()), (0, ""));
+    let dump = file_mode("--dump", &file);
+    assert_eq!((dump.code, dump.out), (0, kept(TOURING, "dump")));
+    assert!(dump.err.contains("has a tour under way"), "{}", dump.err);
+    assert!(std::fs::read(&file).unwrap() == bytes);
+    assert_same_answers(&file, TOURING);
 }
 
 /// By number, as their releases listed.
@@ -305,6 +407,7 @@ fn a_table_that_its_own_release_refused_is_not_dumped() {
     let broken = [
         ("an unknown layout", 14, word(3)),
         ("a kept word", 20, word(1)),
+        ("a tour, before there were any", 16, word(1)),
         (
             "an easting that only this grid has",
             FIRST_RECORD + 2,

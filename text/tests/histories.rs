@@ -2,26 +2,44 @@
 
 mod common;
 
-use common::{in_words, lines, run, without_points};
+use common::{answers, lines, run, without_points};
 use reference::book::Book;
-use reference::command::{self, Command};
-use reference::grid::{Leg, Site};
+use reference::command;
+use reference::grid::{Leg, Position, Site};
 use reference::layout::{LAYOUTS, case};
 use reference::random::{self, Random};
 use reference::record::Record;
 
 /// The leg of each command that got a list, in turn.
 fn listed_legs(commands: &[Vec<u8>], records: &[Record]) -> Vec<Leg> {
-    let (mut standing, mut legs) = (None, Vec::new());
+    let (mut standing, mut corner, mut legs) = (None, None, Vec::new());
     for (command, record) in commands.iter().zip(records) {
-        match (Command::read(command).unwrap().0, record) {
-            (Command::Stand(leg), Record::Accepted) => standing = Some(leg),
-            (Command::List(leg), Record::List(_)) => legs.push(leg),
-            (Command::Print, Record::List(_)) => legs.extend(standing),
+        match (command[0], record) {
+            (b'S', Record::Accepted) => standing = Some(leg(command)),
+            (b'L', Record::List(_)) => legs.push(leg(command)),
+            (b'P', Record::List(_)) => legs.extend(standing),
+            (b'B', Record::Accepted) => corner = Some(position(command, 1)),
+            (b'C', Record::List(_)) => {
+                let e = position(command, 1);
+                let s = corner.replace(e).expect("a tour has a corner");
+                legs.push(Leg { s, e });
+            }
             _ => {}
         }
     }
     legs
+}
+
+fn leg(command: &[u8]) -> Leg {
+    Leg {
+        s: position(command, 1),
+        e: position(command, 5),
+    }
+}
+
+fn position(command: &[u8], at: usize) -> Position {
+    let word = |at: usize| i16::from_le_bytes([command[at], command[at + 1]]);
+    Position::new(word(at).into(), word(at + 2).into())
 }
 
 /// Three decimals: the thousandths, whatever the sign.
@@ -68,8 +86,7 @@ fn assert_points(answers: &str, legs: &[Leg]) {
 fn assert_answered(commands: &[Vec<u8>]) -> usize {
     let records = Book::new().records(commands);
     let ran = run(&["--plain"], lines(commands));
-    let mut expected: String = records.iter().map(in_words).collect();
-    expected += "end 0: all commands used\n";
+    let expected = answers(commands, &records) + "end 0: all commands used\n";
     assert_eq!(without_points(ran.text()), expected);
     let legs = listed_legs(commands, &records);
     assert_points(ran.text(), &legs);

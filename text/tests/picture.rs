@@ -1,10 +1,13 @@
 //! The picture: well-formed, inside its view box, and true to the list and the table.
 
 mod common;
+#[path = "common/drawn.rs"]
+mod drawn;
 #[path = "common/svg.rs"]
 mod svg;
 
-use common::{HALF_WIDTH, OFF_GRID, PROGRAM, at_root, lines, run_program, scratch};
+use common::{HALF_WIDTH, OFF_GRID, PROGRAM, at_root, lines, scratch};
+use drawn::{assert_neat, colours, drawn, noted};
 use reference::book::Book;
 use reference::command;
 use reference::grid::{Leg, Site, spread};
@@ -13,58 +16,11 @@ use reference::random::Random;
 use std::process::{Command, Stdio};
 use svg::Picture;
 
-/// The picture's text.
-fn drawn(name: &str, options: &[&str], input: &str) -> String {
-    let file = scratch(&format!("{name}.svg"));
-    let mut program = Command::new(PROGRAM);
-    program.arg("--svg").arg(&file).args(options);
-    let ran = run_program(&mut program, input.as_bytes());
-    assert!(ran.code <= 1, "{}", ran.err);
-    std::fs::read_to_string(&file).unwrap()
-}
-
 fn picture(name: &str, options: &[&str], input: &str) -> Picture {
     let picture = svg::read(&drawn(name, options, input));
-    assert_inside(&picture);
-    assert_labels_apart(&picture);
+    assert_neat(&picture);
     assert_neighbours_differ(&picture);
     picture
-}
-
-fn assert_inside(picture: &Picture) {
-    assert_eq!(picture.width, 800.0);
-    for element in &picture.elements {
-        let [left, top, right, bottom] = element.extent();
-        let inside =
-            left >= 0.0 && top >= 0.0 && right <= picture.width && bottom <= picture.height;
-        assert!(inside, "{element:?}");
-    }
-}
-
-fn assert_labels_apart(picture: &Picture) {
-    let extents: Vec<[f64; 4]> = picture
-        .of_class("labels")
-        .iter()
-        .map(|e| e.extent())
-        .collect();
-    for (i, a) in extents.iter().enumerate() {
-        for b in &extents[..i] {
-            let apart = a[2] <= b[0] || b[2] <= a[0] || a[3] <= b[1] || b[3] <= a[1];
-            assert!(apart, "{a:?} {b:?}");
-        }
-    }
-}
-
-fn colours(picture: &Picture) -> Vec<String> {
-    let colour = |element: &&svg::Element| {
-        let paint = if element.name == "line" {
-            "stroke"
-        } else {
-            "fill"
-        };
-        element.attributes[paint].clone()
-    };
-    picture.of_class("stretches").iter().map(colour).collect()
 }
 
 fn assert_neighbours_differ(picture: &Picture) {
@@ -82,31 +38,13 @@ fn leg_line(leg: Leg) -> String {
     common::line(&command::list(leg))
 }
 
-/// The first number in the note or key with these words; none where it is missing.
-fn noted(picture: &Picture, words: &str) -> Option<usize> {
-    let texts = [picture.texts("notes"), picture.texts("legend")].concat();
-    let note = texts.into_iter().find(|text| text.contains(words))?;
-    let digits = note
-        .split(|c: char| !c.is_ascii_digit())
-        .find(|part| !part.is_empty());
-    Some(digits.unwrap().parse().unwrap())
-}
-
 #[test]
 fn every_layout_of_sites_and_sizes() {
     let mut random = Random::new(101);
     for layout in LAYOUTS {
         for count in [0, 1, 2, 7, 40, 200, 512] {
             let case = case(&mut random, layout, count);
-            let list = Book {
-                lines: case
-                    .sites
-                    .iter()
-                    .map(|site| (site.number, site.position))
-                    .collect(),
-                leg: None,
-            }
-            .split_list(&case.leg);
+            let list = Book::of(&case.sites, None).split_list(&case.leg);
             let input = adds(&case.sites) + &leg_line(case.leg);
             let options: &[&str] =
                 random.pick(&[&[][..], &["--boxes"], &["--boxes", "--whole-grid"]]);

@@ -53,12 +53,16 @@ fn help_is_printed_and_reads_nothing() {
 #[test]
 fn the_answers_in_the_help_are_given() {
     let help = run(&["--help"], "");
-    let ran = run(&[], "add 1 2 3\nadd 1 2 3\nadd 2 7 1\nleg 0 0 10 0\n");
-    for answer in ran.text().lines() {
-        assert!(
-            help.text().lines().any(|line| line.trim() == answer),
-            "{answer}"
-        );
+    let leg = "add 1 2 3\nadd 1 2 3\nadd 2 7 1\nleg 0 0 10 0\n";
+    let tour = "add 1 2 3\nadd 2 7 1\ntour 0 0\ncorner 10 0\ncorner 0 0\ncorner 2 0\n";
+    for lines in [leg, tour] {
+        let ran = run(&[], lines);
+        for answer in ran.text().lines() {
+            assert!(
+                help.text().lines().any(|line| line.trim() == answer),
+                "{answer}"
+            );
+        }
     }
 }
 
@@ -192,8 +196,8 @@ fn feed_slowly(mut input: impl Write) {
     input.write_all(b"print\n").unwrap();
 }
 
-const KNOWN: &str =
-    "(known: add, remove, move, leg, stand, print; sites, standing, tree, save, draw, help, quit)";
+const KNOWN: &str = "(known: add, remove, move, leg, stand, print, tour, corner; \
+                     sites, standing, touring, tree, save, draw, help, quit)";
 const PROGRESS: &str = "read 0.0 MB";
 const CLEAR: &str = "\r\u{1b}[K";
 

@@ -33,13 +33,16 @@ fn shell(command: &str) -> String {
 }
 
 #[test]
-fn the_first_example_prints_what_is_shown() {
+fn each_example_prints_what_is_shown() {
     let readme = readme();
-    let (_, rest) = readme.split_once("    $ ").unwrap();
-    let (command, rest) = rest.split_once('\n').unwrap();
-    let shown = rest.lines().map_while(|line| line.strip_prefix("    "));
-    let shown: String = shown.map(|line| format!("{line}\n")).collect();
-    assert_eq!(shell(command), shown);
+    let examples: Vec<&str> = readme.split("    $ ").skip(1).collect();
+    assert_eq!(examples.len(), 2);
+    for example in examples {
+        let (command, rest) = example.split_once('\n').unwrap();
+        let shown = rest.lines().map_while(|line| line.strip_prefix("    "));
+        let shown: String = shown.map(|line| format!("{line}\n")).collect();
+        assert_eq!(shell(command), shown);
+    }
 }
 
 #[test]

@@ -2,7 +2,7 @@
 
 mod common;
 
-use common::{HALF_WIDTH, at_root, batch_program, lines, run, scratch, without_points};
+use common::{HALF_WIDTH, alone, at_root, batch_program, lines, run, scratch};
 use reference::grid::spread;
 use reference::random::{self, Random};
 use std::path::Path;
@@ -24,9 +24,9 @@ fn assert_same(name: &str, input: &str) {
     );
     assert!(decoded.text() == direct.text());
     assert_eq!((decoded.code, decoded.err.as_str()), (direct.code, ""));
-    let alone = run(&["--decode", "--plain"], &printed);
-    assert!(alone.text() == without_points(direct.text()));
-    assert_eq!(alone.code, direct.code);
+    let unknown = run(&["--decode", "--plain"], &printed);
+    assert!(unknown.text() == alone(direct.text()));
+    assert_eq!(unknown.code, direct.code);
 }
 
 #[test]
@@ -55,6 +55,20 @@ fn long_lists() {
     input += &format!("stand -{HALF_WIDTH} 0 {HALF_WIDTH} 0\n");
     input += &format!("print\nleg {HALF_WIDTH} 0 -{HALF_WIDTH} 1\n").repeat(30);
     assert_same("long.bin", &input);
+}
+
+#[test]
+fn a_long_tour() {
+    let mut random = Random::new(84);
+    let mut coordinate = || random.between(-40, 40);
+    let mut input: String = (1..=60)
+        .map(|n| format!("add {n} {} {}\n", coordinate(), coordinate()))
+        .collect();
+    input += "tour 0 0\n";
+    for _ in 0..3_000 {
+        input += &format!("corner {} {}\n", coordinate(), coordinate());
+    }
+    assert_same("tour legs.bin", &input);
 }
 
 #[test]

@@ -236,8 +236,13 @@ fn nothing_changed_nothing_written() {
 #[test]
 fn what_is_held_is_shown() {
     let file = table("shown");
-    let empty = on(&file, &["--create"], "sites\nstanding\ntree\n");
-    let expected = "line 1: 0 sites\nline 2: no standing leg\nline 3: tree of 0 levels, 0 nodes\nend 0: all commands used\n";
+    let empty = on(&file, &["--create"], "sites\nstanding\ntree\ntouring\n");
+    let expected = "line 1: 0 sites
+line 2: no standing leg
+line 3: tree of 0 levels, 0 nodes
+line 4: no tour under way
+end 0: all commands used
+";
     assert_eq!(empty.text(), expected);
     on(&file, &[], STOPS);
     let shown = on(&file, &[], "sites\nstanding\ntree\n");
@@ -292,7 +297,9 @@ fn a_dump_makes_the_same_lists_anew() {
             &lines(&random::commands(&mut random, 400)),
         );
         let dump = file_mode("--dump", &file);
-        assert_eq!((dump.code, dump.err.as_str()), (0, ""));
+        // Told is what is not carried over.
+        let remembers = std::fs::read(&file).unwrap()[22..24] != [0, 0];
+        assert_eq!((dump.code, dump.err.is_empty()), (0, !remembers));
         let begun = on(&fresh, &["--create"], dump.text());
         assert_eq!(begun.code, 0);
         let ask = format!(

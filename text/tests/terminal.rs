@@ -46,6 +46,24 @@ fn a_banner_a_prompt_and_quit() {
 }
 
 #[test]
+fn a_tour_is_typed() {
+    let lines = b"add 1 2 3\ncorner 9 9\ntour 0 0\ncorner 9 9\ncorner 0 0\ntouring\nquit\n";
+    let (code, shown) = typed(&[], lines);
+    assert_eq!(code, 1);
+    let expected = [
+        "> line 2: refused 8: no tour under way",
+        "> accepted",
+        "> line 4: list of 1 entry, (0, 0) to (9, 9)",
+        "from 0/1 (0.000, 0.000) site 1",
+        "> line 5: list of 0 entries, (9, 9) to (0, 0)",
+        "still site 1",
+        "> line 6: tour under way, last corner (0, 0), site 1 remembered",
+        "> end 0: all commands used\n",
+    ];
+    assert!(shown.ends_with(&expected.join("\n")), "{shown}");
+}
+
+#[test]
 fn the_end_of_what_is_typed_has_a_line_of_its_own() {
     let (code, shown) = typed(&[], b"add 1 2 3\n\x04");
     assert_eq!(code, 0);

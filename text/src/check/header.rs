@@ -1,7 +1,7 @@
 //! The header's number of the layout and the bytes kept for later.
 
 use super::fault::Fault;
-use binding::layout::{HEADER_KEPT, LAYOUT, LAYOUT_NUMBER, is_earlier, word};
+use binding::layout::{LAYOUT, LAYOUT_NUMBER, header_kept, is_earlier, word};
 
 pub fn faults(table: &[u8]) -> Vec<Fault> {
     let mut faults = Vec::new();
@@ -13,7 +13,7 @@ pub fn faults(table: &[u8]) -> Vec<Fault> {
     if let Some(what) = other {
         faults.push(Fault::at(table, LAYOUT, "header", what).belongs(LAYOUT_NUMBER));
     }
-    for at in HEADER_KEPT.step_by(2) {
+    for at in header_kept(table).step_by(2) {
         if word(table, at) != 0 {
             faults.push(Fault::at(table, at, "header", "kept for later").belongs(0u16));
         }

@@ -11,6 +11,7 @@ mod sites;
 mod standing;
 #[cfg(test)]
 mod tests;
+mod tour;
 mod tree;
 
 use crate::command::Command;
@@ -36,6 +37,7 @@ pub fn faults(table: &[u8]) -> Result<Vec<Fault>, Failure> {
         return Ok(vec![Fault::whole(what)]);
     }
     let mut faults = header::faults(table);
+    faults.extend(tour::faults(table));
     let unreadable = unreadable(table);
     // A list is that of sites and a leg that can be read.
     faults.extend(if unreadable.is_empty() {

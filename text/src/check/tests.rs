@@ -6,9 +6,10 @@ use crate::grid::grouped;
 use crate::lists::stands;
 use crate::service::Service;
 use binding::layout::{
-    EARLIER_HALF_WIDTH, ENTRIES_LISTED, FREE_NODES, HALF_WIDTH, HEADER_KEPT, LAYOUT, LAYOUT_NUMBER,
-    LEG_FLAG, LEVELS, MOST_LEVELS, ROOT, SITES_HELD, STACK_END, TABLE_LEN, entry_at, free_at,
-    is_earlier, listed_at, node_at, number, put_number, put_word, record_at, word,
+    CORNER_WORDS, EARLIER_HALF_WIDTH, ENTRIES_LISTED, FAR_EDGE, FREE_NODES, HALF_WIDTH,
+    HEADER_KEPT, LAYOUT, LAYOUT_NUMBER, LEG_FLAG, LEVELS, MOST_LEVELS, REMEMBERED, ROOT,
+    SITES_HELD, STACK_END, TABLE_LEN, TOUR, TOUR_FLAG, entry_at, free_at, is_earlier, listed_at,
+    node_at, number, put_number, put_word, record_at, records, word,
 };
 use reference::book::Book;
 use reference::command::{add, stand};
@@ -52,11 +53,36 @@ fn sound(random: &mut Random, count: usize) -> Vec<u8> {
     }
 }
 
+/// The sound table with a tour under way, which remembers a site if one is held and sometimes none.
+fn toured(random: &mut Random, table: &[u8]) -> Vec<u8> {
+    let mut toured = table.to_vec();
+    put_word(&mut toured, TOUR_FLAG, 1);
+    for at in CORNER_WORDS {
+        put_number(&mut toured, at, random.index(usize::from(FAR_EDGE) + 1));
+    }
+    let held: Vec<u16> = records(table).map(|record| record.number).collect();
+    if !held.is_empty() && !random.once_in(4) {
+        put_word(&mut toured, REMEMBERED, random.pick(&held));
+    }
+    toured
+}
+
+/// A sound table of any shape, with a tour or without.
+fn any_sound(random: &mut Random, count: usize) -> Vec<u8> {
+    let table = sound(random, count);
+    match random.once_in(2) {
+        true => toured(random, &table),
+        false => table,
+    }
+}
+
 #[test]
 fn sound_tables_of_every_shape() {
     let mut random = Random::new(201);
     for count in [0, 1, 2, 8, 9, 30, 100, 300, MOST_SITES].repeat(3) {
-        assert!(agreed(&sound(&mut random, count)));
+        let table = sound(&mut random, count);
+        assert!(agreed(&table));
+        assert!(agreed(&toured(&mut random, &table)));
     }
 }
 
@@ -65,7 +91,7 @@ fn a_flipped_bit_in_every_field() {
     let mut random = Random::new(202);
     let (mut refused, mut taken) = (0, 0);
     for count in [0, 1, 3, 9, 12, 40] {
-        let table = sound(&mut random, count);
+        let table = any_sound(&mut random, count);
         for region in regions(&table) {
             for at in region.bytes {
                 let bits = if region.name == "stack" { 1 } else { 8 };
@@ -76,7 +102,7 @@ fn a_flipped_bit_in_every_field() {
             }
         }
     }
-    // A leg that moves a little may have the same list.
+    // A leg that moves a little may have the same list, and a corner may stand anywhere.
     assert!(refused > 10_000 && taken > 10, "{refused} {taken}");
 }
 
@@ -84,7 +110,7 @@ fn a_flipped_bit_in_every_field() {
 fn a_flipped_bit_in_large_tables() {
     let mut random = Random::new(203);
     for count in [200, MOST_SITES] {
-        let table = sound(&mut random, count);
+        let table = any_sound(&mut random, count);
         let regions = regions(&table);
         for _ in 0..600 {
             let bytes = regions[random.index(regions.len())].bytes.clone();
@@ -101,7 +127,7 @@ fn words_exchanged_and_rubbish() {
     let mut random = Random::new(204);
     for nth in 0..4_000 {
         let count = random.index(30);
-        let mut table = sound(&mut random, count);
+        let mut table = any_sound(&mut random, count);
         for _ in 0..1 + random.index(3) {
             let value = match random.between(1, 4) {
                 1 => random.index(10),
@@ -157,7 +183,10 @@ fn dumped(table: &[u8]) -> bool {
 /// Whether an earlier release took it, a table of this layout: the checker and its list say so.
 fn was_sound(table: &[u8]) -> bool {
     let broken = broken_rules(table);
-    broken.iter().all(|rule| *rule == Rule::StandingList) && stands(table, &list_before(table))
+    let without_tour = table[TOUR].iter().all(|byte| *byte == 0);
+    broken.iter().all(|rule| *rule == Rule::StandingList)
+        && without_tour
+        && stands(table, &list_before(table))
 }
 
 /// Whether a table of this layout is dumped; all that is said of it agrees.
@@ -189,6 +218,9 @@ fn lists_of_earlier_releases_are_told_and_dumped() {
             "the standing list is that of a release before 0.9.0"
         );
         assert!(!agreed_on_lists(&kept));
+        // Nor with a tour, which came later.
+        let toured = toured(&mut random, &table);
+        assert!(!agreed_on_lists(&toured) && renewed(&toured).unwrap() == toured);
         let sound = renewed(&table).unwrap();
         assert!(agreed(&sound) && renewed(&sound).unwrap() == sound);
         assert_eq!(earlier_list(&sound).unwrap(), None);
@@ -250,6 +282,7 @@ fn earlier_layouts_have_lists_by_number() {
         for layout in 0..LAYOUT_NUMBER {
             let (before, today) = (aged(&before, layout), aged(&sound, layout));
             assert!(agreed_on_earlier(&before) && !agreed_on_earlier(&today));
+            assert!(!agreed_on_earlier(&toured(&mut random, &before)));
             assert_eq!(meaning(&renewed(&before).unwrap()), meaning(&sound));
             assert!(renewed(&today).unwrap() == today);
         }
@@ -316,13 +349,15 @@ fn rules_on_header_and_sites() {
         edited(|t, _, _| t.push(0)),
         ["table: 32,769 bytes long, a table has 32,768"]
     );
-    assert_eq!(
-        edited(|t, _, _| put_word(t, HEADER_KEPT.start, 9)),
-        [format!(
-            "header: kept for later, byte {}: 9 stands there, 0 belongs there",
-            HEADER_KEPT.start
-        )]
-    );
+    assert_eq!(HEADER_KEPT, 24..64);
+    for at in HEADER_KEPT.step_by(2) {
+        assert_eq!(
+            edited(|t, _, _| put_word(t, at, 9)),
+            [format!(
+                "header: kept for later, byte {at}: 9 stands there, 0 belongs there"
+            )]
+        );
+    }
     let earlier = "the number of an earlier layout: --dump reads such";
     let unknown = "the number of another layout: this release cannot read it";
     for number in [0, 1, 3, 256, 258, u16::MAX] {
@@ -368,6 +403,64 @@ fn rules_on_header_and_sites() {
         let found = edited(|t, _, _| put_word(t, record_at(5) + offset, value));
         assert_eq!(found[0], format!("site record 5: {what}"));
     }
+}
+
+/// What is told of that table with these words for flag, easting, northing and remembered number.
+fn with_tour(words: [u16; 4]) -> Vec<String> {
+    edited(|t, _, _| {
+        let places = [TOUR_FLAG, CORNER_WORDS[0], CORNER_WORDS[1], REMEMBERED];
+        for (at, word) in places.into_iter().zip(words) {
+            put_word(t, at, word);
+        }
+    })
+}
+
+#[test]
+fn rules_on_the_tour() {
+    let flag = "tour: 1 while a tour is under way, else 0, byte 16:";
+    for number in [2, 256, 257] {
+        let what = [format!("{flag} {number} stands there")];
+        assert_eq!(with_tour([number, 12_000, 12_000, 7]), what);
+        assert_eq!(with_tour([number, 24_001, 0, 999]), what);
+    }
+    let set = |name: &str, at: usize, number: &str| {
+        format!(
+            "tour: none is under way, but its {name} is set, byte {at}: {number} stands there, 0 belongs there"
+        )
+    };
+    let (easting, northing) = ("easting of the last corner", "northing of the last corner");
+    assert_eq!(with_tour([0, 1, 0, 0]), [set(easting, 18, "1")]);
+    assert_eq!(with_tour([0, 0, 12_000, 0]), [set(northing, 20, "12,000")]);
+    // Though it is held.
+    assert_eq!(with_tour([0, 0, 0, 7]), [set("remembered site", 22, "7")]);
+    assert_eq!(
+        with_tour([0, 24_001, 256, 65_535]),
+        [
+            set(easting, 18, "24,001"),
+            set(northing, 20, "256"),
+            set("remembered site", 22, "65,535")
+        ]
+    );
+    let off = |name: &str, at: usize, number: &str| {
+        format!(
+            "tour: the {name} is off the grid, 0 to 24,000 from its edge, byte {at}: {number} stands there"
+        )
+    };
+    assert_eq!(
+        with_tour([1, 24_001, 24_000, 0]),
+        [off(easting, 18, "24,001")]
+    );
+    assert_eq!(with_tour([1, 0, 65_535, 40]), [off(northing, 20, "65,535")]);
+    let unknown = "tour: the remembered site is not held, byte 22: 41 stands there";
+    assert_eq!(with_tour([1, 0, 24_000, 41]), [unknown]);
+    assert_eq!(
+        with_tour([1, 24_001, 24_001, 41]),
+        [
+            off(easting, 18, "24,001"),
+            off(northing, 20, "24,001"),
+            unknown.into()
+        ]
+    );
 }
 
 #[test]

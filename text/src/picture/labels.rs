@@ -1,5 +1,6 @@
 //! Labels that overlap neither each other nor the marks of the picture.
 
+use super::marks::Marks;
 use super::paper::{Rect, Spot};
 use super::svg::Svg;
 
@@ -49,7 +50,7 @@ pub struct Place {
 
 pub struct Labels {
     area: Rect,
-    marks: Vec<Rect>,
+    marks: Marks,
     labels: Vec<Label>,
 }
 
@@ -61,15 +62,15 @@ impl Labels {
     pub fn new(area: Rect) -> Self {
         Labels {
             area,
-            marks: Vec::new(),
+            marks: Marks::default(),
             labels: Vec::new(),
         }
     }
 
     /// No label shall stand on this mark.
     pub fn keep_free(&mut self, at: Spot, radius: f64) {
-        let mark = Rect::centred(at, 2.0 * radius, 2.0 * radius);
-        self.marks.push(mark);
+        self.marks
+            .add(Rect::centred(at, 2.0 * radius, 2.0 * radius));
     }
 
     pub fn keep_line_free(&mut self, from: Spot, to: Spot, radius: f64) {
@@ -103,7 +104,7 @@ impl Labels {
         };
         let apart = place.rect.grown(ACROSS, UP);
         self.area.holds(&place.rect)
-            && !self.marks.iter().any(|mark| mark.overlaps(&place.rect))
+            && !self.marks.overlap(&place.rect)
             && !self
                 .labels
                 .iter()
@@ -188,7 +189,7 @@ mod tests {
         assert!((2..=8).contains(&put), "{put}");
         for (i, label) in labels.labels.iter().enumerate() {
             assert!(AREA.holds(&label.rect));
-            assert!(!labels.marks[0].overlaps(&label.rect));
+            assert!(!Rect::centred(MIDDLE, 8.0, 8.0).overlaps(&label.rect));
             let others = &labels.labels[..i];
             let apart = label.rect.grown(ACROSS, UP);
             assert!(!others.iter().any(|other| other.rect.overlaps(&apart)));

@@ -15,6 +15,7 @@ pub enum Key {
     Site(&'static str, f64),
     Breakpoint,
     Start,
+    Corner,
     End,
     Ground(&'static str),
     /// The attributes of a box's edges.
@@ -79,6 +80,7 @@ fn symbol(key: &Key, at: Spot, svg: &mut Svg) {
             svg.line(top, foot, r##" stroke="#222" stroke-width="1.2""##);
         }
         Key::Start => start(middle, svg),
+        Key::Corner => corner(middle, svg),
         Key::End => self::end(middle, svg),
         Key::Ground(colour) => {
             let patch = Rect::centred(middle, 18.0, 12.0);
@@ -100,6 +102,21 @@ pub fn start(at: Spot, svg: &mut Svg) {
     svg.circle(
         at,
         6.5,
+        r##" fill="none" stroke="#222" stroke-width="1.4""##,
+    );
+}
+
+/// Between the first and the last.
+pub fn corner(at: Spot, svg: &mut Svg) {
+    let spot = |x, y| Spot::new(at.x + x, at.y + y);
+    let diamond = [
+        spot(0.0, -7.5),
+        spot(7.5, 0.0),
+        spot(0.0, 7.5),
+        spot(-7.5, 0.0),
+    ];
+    svg.polygon(
+        &diamond,
         r##" fill="none" stroke="#222" stroke-width="1.4""##,
     );
 }

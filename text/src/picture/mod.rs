@@ -1,4 +1,4 @@
-//! A picture of a table: sites, a leg with its stretches, and the tree's boxes on request.
+//! A picture of a table: sites, a leg or a tour with its stretches, and the tree's boxes on request.
 
 mod axes;
 mod boxes;
@@ -6,22 +6,25 @@ mod colours;
 mod file;
 mod labels;
 mod legend;
+mod marks;
 mod paper;
 mod stretches;
 mod svg;
+mod track;
 mod view;
 
 use crate::command::Command;
-use crate::grid::{HALF_WIDTH, Leg, Position, Site};
+use crate::grid::{HALF_WIDTH, Position, Route, Site};
 use crate::record::Entry;
 use crate::service::Service;
 use crate::status::Failure;
 use crate::table::{self, Area};
+use colours::Palette;
 use file::Guard;
 use labels::Labels;
 use legend::{Key, Legend};
 use paper::{Rect, Spot};
-use stretches::Track;
+use stretches::Tracks;
 use svg::Svg;
 use view::View;
 
@@ -41,53 +44,51 @@ pub struct Look {
     pub guard: Guard,
 }
 
-/// The picture of a table and a leg as SVG text.
-pub fn of(service: &mut Service, leg: Option<Leg>, look: &Look) -> Result<String, Failure> {
-    let scene = Scene::of(service, leg, look.boxes)?;
+/// The picture of a table and a leg or tour as SVG text.
+pub fn of(service: &mut Service, route: Option<Route>, look: &Look) -> Result<String, Failure> {
+    let scene = Scene::of(service, route, look.boxes)?;
     Ok(draw(&scene, look.whole_grid))
 }
 
 /// What a picture shows.
 struct Scene {
     sites: Vec<Site>,
-    leg: Option<Leg>,
-    /// Of the leg over the sites.
-    list: Vec<Entry>,
+    route: Option<Route>,
+    /// Of each of its legs over the sites.
+    lists: Vec<Vec<Entry>>,
+    palette: Palette,
     /// Where they are wanted.
     areas: Option<Vec<Area>>,
 }
 
 impl Scene {
-    /// The table as it is now; the leg's list is asked for anew, so that it is that of the sites.
-    fn of(service: &mut Service, leg: Option<Leg>, boxes: bool) -> Result<Self, Failure> {
-        let list = match leg {
-            Some(leg) => service.list(&Command::List(leg))?,
-            None => Vec::new(),
-        };
+    /// The table as it is now; lists are asked for anew, so that they are those of the sites.
+    fn of(service: &mut Service, route: Option<Route>, boxes: bool) -> Result<Self, Failure> {
+        let legs = route.iter().flat_map(Route::legs);
+        let lists = service.lists(&legs.map(Command::List).collect::<Vec<_>>())?;
         let table = service.table();
         Ok(Scene {
             sites: table::sites(table),
-            leg,
-            list,
+            route,
+            palette: Palette::of(&lists),
+            lists,
             areas: boxes.then(|| table::areas(table)),
         })
     }
 
-    /// The number in the list of a site that is listed.
-    fn listed(&self, site: &Site) -> Option<usize> {
-        self.list.iter().position(|entry| entry.site == site.number)
+    fn is_listed(&self, site: &Site) -> bool {
+        self.palette.has(site.number)
     }
 
-    /// Of the listed sites, in the list's order.
-    fn listed_positions(&self) -> Vec<Position> {
-        let site = |entry: &Entry| self.sites.iter().find(|site| site.number == entry.site);
-        let found = self.list.iter().filter_map(site);
-        found.map(|site| site.at).collect()
+    /// Of a site that is held.
+    fn position(&self, number: u16) -> Option<Position> {
+        let site = self.sites.iter().find(|site| site.number == number);
+        site.map(|site| site.at)
     }
 
     /// Of a site's mark: the more there are, the smaller, so that they hide less.
     fn radius(&self, listed: bool) -> f64 {
-        match (listed, self.list.len(), self.sites.len()) {
+        match (listed, self.palette.len(), self.sites.len()) {
             (true, ..=60, _) => 5.0,
             (true, 61..=150, _) => 3.5,
             (true, ..) => 2.0,
@@ -97,10 +98,11 @@ impl Scene {
     }
 
     fn view(&self, whole_grid: bool) -> View {
-        let mut shown: Vec<Position> = match self.leg {
-            Some(leg) => [vec![leg.s, leg.e], self.listed_positions()].concat(),
-            None => self.sites.iter().map(|site| site.at).collect(),
-        };
+        let listed = |site: &&Site| self.route.is_none() || self.is_listed(site);
+        let sites = self.sites.iter().filter(listed).map(|site| site.at);
+        let legs = self.route.iter().flat_map(Route::legs);
+        let ends = legs.flat_map(|leg| [leg.s, leg.e]);
+        let mut shown: Vec<Position> = sites.chain(ends).collect();
         if !whole_grid && !shown.is_empty() {
             return View::fit(&shown, 0.12, PLOT);
         }
@@ -113,13 +115,20 @@ impl Scene {
         View::fit(&shown, 0.04, PLOT)
     }
 
-    fn title(&self) -> String {
+    /// With a route, so many stretches.
+    fn title(&self, stretches: usize) -> String {
         let held = count(self.sites.len(), "site");
-        let Some(leg) = self.leg else {
-            return format!("{held}, no leg");
-        };
-        let stretches = count(self.list.len(), "stretch");
-        format!("Leg {leg}: {stretches}, {held}")
+        let stretches = count(stretches, "stretch");
+        match &self.route {
+            None => format!("{held}, no leg"),
+            Some(Route::Leg(leg)) => format!("Leg {leg}: {stretches}, {held}"),
+            Some(Route::Tour(corners)) => {
+                let ends = [corners.first(), corners.last()].into_iter().flatten();
+                let ends: Vec<String> = ends.map(ToString::to_string).collect();
+                let (ends, legs) = (ends.join(" to "), count(self.lists.len(), "leg"));
+                format!("Tour {ends}: {legs}, {stretches}, {held}")
+            }
+        }
     }
 }
 
@@ -135,34 +144,35 @@ fn count(number: usize, noun: &str) -> String {
 
 fn draw(scene: &Scene, whole_grid: bool) -> String {
     let view = scene.view(whole_grid);
-    let track = scene.leg.map(|leg| Track::new(leg, &view));
+    let tracks = Tracks::of(scene, &view);
     let (mut svg, mut legend) = (Svg::default(), Legend::default());
-    let title = scene.title();
+    let title = scene.title(tracks.as_ref().map_or(0, Tracks::count));
     svg.text(
         Spot::new(PLOT.left, 26.0),
         &title,
         r#" font-size="14" font-weight="bold""#,
     );
-    stretches::keys(&scene.list, &mut legend);
+    if let Some(tracks) = &tracks {
+        tracks.keys(&mut legend);
+    }
     axes::draw(&view, &mut svg, &mut legend);
     if let Some(areas) = &scene.areas {
         boxes::draw(areas, &view, &mut svg, &mut legend);
     }
-    if let Some(track) = &track {
-        track.draw(&scene.list, &scene.listed_positions(), &view, &mut svg);
+    if let Some(tracks) = &tracks {
+        tracks.draw(&view, &mut svg);
     }
     draw_sites(scene, &view, &mut svg, &mut legend);
     let mut labels = Labels::new(PLOT);
     for site in shown(scene, &view) {
         labels.keep_free(view.at(site.at), radius(scene, site));
     }
-    if let Some(track) = &track {
-        track.draw_ends(&mut svg);
-        track.keep_free(&scene.listed_positions(), &view, &mut labels);
-        track.label_ends(&mut labels);
-        legend.key(Key::Start, "S, where the leg starts");
-        legend.key(Key::End, "E, where it ends");
-        track.label(&scene.list, &mut labels, &mut legend);
+    if let Some(tracks) = &tracks {
+        tracks.draw_corners(&mut svg);
+        tracks.keep_free(&view, &mut labels);
+        tracks.label_corners(&mut labels, &mut legend);
+        tracks.corner_keys(&mut legend);
+        tracks.label(&mut labels, &mut legend);
     }
     label_sites(scene, &view, &mut labels, &mut legend);
     labels.draw(&mut svg);
@@ -171,14 +181,14 @@ fn draw(scene: &Scene, whole_grid: bool) -> String {
 }
 
 fn radius(scene: &Scene, site: &Site) -> f64 {
-    scene.radius(scene.listed(site).is_some())
+    scene.radius(scene.is_listed(site))
 }
 
 /// The sites in the plot, the listed ones last, so that they are drawn over the others.
 fn shown<'a>(scene: &'a Scene, view: &View) -> Vec<&'a Site> {
     let inside = |site: &&Site| view.shows(site.at, radius(scene, site));
     let mut shown: Vec<&Site> = scene.sites.iter().filter(inside).collect();
-    shown.sort_by_key(|site| scene.listed(site).is_some());
+    shown.sort_by_key(|site| scene.is_listed(site));
     shown
 }
 
@@ -186,16 +196,16 @@ fn draw_sites(scene: &Scene, view: &View, svg: &mut Svg, legend: &mut Legend) {
     let shown = shown(scene, view);
     svg.group(r#"class="sites""#, |svg| {
         for site in &shown {
-            let colour = scene.listed(site).map_or(colours::UNLISTED, colours::of);
+            let colour = scene.palette.colour(site.number);
             legend::dot(view.at(site.at), radius(scene, site), colour, svg);
         }
     });
-    if !scene.list.is_empty() {
-        let key = Key::Site(colours::of(0), scene.radius(true));
+    if let Some(entry) = scene.lists.iter().flatten().next() {
+        let key = Key::Site(scene.palette.colour(entry.site), scene.radius(true));
         legend.key(key, "listed site, in its stretch's colour");
     }
-    if shown.iter().any(|site| scene.listed(site).is_none()) {
-        let words = if scene.list.is_empty() {
+    if !shown.iter().all(|site| scene.is_listed(site)) {
+        let words = if scene.palette.is_empty() {
             "site"
         } else {
             "site that is not listed"
@@ -218,10 +228,10 @@ fn label_sites(scene: &Scene, view: &View, labels: &mut Labels, legend: &mut Leg
     let mut labelled = 0;
     for site in shown.iter().rev() {
         let number = site.number.to_string();
-        let look = match scene.listed(site) {
-            Some(_) => labels::Look::Strong,
-            None if scene.list.is_empty() => labels::Look::Plain,
-            None => labels::Look::Faint,
+        let look = match scene.is_listed(site) {
+            true => labels::Look::Strong,
+            false if scene.palette.is_empty() => labels::Look::Plain,
+            false => labels::Look::Faint,
         };
         let around = |gap| labels::around(&number, view.at(site.at), radius(scene, site) + gap);
         let places = NUMBER_GAPS.into_iter().flat_map(around).collect();

@@ -1,110 +1,125 @@
-//! The leg with its stretches in colours, and its breakpoints with their fractions.
+//! A leg, or the legs of a tour, with stretches in colours, breakpoints with their fractions, and
+//! corners.
 
+use super::Scene;
 use super::colours;
 use super::labels::{self, Labels, Look, Place};
 use super::legend::{self, Key, Legend};
 use super::paper::Spot;
 use super::svg::Svg;
+use super::track::Track;
 use super::view::View;
-use crate::grid::{Leg, Position};
+use crate::grid::{Position, Route};
 use crate::record::Entry;
 
 const THICKNESS: f64 = 6.0;
-/// Breakpoints that are nearer to the marked one before them get no mark: it would hide colours.
+/// Breakpoints that are nearer to the leg's marked one before them get no mark: it would hide colours.
 const BETWEEN_MARKS: f64 = 6.0;
 const HALF_MARK: f64 = 7.0;
-/// How far a fraction stands from the leg.
-const GAPS: [f64; 7] = [9.0, 24.0, 39.0, 54.0, 69.0, 84.0, 99.0];
 /// So many stretches stand in the legend.
 const MOST_KEYS: usize = 16;
+/// From the middle of a corner's mark to its label.
+const CORNER_GAP: f64 = 11.0;
 
-/// A leg on paper.
-pub struct Track {
-    leg: Leg,
-    s: Spot,
-    e: Spot,
-    /// Of length 1 from S to E, and at a right angle to it; eastward for a leg that is a point.
-    ahead: Spot,
-    aside: Spot,
+/// The legs on paper, one or more.
+pub struct Tracks<'a> {
+    scene: &'a Scene,
+    tracks: Vec<Track<'a>>,
+    is_tour: bool,
 }
 
-impl Track {
-    pub fn new(leg: Leg, view: &View) -> Self {
-        let (s, e) = (view.at(leg.s), view.at(leg.e));
-        let length = s.distance(e);
-        let ahead = if length > 0.0 {
-            Spot::new((e.x - s.x) / length, (e.y - s.y) / length)
-        } else {
-            Spot::new(1.0, 0.0)
-        };
-        let aside = Spot::new(ahead.y, -ahead.x);
-        Track {
-            leg,
-            s,
-            e,
-            ahead,
-            aside,
+/// Where a stretch begins that may go on over corners.
+struct Beginning<'t> {
+    /// From 0 on.
+    leg: usize,
+    track: &'t Track<'t>,
+    entry: &'t Entry,
+    spot: Spot,
+}
+
+impl<'a> Tracks<'a> {
+    /// None where there is nothing but sites.
+    pub fn of(scene: &'a Scene, view: &View) -> Option<Self> {
+        let route = scene.route.as_ref()?;
+        let legs = route.legs().into_iter().zip(&scene.lists);
+        Some(Tracks {
+            scene,
+            tracks: legs
+                .map(|(leg, list)| Track::new(leg, list, view))
+                .collect(),
+            is_tour: matches!(route, Route::Tour(_)),
+        })
+    }
+
+    fn beginnings(&self) -> Vec<Beginning<'_>> {
+        let (mut beginnings, mut before) = (Vec::new(), None);
+        for (leg, track) in self.tracks.iter().enumerate() {
+            for entry in track.list {
+                if before != Some(entry.site) {
+                    beginnings.push(Beginning {
+                        leg,
+                        track,
+                        entry,
+                        spot: track.start(entry),
+                    });
+                }
+                before = Some(entry.site);
+            }
         }
+        beginnings
     }
 
-    fn start(&self, entry: &Entry) -> Spot {
-        let t = f64::from(entry.numerator) / f64::from(entry.denominator);
-        self.s.towards(self.e, t)
-    }
-
-    fn is_point(&self) -> bool {
-        self.leg.s == self.leg.e
-    }
-
-    /// Each entry's stretch.
-    fn stretches(&self, list: &[Entry]) -> Vec<(Spot, Spot)> {
-        let mut spots: Vec<Spot> = list.iter().map(|entry| self.start(entry)).collect();
-        spots.push(self.e);
-        spots.windows(2).map(|pair| (pair[0], pair[1])).collect()
+    pub fn count(&self) -> usize {
+        self.beginnings().len()
     }
 
     /// The breakpoints that get a mark.
-    fn marked<'a>(&self, list: &'a [Entry]) -> Vec<(Spot, &'a Entry)> {
-        let mut marked: Vec<(Spot, &Entry)> = Vec::new();
-        for entry in list.iter().skip(1) {
-            let spot = self.start(entry);
-            let before = marked.last().map(|(spot, _)| *spot);
-            if before.is_none_or(|before| before.distance(spot) >= BETWEEN_MARKS) {
-                marked.push((spot, entry));
+    fn marked(&self) -> Vec<Beginning<'_>> {
+        let mut marked: Vec<Beginning> = Vec::new();
+        for beginning in self.beginnings().into_iter().skip(1) {
+            let same_leg = |before: &&Beginning| before.leg == beginning.leg;
+            let before = marked.last().filter(same_leg).map(|before| before.spot);
+            if before.is_none_or(|before| before.distance(beginning.spot) >= BETWEEN_MARKS) {
+                marked.push(beginning);
             }
         }
         marked
     }
 
-    /// The leg, and from each stretch a tint to its site: `sites` are those of the list.
-    pub fn draw(&self, list: &[Entry], sites: &[Position], view: &View, svg: &mut Svg) {
+    /// The legs, and from each stretch a tint to its site.
+    pub fn draw(&self, view: &View, svg: &mut Svg) {
         svg.group(
             r#"class="reaches" fill-opacity="0.16" stroke-opacity="0.5""#,
             |svg| {
-                for (i, ((from, to), site)) in
-                    self.stretches(list).into_iter().zip(sites).enumerate()
-                {
-                    let colour = colours::of(i);
+                for (site, from, to) in self.tracks.iter().flat_map(Track::stretches) {
+                    let Some(at) = self.scene.position(site) else {
+                        continue;
+                    };
+                    let colour = self.scene.palette.colour(site);
                     let tint = format!(r#" fill="{colour}" stroke="{colour}" stroke-width="0.6""#);
-                    svg.triangle([view.at(*site), from, to], &tint);
+                    svg.polygon(&[view.at(at), from, to], &tint);
                 }
             },
         );
-        svg.line(self.s, self.e, r##" stroke="#222" stroke-width="1""##);
+        for track in &self.tracks {
+            svg.line(track.s, track.e, r##" stroke="#222" stroke-width="1""##);
+        }
         let style = format!(r#"class="stretches" stroke-width="{THICKNESS}""#);
         svg.group(&style, |svg| {
-            for (i, (from, to)) in self.stretches(list).into_iter().enumerate() {
-                self.stretch(from, to, colours::of(i), svg);
+            for track in &self.tracks {
+                for (site, from, to) in track.stretches() {
+                    stretch(track, from, to, self.scene.palette.colour(site), svg);
+                }
             }
         });
         svg.group(
             r##"class="breakpoints" stroke="#222" stroke-width="1.2""##,
             |svg| {
-                for (spot, _) in self.marked(list) {
+                for Beginning { track, spot, .. } in self.marked() {
                     let (left, right) = (-HALF_MARK, HALF_MARK);
                     svg.line(
-                        spot.along(self.aside, left),
-                        spot.along(self.aside, right),
+                        spot.along(track.aside, left),
+                        spot.along(track.aside, right),
                         "",
                     );
                 }
@@ -112,54 +127,96 @@ impl Track {
         );
     }
 
-    fn stretch(&self, from: Spot, to: Spot, colour: &str, svg: &mut Svg) {
-        if self.is_point() {
-            svg.circle(from, THICKNESS / 2.0, &format!(r#" fill="{colour}""#));
-        } else {
-            svg.line(from, to, &format!(r#" stroke="{colour}""#));
-        }
+    fn corners(&self) -> Vec<(Position, Spot)> {
+        let first = self.tracks.first().map(|track| (track.leg.s, track.s));
+        let others = self.tracks.iter().map(|track| (track.leg.e, track.e));
+        first.into_iter().chain(others).collect()
     }
 
-    /// The marks of S and E, drawn over everything else.
-    pub fn draw_ends(&self, svg: &mut Svg) {
+    /// Between the first and the last.
+    fn inner_corners(&self) -> Vec<(Position, Spot)> {
+        let mut corners = self.corners();
+        corners.pop();
+        corners.into_iter().skip(1).collect()
+    }
+
+    /// The marks of the corners, drawn over everything else.
+    pub fn draw_corners(&self, svg: &mut Svg) {
+        let inner = self.inner_corners();
+        if !inner.is_empty() {
+            svg.group(r#"class="corners""#, |svg| {
+                inner
+                    .iter()
+                    .for_each(|(_, spot)| legend::corner(*spot, svg));
+            });
+        }
         svg.group(r#"class="ends""#, |svg| {
-            legend::start(self.s, svg);
-            legend::end(self.e, svg);
+            if let (Some(first), Some(last)) = (self.tracks.first(), self.tracks.last()) {
+                legend::start(first.s, svg);
+                legend::end(last.e, svg);
+            }
         });
     }
 
-    pub fn keep_free(&self, sites: &[Position], view: &View, labels: &mut Labels) {
-        labels.keep_line_free(self.s, self.e, THICKNESS / 2.0);
-        if let (true, [site]) = (self.is_point(), sites) {
-            labels.keep_line_free(self.s, view.at(*site), 1.0);
+    pub fn keep_free(&self, view: &View, labels: &mut Labels) {
+        for track in &self.tracks {
+            labels.keep_line_free(track.s, track.e, THICKNESS / 2.0);
+            if let (true, [entry]) = (track.is_point(), track.list)
+                && let Some(site) = self.scene.position(entry.site)
+            {
+                labels.keep_line_free(track.s, view.at(site), 1.0);
+            }
         }
-        labels.keep_free(self.s, 7.5);
-        labels.keep_free(self.e, 7.5);
+        for (_, spot) in self.corners() {
+            labels.keep_free(spot, 7.5);
+        }
     }
 
-    pub fn label_ends(&self, labels: &mut Labels) {
-        let Position { east, north } = self.leg.s;
-        if self.is_point() {
-            let text = format!("S = E ({east}, {north})");
-            labels.put(&text, Look::Strong, labels::around(&text, self.s, 11.0));
+    pub fn label_corners(&self, labels: &mut Labels, legend: &mut Legend) {
+        let (Some(first), Some(last)) = (self.tracks.first(), self.tracks.last()) else {
             return;
+        };
+        if first.leg.s == last.leg.e {
+            let text = format!("S = E {}", first.leg.s);
+            labels.put(
+                &text,
+                Look::Strong,
+                labels::around(&text, first.s, CORNER_GAP),
+            );
+        } else {
+            let back = Spot::new(-first.ahead.x, -first.ahead.y);
+            let text = format!("S {}", first.leg.s);
+            labels.put(&text, Look::Strong, end_places(&text, first.s, back));
+            let text = format!("E {}", last.leg.e);
+            labels.put(&text, Look::Strong, end_places(&text, last.e, last.ahead));
         }
-        let back = Spot::new(-self.ahead.x, -self.ahead.y);
-        let text = format!("S ({east}, {north})");
-        labels.put(&text, Look::Strong, end_places(&text, self.s, back));
-        let Position { east, north } = self.leg.e;
-        let text = format!("E ({east}, {north})");
-        labels.put(&text, Look::Strong, end_places(&text, self.e, self.ahead));
+        let inner = self.inner_corners();
+        let mut labelled = 0;
+        for (nth, (position, spot)) in (1..).zip(&inner) {
+            let text = format!("C{nth} {position}");
+            let places = labels::around(&text, *spot, CORNER_GAP);
+            labelled += usize::from(labels.put(&text, Look::Plain, places));
+        }
+        if labelled < inner.len() {
+            let all = inner.len();
+            legend.note(format!(
+                "{labelled} of {all} corners between S and E have their number; the others would overlap."
+            ));
+        }
     }
 
     /// Labels the marked breakpoints where they fit, and says what was left out.
-    pub fn label(&self, list: &[Entry], labels: &mut Labels, legend: &mut Legend) {
-        let marked = self.marked(list);
-        let breakpoints = list.len().saturating_sub(1);
+    pub fn label(&self, labels: &mut Labels, legend: &mut Legend) {
+        let marked = self.marked();
+        let breakpoints = self.count().saturating_sub(1);
         let mut labelled = 0;
-        for (spot, entry) in &marked {
+        for Beginning {
+            track, entry, spot, ..
+        } in &marked
+        {
             let text = format!("{}/{}", entry.numerator, entry.denominator);
-            labelled += usize::from(labels.put(&text, Look::Plain, self.places(&text, *spot)));
+            let places = track.places(&text, *spot);
+            labelled += usize::from(labels.put(&text, Look::Plain, places));
         }
         if breakpoints > 0 {
             legend.key(Key::Breakpoint, "breakpoint and its fraction of the leg");
@@ -177,40 +234,60 @@ impl Track {
         }
     }
 
-    fn places(&self, text: &str, spot: Spot) -> Vec<Place> {
-        let other = Spot::new(-self.aside.x, -self.aside.y);
-        let sides = |gap| [(self.aside, gap), (other, gap)];
-        let ways = GAPS.into_iter().flat_map(sides);
-        let place = |(side, gap)| labels::led(text, spot, side, gap);
-        ways.map(place).collect()
+    /// What the marks of the corners mean.
+    pub fn corner_keys(&self, legend: &mut Legend) {
+        if !self.is_tour {
+            legend.key(Key::Start, "S, where the leg starts");
+            legend.key(Key::End, "E, where it ends");
+            return;
+        }
+        legend.key(Key::Start, "S, where the tour starts");
+        if self.tracks.len() > 1 {
+            legend.key(Key::Corner, "C1, C2 and so on: its corners");
+        }
+        legend.key(Key::End, "E, its last corner");
+    }
+
+    /// A key for each stretch, as many as there is room for.
+    pub fn keys(&self, legend: &mut Legend) {
+        let beginnings = self.beginnings();
+        for Beginning { leg, entry, .. } in beginnings.iter().take(MOST_KEYS) {
+            let (site, n, d) = (entry.site, entry.numerator, entry.denominator);
+            let of_leg = match self.is_tour {
+                true => format!(" of leg {}", leg + 1),
+                false => String::new(),
+            };
+            legend.key(
+                Key::Stretch(self.scene.palette.colour(site)),
+                format!("site {site} from {n}/{d}{of_leg}"),
+            );
+        }
+        let all = beginnings.len();
+        if all > MOST_KEYS {
+            let more = all - MOST_KEYS;
+            legend.note(format!(
+                "{MOST_KEYS} of {all} stretches stand above, {more} do not."
+            ));
+        }
+        if self.scene.palette.len() > colours::COUNT {
+            let count = colours::COUNT;
+            legend.note(format!(
+                "There are {count} colours, used in turn from S to E."
+            ));
+        }
+    }
+}
+
+fn stretch(track: &Track, from: Spot, to: Spot, colour: &str, svg: &mut Svg) {
+    if track.is_point() {
+        svg.circle(from, THICKNESS / 2.0, &format!(r#" fill="{colour}""#));
+    } else {
+        svg.line(from, to, &format!(r#" stroke="{colour}""#));
     }
 }
 
 fn end_places(text: &str, spot: Spot, outward: Spot) -> Vec<Place> {
-    let mut places = vec![labels::beside(text, spot, outward, 11.0)];
-    places.extend(labels::around(text, spot, 11.0));
+    let mut places = vec![labels::beside(text, spot, outward, CORNER_GAP)];
+    places.extend(labels::around(text, spot, CORNER_GAP));
     places
-}
-
-/// A key for each stretch, as many as there is room for.
-pub fn keys(list: &[Entry], legend: &mut Legend) {
-    for (i, entry) in list.iter().take(MOST_KEYS).enumerate() {
-        let (site, n, d) = (entry.site, entry.numerator, entry.denominator);
-        legend.key(
-            Key::Stretch(colours::of(i)),
-            format!("site {site} from {n}/{d}"),
-        );
-    }
-    if list.len() > MOST_KEYS {
-        let (all, more) = (list.len(), list.len() - MOST_KEYS);
-        legend.note(format!(
-            "{MOST_KEYS} of {all} stretches stand above, {more} do not."
-        ));
-    }
-    if list.len() > colours::COUNT {
-        let count = colours::COUNT;
-        legend.note(format!(
-            "There are {count} colours, used in turn from S to E."
-        ));
-    }
 }

@@ -46,11 +46,10 @@ impl Svg {
         ));
     }
 
-    pub fn triangle(&mut self, [a, b, c]: [Spot; 3], attributes: &str) {
-        self.put(format_args!(
-            r#"<polygon points="{:.2},{:.2} {:.2},{:.2} {:.2},{:.2}"{attributes}/>"#,
-            a.x, a.y, b.x, b.y, c.x, c.y
-        ));
+    pub fn polygon(&mut self, corners: &[Spot], attributes: &str) {
+        let point = |spot: &Spot| format!("{:.2},{:.2}", spot.x, spot.y);
+        let points = corners.iter().map(point).collect::<Vec<_>>().join(" ");
+        self.put(format_args!(r#"<polygon points="{points}"{attributes}/>"#));
     }
 
     pub fn text(&mut self, at: Spot, text: &str, attributes: &str) {

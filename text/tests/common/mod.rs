@@ -1,10 +1,8 @@
 //! Runs the program, and writes commands as lines.
 #![allow(dead_code)] // Each test file uses its part.
 
-use reference::command::Command as Bytes;
 use reference::fraction::Fraction;
 pub use reference::grid::HALF_WIDTH;
-use reference::grid::Site;
 use reference::record::Record;
 use std::io::Write;
 use std::path::{Path, PathBuf};
@@ -97,36 +95,37 @@ pub fn scratch(name: &str) -> PathBuf {
     folder.join(name)
 }
 
+/// The line that asks for a command, from its bytes.
 pub fn line(command: &[u8]) -> String {
-    let (command, length) = Bytes::read(command).expect("a whole command");
-    assert!(length > 0);
-    let site = |site: Site| {
-        format!(
-            "{} {} {}",
-            site.number, site.position.east, site.position.north
-        )
+    let (mark, operands) = command.split_first().expect("a whole command");
+    let (word, numbered, words) = match mark {
+        b'A' => ("add", true, 3),
+        b'M' => ("move", true, 3),
+        b'D' => ("remove", true, 1),
+        b'L' => ("leg", false, 4),
+        b'S' => ("stand", false, 4),
+        b'P' => ("print", false, 0),
+        b'B' => ("tour", false, 2),
+        b'C' => ("corner", false, 2),
+        _ => panic!("no command has the mark {mark:02X}"),
     };
-    match command {
-        Bytes::Add(added) => format!("add {}\n", site(added)),
-        Bytes::Move(moved) => format!("move {}\n", site(moved)),
-        Bytes::Remove(number) => format!("remove {number}\n"),
-        Bytes::List(leg) => {
-            let (s, e) = (leg.s, leg.e);
-            format!("leg {} {} {} {}\n", s.east, s.north, e.east, e.north)
-        }
-        Bytes::Stand(leg) => {
-            let (s, e) = (leg.s, leg.e);
-            format!("stand {} {} {} {}\n", s.east, s.north, e.east, e.north)
-        }
-        Bytes::Print => "print\n".into(),
+    assert_eq!(operands.len(), 2 * words);
+    let mut line = word.to_string();
+    for (i, bytes) in operands.chunks(2).enumerate() {
+        let number = i16::from_le_bytes([bytes[0], bytes[1]]);
+        line += &match (numbered, i) {
+            (true, 0) => format!(" {}", number.cast_unsigned()),
+            _ => format!(" {number}"),
+        };
     }
+    line + "\n"
 }
 
 pub fn lines(commands: &[Vec<u8>]) -> String {
     commands.iter().map(|command| line(command)).collect()
 }
 
-const REFUSALS: [&str; 7] = [
+const REFUSALS: [&str; 8] = [
     "site number 0",
     "a coordinate outside ",
     "number already held",
@@ -134,10 +133,33 @@ const REFUSALS: [&str; 7] = [
     "512 sites held",
     "no site held",
     "no standing leg",
+    "no tour under way",
 ];
 
-/// The answer without points that --plain gives.
-pub fn in_words(record: &Record) -> String {
+/// What --plain says of a list without its first entry, where its commands are not known.
+pub const STILL: &str = "still the last site of the tour's earlier records";
+
+/// The answers without points that --plain gives to these commands.
+pub fn answers(commands: &[Vec<u8>], records: &[Record]) -> String {
+    answers_from(None, commands, records)
+}
+
+/// The same, with the last site of the earlier records of a tour that is under way.
+pub fn answers_from(last: Option<u16>, commands: &[Vec<u8>], records: &[Record]) -> String {
+    let (mut last, mut answers) = (last, String::new());
+    for (command, record) in commands.iter().zip(records) {
+        answers += &in_words(record, last);
+        last = match (command[0], record) {
+            (b'A' | b'B' | b'D' | b'M', Record::Accepted) => None,
+            (b'C', Record::List(list)) => list.last().map(|entry| entry.site).or(last),
+            _ => last,
+        };
+    }
+    answers
+}
+
+/// The answer without points that --plain gives, with the last site of the tour's earlier records.
+pub fn in_words(record: &Record, last: Option<u16>) -> String {
     match record {
         Record::Accepted => "accepted\n".into(),
         Record::Refused(number) => {
@@ -148,6 +170,10 @@ pub fn in_words(record: &Record) -> String {
         Record::List(list) => {
             let noun = if list.len() == 1 { "entry" } else { "entries" };
             let mut text = format!("list of {} {noun}\n", list.len());
+            if list.first().is_none_or(|entry| entry.start.numerator > 0) {
+                let last = last.expect("the first entry is left out for a site");
+                text += &format!("still site {last}\n");
+            }
             for entry in list {
                 let Fraction {
                     numerator,
@@ -160,7 +186,16 @@ pub fn in_words(record: &Record) -> String {
     }
 }
 
-/// The answers without the points of starts, as they are where the legs are not known.
+/// The answers where neither legs nor tours are known.
+pub fn alone(answers: &str) -> String {
+    let still = |line: &str| match line.starts_with("still site ") {
+        true => format!("{STILL}\n"),
+        false => format!("{line}\n"),
+    };
+    without_points(answers).lines().map(still).collect()
+}
+
+/// The answers without the points of starts.
 pub fn without_points(answers: &str) -> String {
     let line = |line: &str| match (line.find('('), line.find(") ")) {
         (Some(from), Some(to)) => format!("{}{}\n", &line[..from], &line[to + 2..]),
