@@ -35,7 +35,7 @@ use Rattle.book.proofs.LegRecords.{EndOf, left-ends, end-member, end-le
 use Rattle.book.proofs.ProperBooks.{proper-numbered}
 
 -- a listed site is held
-listed-held : (l : Leg) (s : List Site) (es : List Entry) → Stretches l s es → (f : Entry) → List·Memᴰ f es → List·Memᴰ (f .site) s
+pub listed-held : (l : Leg) (s : List Site) (es : List Entry) → Stretches l s es → (f : Entry) → List·Memᴰ f es → List·Memᴰ (f .site) s
 listed-held l s es h f (List·Memᴰ·head {x = e} {xs = rest} q) =
     let r : Below (e .start) (endOf rest) = h .0 .rises in
     let t : IsFraction (mid (e .start) (endOf rest)) = mid-fraction (e .start) (endOf rest) (end-fraction l s (e ∷ rest) h) (end-fraction l s rest (h .1)) in

@@ -13,7 +13,7 @@ use Rattle.book.specs.declared.Command.{Command}
 use Rattle.book.specs.declared.Parsed.{Parsed}
 use Rattle.book.specs.declared.Parsed.the-variants.{End, Unknown, Cut, Whole}
 use Rattle.book.specs.declared.Reason.{Reason}
-use Rattle.book.specs.declared.Reason.the-variants.{AllUsed, WrongLength, Broken, UnknownCommand, CutShort, NoRoom}
+use Rattle.book.specs.declared.Reason.the-variants.{AllUsed, WrongLength, Broken, UnknownCommand, CutShort, NoRoom, BrokenStanding}
 use Rattle.book.specs.Command.{parseAt}
 use Rattle.book.specs.Book.{Book}
 use Rattle.book.specs.Reply.{recordOf}
@@ -147,6 +147,7 @@ module _ (cs : List ℕ) (room : ℕ) (b₀ : Book) where
           by UnknownCommand h = absurd (omega (arith, unknown-parse cs (o .used) h))
           by CutShort h = absurd (omega (arith, cut-parse cs (o .used) h))
           by NoRoom h = let n = parse-next cs (o .used) (h .command) (h .next) (h .stands) in absurd (omega (arith, n .0, n .1))
+          by BrokenStanding h = absurd h
 
   -- THE REASON is one of four: 0, 66, 67 or 68
   pub run-reason : (run cs room b₀ .reason ≡ AllUsed) ⊎ (run cs room b₀ .reason ≡ UnknownCommand) ⊎ (run cs room b₀ .reason ≡ CutShort) ⊎ (run cs room b₀ .reason ≡ NoRoom)
@@ -160,10 +161,15 @@ module _ (cs : List ℕ) (room : ℕ) (b₀ : Book) where
       go UnknownCommand h = inr (inl refl)
       go CutShort h = inr (inr (inl refl))
       go NoRoom h = inr (inr (inr refl))
+      go BrokenStanding h = absurd h
 
   -- never 65
   pub run-not-broken : run cs room b₀ .reason ≢ Broken
   run-not-broken e = subst (λ (r : Reason). StopsFor cs room r (run cs room b₀ .used) (run cs room b₀ .turns) (run cs room b₀ .book)) e (run-ends .stops)
+
+  -- nor 69
+  pub run-not-standing : run cs room b₀ .reason ≢ BrokenStanding
+  run-not-standing e = subst (λ (r : Reason). StopsFor cs room r (run cs room b₀ .used) (run cs room b₀ .turns) (run cs room b₀ .book)) e (run-ends .stops)
 
 -- ---- the work buffer
 

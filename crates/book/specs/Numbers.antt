@@ -1,4 +1,4 @@
--- The numbers of causes and reasons. Document 01, "Causes and numbers"; 8 is document 02's, C-13.
+-- The numbers of causes and reasons. Document 01, "Causes and numbers"; document 02 has 8 (C-13) and 69 (C-17).
 -- `Cause` and `Reason` are the code's own enums (src/lib.rt).
 -- Assumes nothing.
 use Prim.Native.Nat.{ℕ}
@@ -6,7 +6,8 @@ use Rattle.book.specs.declared.Cause.{Cause}
 use Rattle.book.specs.declared.Cause.the-variants.{NumberZero, OffGrid, Held, NotHeld, Full}
 use Rattle.book.specs.declared.Cause.the-variants.{NoSite, NoLeg, NoTour}
 use Rattle.book.specs.declared.Reason.{Reason}
-use Rattle.book.specs.declared.Reason.the-variants.{AllUsed, WrongLength, Broken, UnknownCommand, CutShort, NoRoom}
+use Rattle.book.specs.declared.Reason.the-variants.{AllUsed, WrongLength, Broken, UnknownCommand}
+use Rattle.book.specs.declared.Reason.the-variants.{CutShort, NoRoom, BrokenStanding}
 
 -- a cause's number
 abbrev pub causeNumber : Cause → ℕ
@@ -27,3 +28,4 @@ reasonNumber Broken = 65
 reasonNumber UnknownCommand = 66
 reasonNumber CutShort = 67
 reasonNumber NoRoom = 68
+reasonNumber BrokenStanding = 69

@@ -10,7 +10,8 @@ use Rattle.book.specs.declared.Command.{Command}
 use Rattle.book.specs.declared.Parsed.{Parsed}
 use Rattle.book.specs.declared.Parsed.the-variants.{End, Unknown, Cut, Whole}
 use Rattle.book.specs.declared.Reason.{Reason}
-use Rattle.book.specs.declared.Reason.the-variants.{AllUsed, WrongLength, Broken, UnknownCommand, CutShort, NoRoom}
+use Rattle.book.specs.declared.Reason.the-variants.{AllUsed, WrongLength, Broken, UnknownCommand}
+use Rattle.book.specs.declared.Reason.the-variants.{CutShort, NoRoom, BrokenStanding}
 use Rattle.book.specs.Command.{parseAt}
 use Rattle.book.specs.Book.{Book}
 use Rattle.book.specs.Reply.{Reply, recordOf}
@@ -83,3 +84,4 @@ StopsFor cs room Broken used past b = ⊥
 StopsFor cs room UnknownCommand used past b = parseAt cs used ≡ Unknown
 StopsFor cs room CutShort used past b = parseAt cs used ≡ Cut
 StopsFor cs room NoRoom used past b = TooLong cs room used past b
+StopsFor cs room BrokenStanding used past b = ⊥

@@ -46,7 +46,7 @@ pub enum Cause {
     NoTour,
 }
 
-// How a call ends: 0, and 64 to 68.
+// How a call ends: 0, and 64 to 69.
 pub enum Reason {
     AllUsed,
     WrongLength,
@@ -54,6 +54,7 @@ pub enum Reason {
     UnknownCommand,
     CutShort,
     NoRoom,
+    BrokenStanding,
 }
 
 // What a batch call returns: the reason, the command bytes used, the report bytes written.
@@ -93,5 +94,6 @@ pub fn reason_number(r: Reason) -> u32
         Reason::UnknownCommand => 66,
         Reason::CutShort => 67,
         Reason::NoRoom => 68,
+        Reason::BrokenStanding => 69,
     }
 }

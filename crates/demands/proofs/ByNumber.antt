@@ -1,4 +1,4 @@
--- A table of the release before C-11 of document 02 is refused with 65 exactly where the rule changes its stored list.
+-- A table of the release before C-11 of document 02 is refused with 69 exactly where the rule changes its stored list.
 -- Assumes nothing.
 use mathlib.Core.Path.{_≡_, refl, sym, ap, _∙_, subst⁻¹}
 use mathlib.Core.Bool.{true}
@@ -52,7 +52,7 @@ module _ (t : List ℕ) (c : Call) (t′ : List ℕ) (made : MadeOn t c t′) (o
   earlier-tables =
       let d = demand1 t c t′ made in
       record {
-        refused = λ n. d .broken ok (λ s. n (sym (was .list) ∙ s .standing .list));
+        refused = λ n. d .broken-standing ok (was .whole) (λ s. n (sym (was .list) ∙ s .list));
         taken = λ e. d .taken ok (record { whole = was .whole; standing = record { leg = was .leg; list = was .list ∙ e } });
       }
 
@@ -60,10 +60,10 @@ module _ (t : List ℕ) (c : Call) (t′ : List ℕ) (made : MadeOn t c t′) (o
   pub no-tie-taken : ((l : Leg) → bookOf t .leg ≡ some l → NoTie l (sitesOf (bookOf t))) → Kept t c t′
   no-tie-taken n = earlier-tables .taken (no-tie-stays (bookOf t) n)
 
-  -- DOCUMENT 01'S CASE is refused, with everything left that 65 leaves, and taken where the leg is turned round
+  -- DOCUMENT 01'S CASE is refused, with everything left that 69 leaves, and taken where the leg is turned round
   pub two-and-five :
       (bookOf t ≡ twoAndFive ten
-      → (c .result ≡ returns 65 0 0) × (t′ ≡ t) × (c .workAfter ≡ zeros workBytes) × (c .reportAfter ≡ c .report))
+      → (c .result ≡ returns 69 0 0) × (t′ ≡ t) × (c .workAfter ≡ zeros workBytes) × (c .reportAfter ≡ c .report))
       × (bookOf t ≡ twoAndFive (wayBack ten) → Kept t c t′)
   two-and-five = (
     λ e. earlier-tables .refused (subst⁻¹ (λ (b : Book). ¬ ListStays b) e changes),

@@ -15,15 +15,15 @@ use Rattle.book.specs.declared.Reason.the-variants.{AllUsed, UnknownCommand, Cu
 use Rattle.book.specs.Numbers.{reasonNumber}
 use Rattle.book.specs.Run.{records, StopsFor}
 use Rattle.book.proofs.Runs.{run-ends, run-all, all-run, run-reason}
-use Rattle.table_rules.specs.Table.{Sound, bookOf}
-use Rattle.demands.specs.Batch.{Return, lengthsOk, Served, LaidOut}
-use Rattle.demands.specs.Batch.Batch.{wrong, broken, served}
+use Rattle.table_rules.specs.Table.{Whole, StandingOk, Sound, bookOf}
+use Rattle.demands.specs.Batch.{Return, lengthsOk, Refused, Served, LaidOut}
+use Rattle.demands.specs.Batch.Batch.{wrong, broken, broken-standing, served}
 use Rattle.demands.specs.Batch.LaidOut.{wrong as not-laid, laid}
 use Rattle.demands.specs.Whole.{Call, MadeOn}
 use Rattle.demands.specs.Demands.{runOf, Kept, Demand1, Demand1Laid}
 use Rattle.demands.proofs.Reasons.{same-reason}
 use Rattle.demands.proofs.Chains.{chain-holds, chain-kept, chain-toured}
-use Rattle.demands.proofs.WholeRun.{is-wrong, is-broken, is-served}
+use Rattle.demands.proofs.WholeRun.{is-wrong, is-broken, is-broken-standing, is-served}
 
 -- ---- numbers and reasons
 
@@ -37,26 +37,21 @@ four x (inr (inl e)) = inr (inl (ap reasonNumber e))
 four x (inr (inr (inl e))) = inr (inr (inl (ap reasonNumber e)))
 four x (inr (inr (inr e))) = inr (inr (inr (ap reasonNumber e)))
 
-four-no64 : (n : ℕ) → Four n → n ≢ 64
-four-no64 n (inl e) z = omega arith
-four-no64 n (inr (inl e)) z = omega arith
-four-no64 n (inr (inr (inl e))) z = omega arith
-four-no64 n (inr (inr (inr e))) z = omega arith
+-- none of them refuses the whole call
+four-none : (n : ℕ) → Four n → (n ≢ 64) × (n ≢ 65) × (n ≢ 69)
+four-none n (inl e) = (λ z. omega arith, λ z. omega arith, λ z. omega arith)
+four-none n (inr (inl e)) = (λ z. omega arith, λ z. omega arith, λ z. omega arith)
+four-none n (inr (inr (inl e))) = (λ z. omega arith, λ z. omega arith, λ z. omega arith)
+four-none n (inr (inr (inr e))) = (λ z. omega arith, λ z. omega arith, λ z. omega arith)
 
-four-no65 : (n : ℕ) → Four n → n ≢ 65
-four-no65 n (inl e) z = omega arith
-four-no65 n (inr (inl e)) z = omega arith
-four-no65 n (inr (inr (inl e))) z = omega arith
-four-no65 n (inr (inr (inr e))) z = omega arith
+abbrev Seven : List ℕ
+Seven = 0 ∷ 64 ∷ 65 ∷ 66 ∷ 67 ∷ 68 ∷ 69 ∷ []
 
-abbrev Six : List ℕ
-Six = 0 ∷ 64 ∷ 65 ∷ 66 ∷ 67 ∷ 68 ∷ []
-
-four-six : (n : ℕ) → Four n → List·Memᴰ n Six
-four-six n (inl e) = List·Memᴰ·head e
-four-six n (inr (inl e)) = List·Memᴰ·tail (List·Memᴰ·tail (List·Memᴰ·tail (List·Memᴰ·head e)))
-four-six n (inr (inr (inl e))) = List·Memᴰ·tail (List·Memᴰ·tail (List·Memᴰ·tail (List·Memᴰ·tail (List·Memᴰ·head e))))
-four-six n (inr (inr (inr e))) = List·Memᴰ·tail (List·Memᴰ·tail (List·Memᴰ·tail (List·Memᴰ·tail (List·Memᴰ·tail (List·Memᴰ·head e)))))
+four-seven : (n : ℕ) → Four n → List·Memᴰ n Seven
+four-seven n (inl e) = List·Memᴰ·head e
+four-seven n (inr (inl e)) = List·Memᴰ·tail (List·Memᴰ·tail (List·Memᴰ·tail (List·Memᴰ·head e)))
+four-seven n (inr (inr (inl e))) = List·Memᴰ·tail (List·Memᴰ·tail (List·Memᴰ·tail (List·Memᴰ·tail (List·Memᴰ·head e))))
+four-seven n (inr (inr (inr e))) = List·Memᴰ·tail (List·Memᴰ·tail (List·Memᴰ·tail (List·Memᴰ·tail (List·Memᴰ·tail (List·Memᴰ·head e)))))
 
 -- ---- a call that takes commands
 
@@ -104,20 +99,34 @@ module _ (t t′ : List ℕ) (c : Call) (s : Sound t) (v : Served (runOf t c) t 
 -- ---- any call
 
 module _ (t : List ℕ) (c : Call) (t′ : List ℕ) where
-  ends-in : MadeOn t c t′ → List·Memᴰ (c .result .reason) Six
-  ends-in (wrong e h k) = List·Memᴰ·tail (List·Memᴰ·head (ap (λ (r : Return). r .reason) (h .said)))
-  ends-in (broken e n h k) = List·Memᴰ·tail (List·Memᴰ·tail (List·Memᴰ·head (ap (λ (r : Return). r .reason) (h .said))))
-  ends-in (served e s v) = four-six (c .result .reason) (is-four t t′ c s v)
+  -- the number of a refused call
+  number-is : (n : ℕ) → Refused n t (c .report) (c .result) t′ (c .reportAfter) → c .result .reason ≡ n
+  number-is n h = ap (λ (r : Return). r .reason) (h .said)
+
+  ends-in : MadeOn t c t′ → List·Memᴰ (c .result .reason) Seven
+  ends-in (wrong e h k) = List·Memᴰ·tail (List·Memᴰ·head (number-is 64 h))
+  ends-in (broken e n h k) = List·Memᴰ·tail (List·Memᴰ·tail (List·Memᴰ·head (number-is 65 h)))
+  ends-in (broken-standing e w n h k) =
+      List·Memᴰ·tail (List·Memᴰ·tail (List·Memᴰ·tail (List·Memᴰ·tail (List·Memᴰ·tail (List·Memᴰ·tail (List·Memᴰ·head (number-is 69 h)))))))
+  ends-in (served e s v) = four-seven (c .result .reason) (is-four t t′ c s v)
 
   only-wrong : MadeOn t c t′ → c .result .reason ≡ 64 → lengthsOk t (c .work) ≡ false
   only-wrong (wrong e h k) z = e
-  only-wrong (broken e n h k) z = absurd (let x : 65 ≡ 64 = sym (ap (λ (r : Return). r .reason) (h .said)) ∙ z in omega arith)
-  only-wrong (served e s v) z = absurd (four-no64 (c .result .reason) (is-four t t′ c s v) z)
+  only-wrong (broken e n h k) z = absurd (omega (arith, number-is 65 h, z))
+  only-wrong (broken-standing e w n h k) z = absurd (omega (arith, number-is 69 h, z))
+  only-wrong (served e s v) z = absurd (four-none (c .result .reason) (is-four t t′ c s v) .0 z)
 
-  only-broken : MadeOn t c t′ → c .result .reason ≡ 65 → (lengthsOk t (c .work) ≡ true) × (Sound t → ⊥)
-  only-broken (wrong e h k) z = absurd (let x : 64 ≡ 65 = sym (ap (λ (r : Return). r .reason) (h .said)) ∙ z in omega arith)
+  only-broken : MadeOn t c t′ → c .result .reason ≡ 65 → (lengthsOk t (c .work) ≡ true) × ¬ Whole t
+  only-broken (wrong e h k) z = absurd (omega (arith, number-is 64 h, z))
   only-broken (broken e n h k) z = (e, n)
-  only-broken (served e s v) z = absurd (four-no65 (c .result .reason) (is-four t t′ c s v) z)
+  only-broken (broken-standing e w n h k) z = absurd (omega (arith, number-is 69 h, z))
+  only-broken (served e s v) z = absurd (four-none (c .result .reason) (is-four t t′ c s v) .1 z)
+
+  only-standing : MadeOn t c t′ → c .result .reason ≡ 69 → (lengthsOk t (c .work) ≡ true) × Whole t × ¬ StandingOk t
+  only-standing (wrong e h k) z = absurd (omega (arith, number-is 64 h, z))
+  only-standing (broken e n h k) z = absurd (omega (arith, number-is 65 h, z))
+  only-standing (broken-standing e w n h k) z = (e, w, n)
+  only-standing (served e s v) z = absurd (four-none (c .result .reason) (is-four t t′ c s v) .2 z)
 
   -- DEMAND 1
   pub demand1 : MadeOn t c t′ → Demand1 t c t′
@@ -132,6 +141,10 @@ module _ (t : List ℕ) (c : Call) (t′ : List ℕ) where
             let w = is-broken t (c .work) (c .commands) (c .report) (c .result) t′ (c .workAfter) (c .reportAfter) m e n in
             (w .0 .said, w .0 .table, w .1, w .0 .report);
         only65 = only-broken m;
+        broken-standing = λ e w n.
+            let x = is-broken-standing t (c .work) (c .commands) (c .report) (c .result) t′ (c .workAfter) (c .reportAfter) m e w n in
+            (x .0 .said, x .0 .table, x .1, x .0 .report);
+        only69 = only-standing m;
         taken = λ e s. kept t t′ c s (is-served t (c .work) (c .commands) (c .report) (c .result) t′ (c .workAfter) (c .reportAfter) m e s);
       }
 

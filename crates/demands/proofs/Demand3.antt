@@ -23,7 +23,8 @@ use Rattle.records.specs.Decode.{Listed, listedOf}
 use Rattle.book.specs.declared.Command.{Command}
 use Rattle.book.specs.declared.Command.the-variants.{Add, Remove, List as ListOf, Print}
 use Rattle.book.specs.declared.Cause.the-variants.{NoSite, NoLeg}
-use Rattle.book.specs.declared.Reason.the-variants.{WrongLength, Broken}
+use Rattle.book.specs.declared.Reason.{Reason}
+use Rattle.book.specs.declared.Reason.the-variants.{WrongLength, Broken, BrokenStanding}
 use Rattle.book.specs.Numbers.{reasonNumber}
 use Rattle.book.specs.Book.{Book, emptyBook, sitesOf, change, writeLine, strikeLine, listOf, standingList}
 use Rattle.book.specs.Encode.{commandBytes, additions}
@@ -35,7 +36,7 @@ use Rattle.book.specs.Run.{Outcome, ends, run}
 use Rattle.book.proofs.Lines.{HeldLine, holds-member, write-sites, strike-sites}
 use Rattle.book.proofs.Answers.{answer-print-legless, answer-print-empty, answer-print-done, remove-accepted}
 use Rattle.book.proofs.ProperBooks.{proper-numbered}
-use Rattle.book.proofs.Runs.{call-right, run-not-broken}
+use Rattle.book.proofs.Runs.{call-right, run-not-broken, run-not-standing}
 use Rattle.book.proofs.ReadBack.{Encodable}
 use Rattle.book.proofs.Refill.{refill, allSites, Roomy, afterCalls}
 use Rattle.book.proofs.Refill as refills
@@ -51,27 +52,44 @@ use Rattle.demands.proofs.Legs.{small, list-encodable, held-some, list-
 use Rattle.demands.proofs.OneCommand.{wrote-one, holds-one, kept-one, accepted-one}
 use Rattle.demands.proofs.Printing.{prints-list, prints-left, numbers-more}
 
--- ---- never 65
+-- ---- never 65, and never 69
 
-not-broken : (a : Ask) (b : Book) → reasonNumber (taken a b .reason) ≢ 65
-not-broken a b = go (eqb (a .work) workBytes)
+-- this reason is one that the book never gives
+Unsaid : Reason → Type 0
+Unsaid x = (a : Ask) (b : Book) → taken a b .reason ≢ x
+
+unsaid : (x : Reason) → ((cs : List ℕ) (room : ℕ) (b : Book) → run cs room b .reason ≢ x) → WrongLength ≢ x → Unsaid x
+unfolding Unsaid
+unsaid x n w a b = go (eqb (a .work) workBytes)
   where
-    go : (d : Bool) → reasonNumber (cond d (run (a .commands) (a .room) b) (ends WrongLength 0 [] b) .reason) ≢ 65
-    go true e = run-not-broken (a .commands) (a .room) b (same-reason (run (a .commands) (a .room) b .reason) Broken e)
-    go false e = omega arith
+    go : (d : Bool) → cond d (run (a .commands) (a .room) b) (ends WrongLength 0 [] b) .reason ≢ x
+    go true e = n (a .commands) (a .room) b e
+    go false e = w e
 
-made-never : (t : List ℕ) (b : Book) → Holds t b → (cs : List Call) (t′ : List ℕ) → Made t cs t′ → (c : Call) → List·Memᴰ c cs → c .result .reason ≢ 65
-made-never t b h cs t′ no-call c m = absurd (List·Memᴰ·not-nil m)
-made-never t b h (k ∷ cs) t′ (next {t₁ = t₁} made more) c m =
+made-never : (x : Reason) → Unsaid x → (t : List ℕ) (b : Book) → Holds t b → (cs : List Call) (t′ : List ℕ) → Made t cs t′
+    → (c : Call) → List·Memᴰ c cs → c .result .reason ≢ reasonNumber x
+unfolding Unsaid
+made-never x u t b h cs t′ no-call c m = absurd (List·Memᴰ·not-nil m)
+made-never x u t b h (k ∷ cs) t′ (next {t₁ = t₁} made more) c m =
     let a = one-on t b h k t₁ made in
-    go a (List·Memᴰ·cases-cons m) (made-never t₁ (taken (asked k) b .book) (a .holds) cs t′ more c)
+    go a (List·Memᴰ·cases-cons m) (made-never x u t₁ (taken (asked k) b .book) (a .holds) cs t′ more c)
   where
-    go : Answered b k t₁ → (c ≡ k) ⊎ List·Memᴰ c cs → (List·Memᴰ c cs → c .result .reason ≢ 65) → c .result .reason ≢ 65
-    go a (inl e) ih z = not-broken (asked k) b (sym (ap (λ (x : Said). x .reason) (a .said-is)) ∙ sym (ap (λ (x : Call). x .result .reason) e) ∙ z)
+    go : Answered b k t₁ → (c ≡ k) ⊎ List·Memᴰ c cs → (List·Memᴰ c cs → c .result .reason ≢ reasonNumber x) → c .result .reason ≢ reasonNumber x
+    go a (inl e) ih z =
+        u (asked k) b
+        (same-reason (taken (asked k) b .reason) x
+        (sym (ap (λ (y : Said). y .reason) (a .said-is)) ∙ sym (ap (λ (y : Call). y .result .reason) e) ∙ z))
     go a (inr m) ih z = ih m z
 
-never : (cs : List Call) (t′ : List ℕ) → Ran cs t′ → (c : Call) → List·Memᴰ c cs → c .result .reason ≢ 65
-never cs t′ r = made-never (r .laid-table) emptyBook (laid-holds (r .before) (r .laid-table) (r .laid)) cs t′ (r .made)
+never : (x : Reason) → Unsaid x → (cs : List Call) (t′ : List ℕ) → Ran cs t′ → (c : Call) → List·Memᴰ c cs → c .result .reason ≢ reasonNumber x
+never x u cs t′ r = made-never x u (r .laid-table) emptyBook (laid-holds (r .before) (r .laid-table) (r .laid)) cs t′ (r .made)
+
+-- "No table that came from laying out and batches is ever refused with 65", and "with 69 either"
+never-broken : Unsaid Broken
+never-broken = unsaid Broken run-not-broken (λ e. let z : 64 ≡ 65 = ap reasonNumber e in omega arith)
+
+never-standing : Unsaid BrokenStanding
+never-standing = unsaid BrokenStanding run-not-standing (λ e. let z : 64 ≡ 69 = ap reasonNumber e in omega arith)
 
 -- ---- the list of a leg, and the standing list
 
@@ -181,7 +199,7 @@ refilled (a ∷ asks) order (more-asks {more = more} s w e room f) =
           ∙ r .same (run (additions s) (a .room) b .book);
     }
 
-filled-is : (b : Book) → Proper b → (fs : List Call) → FreshOf b fs → bookOfRun fs .lines ≡ b .lines
+pub filled-is : (b : Book) → Proper b → (fs : List Call) → FreshOf b fs → bookOfRun fs .lines ≡ b .lines
 filled-is b ok fs f =
     let x = refilled (map asked fs) (f .order) (f .filled) in
     ap (λ (z : Book). z .lines)
@@ -217,7 +235,8 @@ demand3 cs t′ r =
     let ok = subst Proper (h .book) (sound-proper t′ (h .sound)) in
     record {
       answers = ran-answers cs t′ r;
-      never65 = never cs t′ r;
+      never65 = never Broken never-broken cs t′ r;
+      never69 = never BrokenStanding never-standing cs t′ r;
       lists = listed-is b t′ h ok;
       right = λ l on. list-right b ok l on (splitOf l (sitesOf b)) refl;
       filled = λ fs u′ q f. filled-is b ok fs f;

@@ -14,10 +14,10 @@ use Rattle.book.specs.Book.{sitesOf}
 use Rattle.book.specs.Proper.{LastHeld, TourFits, TourOk}
 use Rattle.table_header.specs.Layout.{tourStart, cornerStart, lastStart}
 use Rattle.table_header.specs.Header.{positionWords, ZeroFrom, tourAt, tourIn}
-use Rattle.table_rules.specs.Table.{bookOf, Sound}
+use Rattle.table_rules.specs.Table.{bookOf, Whole}
 use Rattle.demands.specs.Batch.{lengthsOk}
 use Rattle.demands.specs.Whole.{Call, MadeOn}
-use Rattle.demands.specs.ByNumber.{Refused65}
+use Rattle.demands.specs.Demands.{RefusedWith}
 use Rattle.demands.specs.TourRules.{BreaksTour}
 use Rattle.demands.specs.TourRules.BreaksTour.{off-grid, not-held, other-flag, not-zero, not-kept}
 use Rattle.demands.proofs.Demand1.{demand1}
@@ -31,20 +31,20 @@ no-flag t e = go (eqb (wordAt t tourStart) 0) refl (tourAt (positionWords t corn
     go true f k g = eqb-true (wordAt t tourStart) 0 f
     go false f k g = absurd (let x : _≡_ {A = ℕ} 0 1 = cc in omega arith)
 
--- the rules of the tour that a sound table has
-sound-tour : (t : List ℕ) → Sound t → (k : Tour) → tourIn t ≡ some k → TourFits k (sitesOf (bookOf t))
-sound-tour t s k e = subst (λ (o : Option Tour). TourOk o (sitesOf (bookOf t))) e (s .whole .tour)
+-- the rules of the tour that a table has which keeps the first half
+whole-tour : (t : List ℕ) → Whole t → (k : Tour) → tourIn t ≡ some k → TourFits k (sitesOf (bookOf t))
+whole-tour t s k e = subst (λ (o : Option Tour). TourOk o (sitesOf (bookOf t))) e (s .tour)
 
--- A SOUND TABLE BREAKS NONE
-unbroken : (t : List ℕ) → BreaksTour t → ¬ Sound t
+-- SUCH A TABLE BREAKS NONE
+pub tour-unbroken : (t : List ℕ) → BreaksTour t → ¬ Whole t
 unfolding ZeroFrom
-unbroken t (off-grid k e n) s = n (sound-tour t s k e .onGrid)
-unbroken t (not-held k n e f h) s =
-    true≢false (sym (subst (λ (o : Option ℕ). LastHeld o (sitesOf (bookOf t))) f (sound-tour t s k e .held)) ∙ h)
-unbroken t (other-flag l) s = omega (arith, l, s .whole .header .tour .flag)
-unbroken t (not-zero e i l u n) s = n (s .whole .header .tour .unset (no-flag t e) i l u)
-unbroken t (not-kept i l u n) s = n (s .whole .header .kept i l u)
+tour-unbroken t (off-grid k e n) s = n (whole-tour t s k e .onGrid)
+tour-unbroken t (not-held k n e f h) s =
+    true≢false (sym (subst (λ (o : Option ℕ). LastHeld o (sitesOf (bookOf t))) f (whole-tour t s k e .held)) ∙ h)
+tour-unbroken t (other-flag l) s = omega (arith, l, s .header .tour .flag)
+tour-unbroken t (not-zero e i l u n) s = n (s .header .tour .unset (no-flag t e) i l u)
+tour-unbroken t (not-kept i l u n) s = n (s .header .kept i l u)
 
 -- 65, in a call with a work buffer of the right length
-pub tour-65 : (t : List ℕ) (c : Call) (t′ : List ℕ) → MadeOn t c t′ → lengthsOk t (c .work) ≡ true → BreaksTour t → Refused65 t c t′
-tour-65 t c t′ made ok b = demand1 t c t′ made .broken ok (unbroken t b)
+pub tour-65 : (t : List ℕ) (c : Call) (t′ : List ℕ) → MadeOn t c t′ → lengthsOk t (c .work) ≡ true → BreaksTour t → RefusedWith 65 t c t′
+tour-65 t c t′ made ok b = demand1 t c t′ made .broken ok (tour-unbroken t b)

@@ -15,19 +15,19 @@ use Rattle.book.specs.Book.{Book, emptyBook}
 use Rattle.book.specs.Run.{Outcome, records, ends, run}
 use Rattle.book.proofs.Runs.{run-book}
 use Rattle.table_empty.specs.EmptyTable.{zeros}
-use Rattle.table_rules.specs.Table.{Sound, bookOf}
+use Rattle.table_rules.specs.Table.{Whole, StandingOk, Sound, bookOf}
 use Rattle.table_rules.proofs.Books.{sound-len}
 use Rattle.table_rules.proofs.Laid.{laid-sound, laid-book}
 use Rattle.demands.specs.Step.{Holds}
 use Rattle.demands.specs.Batch.{Return, lengthsOk, Refused, Served, Batch, LaidOut}
-use Rattle.demands.specs.Batch.Batch.{wrong, broken, served}
+use Rattle.demands.specs.Batch.Batch.{wrong, broken, broken-standing, served}
 use Rattle.demands.specs.Batch.LaidOut.{wrong as not-laid, laid}
 use Rattle.demands.specs.Whole.{Call, MadeOn, Made, Ran, said, asked, taken, saidBy, replies, repliesAsking, bookAfter, bookOfRun}
 use Rattle.demands.specs.Whole.Made.{none, next}
 use Rattle.demands.specs.Demands.{AskedAlike, Alike}
 use Rattle.demands.proofs.Chains.{chain-holds}
 
--- ---- which of the three a call is
+-- ---- which of the four a call is
 
 module _ (t w cs rep : List ℕ) (r : Return) (t′ w′ rep′ : List ℕ) where
   -- lengths that are both right and wrong
@@ -37,16 +37,26 @@ module _ (t w cs rep : List ℕ) (r : Return) (t′ w′ rep′ : List ℕ) wher
   pub is-wrong : Batch t w cs rep r t′ w′ rep′ → lengthsOk t w ≡ false → Refused 64 t rep r t′ rep′ × (w′ ≡ w)
   is-wrong (wrong e h k) f = (h, k)
   is-wrong (broken e n h k) f = clash e f
+  is-wrong (broken-standing e w n h k) f = clash e f
   is-wrong (served e s h) f = clash e f
 
-  pub is-broken : Batch t w cs rep r t′ w′ rep′ → lengthsOk t w ≡ true → (Sound t → ⊥) → Refused 65 t rep r t′ rep′ × (w′ ≡ zeros workBytes)
+  pub is-broken : Batch t w cs rep r t′ w′ rep′ → lengthsOk t w ≡ true → ¬ Whole t → Refused 65 t rep r t′ rep′ × (w′ ≡ zeros workBytes)
   is-broken (wrong e h k) f n = clash f e
   is-broken (broken e m h k) f n = (h, k)
-  is-broken (served e s h) f n = absurd (n s)
+  is-broken (broken-standing e x m h k) f n = absurd (n x)
+  is-broken (served e s h) f n = absurd (n (s .whole))
+
+  pub is-broken-standing : Batch t w cs rep r t′ w′ rep′ → lengthsOk t w ≡ true → Whole t → ¬ StandingOk t
+      → Refused 69 t rep r t′ rep′ × (w′ ≡ zeros workBytes)
+  is-broken-standing (wrong e h k) f x n = clash f e
+  is-broken-standing (broken e m h k) f x n = absurd (m x)
+  is-broken-standing (broken-standing e y m h k) f x n = (h, k)
+  is-broken-standing (served e s h) f x n = absurd (n (s .standing))
 
   pub is-served : Batch t w cs rep r t′ w′ rep′ → lengthsOk t w ≡ true → Sound t → Served (run cs (length rep) (bookOf t)) t rep r t′ w′ rep′
   is-served (wrong e h k) f s = clash f e
-  is-served (broken e n h k) f s = absurd (n s)
+  is-served (broken e n h k) f s = absurd (n (s .whole))
+  is-served (broken-standing e x n h k) f s = absurd (n (s .standing))
   is-served (served e z h) f s = h
 
 -- ---- one call

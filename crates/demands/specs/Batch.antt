@@ -12,7 +12,7 @@ use Rattle.limits.specs.Limits.{tableBytes, workBytes}
 use Rattle.book.specs.declared.BatchResult.{BatchResult}
 use Rattle.book.specs.Numbers.{reasonNumber}
 use Rattle.book.specs.Run.{Outcome, records, run}
-use Rattle.table_rules.specs.Table.{Sound, bookOf}
+use Rattle.table_rules.specs.Table.{Whole, StandingOk, Sound, bookOf}
 use Rattle.table_empty.specs.EmptyTable.{zeros, emptyTable}
 use Rattle.demands.specs.Step.{Chain}
 
@@ -50,13 +50,16 @@ pub record Served (o : Outcome) (t rep : List ℕ) (r : Return) (t′ w′ rep�
   pub work : w′ ≡ zeros workBytes
 
 -- ONE BATCH CALL: table, work buffer, commands and report before; the result; table, work buffer and report after.
--- It is one of three: "The table's length is tested first, then the work buffer's, then the table's contents, then
--- commands in turn."
+-- It is one of four: "The table's length is tested first, then the work buffer's, then the table's contents, then
+-- commands in turn." Document 02, C-17: 69 is "tested directly after 65".
 pub data Batch (t w cs rep : List ℕ) (r : Return) (t′ w′ rep′ : List ℕ) : Type 0 where
   -- "table or work buffer of wrong length", 64: everything is left
   wrong : lengthsOk t w ≡ false → Refused 64 t rep r t′ rep′ → w′ ≡ w → Batch t w cs rep r t′ w′ rep′
-  -- "in the table a tree rule .. or the standing list's rule is broken", 65: table and report are left
-  broken : lengthsOk t w ≡ true → (Sound t → ⊥) → Refused 65 t rep r t′ rep′ → w′ ≡ zeros workBytes
+  -- C-17: "65 is kept for the layout and the rules on tree, sites and tour": table and report are left
+  broken : lengthsOk t w ≡ true → ¬ Whole t → Refused 65 t rep r t′ rep′ → w′ ≡ zeros workBytes
+      → Batch t w cs rep r t′ w′ rep′
+  -- "A sound tree with a wrong standing list, or a standing leg off the grid", 69: "the buffers are left as with 65"
+  broken-standing : lengthsOk t w ≡ true → Whole t → ¬ StandingOk t → Refused 69 t rep r t′ rep′ → w′ ≡ zeros workBytes
       → Batch t w cs rep r t′ w′ rep′
   -- commands are taken
   served : lengthsOk t w ≡ true → Sound t → Served (run cs (length rep) (bookOf t)) t rep r t′ w′ rep′

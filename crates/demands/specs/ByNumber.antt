@@ -1,11 +1,10 @@
 -- Tables of the release before C-11 of document 02, whose standing list followed document 01's own tie rule. C-11: "The
--- standing list and test 65 follow".
+-- standing list and test 65 follow"; since C-17 the number of a wrong standing list is 69.
 -- Assumes nothing.
 use mathlib.Core.Path.{_≡_}
 use mathlib.Core.Option.{Option, none, some}
 use mathlib.Core.List.{List, [], _∷_}
 use Prim.Native.Nat.{ℕ}
-use Rattle.limits.specs.Limits.{workBytes}
 use Rattle.grid.specs.declared.Leg.{Leg}
 use Rattle.grid.specs.declared.Site.{Site}
 use Rattle.split.specs.SplitList.{Entry}
@@ -15,10 +14,8 @@ use Rattle.book.specs.Book.{Book, sitesOf, standingList}
 use Rattle.book.specs.Proper.{LegOk}
 use Rattle.table_standing.specs.Standing.{standingIn, numbersOf}
 use Rattle.table_rules.specs.Table.{Whole, bookOf}
-use Rattle.table_empty.specs.EmptyTable.{zeros}
-use Rattle.demands.specs.Batch.{returns}
 use Rattle.demands.specs.Whole.{Call}
-use Rattle.demands.specs.Demands.{Kept}
+use Rattle.demands.specs.Demands.{Kept, RefusedWith}
 
 -- the list of a leg or none, by document 01's own tie rule
 abbrev pub listByNumber : Option Leg → List Site → List Entry
@@ -39,15 +36,10 @@ pub record SoundByNumber (t : List ℕ) : Type 0 where
 abbrev pub ListStays : Book → Type 0
 ListStays b = storedBefore b ≡ numbersOf (standingList b)
 
--- 65, with table and report left and the work buffer all zero
-abbrev pub Refused65 : List ℕ → Call → List ℕ → Type 0
-Refused65 t c t′ =
-    (c .result ≡ returns 65 0 0) × (t′ ≡ t) × (c .workAfter ≡ zeros workBytes) × (c .reportAfter ≡ c .report)
-
 -- what becomes of such a table in a call with a work buffer of the right length
 pub record EarlierTable (t : List ℕ) (c : Call) (t′ : List ℕ) : Type 0 where
   -- whose stored list C-11 changes
-  pub refused : ¬ ListStays (bookOf t) → Refused65 t c t′
+  pub refused : ¬ ListStays (bookOf t) → RefusedWith 69 t c t′
   -- and every other one: it is taken as it is
   pub taken : ListStays (bookOf t) → Kept t c t′
 

@@ -36,7 +36,7 @@ use Rattle.book.specs.Reply.{listed, recordOf}
 use Rattle.book.specs.Answer.{answer, legAsked, shownBy}
 use Rattle.book.specs.Run.{Turn, Outcome, records, run, afterAll, StopsFor}
 use Rattle.book.specs.Listener.{Exchange, heardLeg, bookHeard, tourHeard, LegTold}
-use Rattle.table_rules.specs.Table.{Sound, bookOf}
+use Rattle.table_rules.specs.Table.{Whole, StandingOk, Sound, bookOf}
 use Rattle.table_header.specs.Layout.{tourStart, tourEnd}
 use Rattle.table_empty.specs.EmptyTable.{zeros, emptyTable}
 use Rattle.demands.specs.Step.{Holds, keeps, tours}
@@ -90,18 +90,25 @@ pub record Kept (t : List ℕ) (c : Call) (t′ : List ℕ) : Type 0 where
   -- and one without another accepted change than 42 and 43 leaves every byte but those of the tour
   pub tour-alone : AllTour (runOf t c .turns) → Only tourStart tourEnd t t′
 
+-- the call was refused with this number: "Left as it was: table, report", and the work buffer is all zero
+abbrev pub RefusedWith : ℕ → List ℕ → Call → List ℕ → Type 0
+RefusedWith n t c t′ =
+    (c .result ≡ returns n 0 0) × (t′ ≡ t) × (c .workAfter ≡ zeros workBytes) × (c .reportAfter ≡ c .report)
+
 -- DEMAND 1 of a batch call on any bytes: t and t′ are the table before and after.
 pub record Demand1 (t : List ℕ) (c : Call) (t′ : List ℕ) : Type 0 where
   -- every call ends with a defined result: one of these numbers
-  pub ends : List·Memᴰ (c .result .reason) (0 ∷ 64 ∷ 65 ∷ 66 ∷ 67 ∷ 68 ∷ [])
+  pub ends : List·Memᴰ (c .result .reason) (0 ∷ 64 ∷ 65 ∷ 66 ∷ 67 ∷ 68 ∷ 69 ∷ [])
   -- 64 exactly for a table or work buffer of wrong length; "Left as it was: everything"
   pub wrong : lengthsOk t (c .work) ≡ false
       → (c .result ≡ returns 64 0 0) × (t′ ≡ t) × (c .workAfter ≡ c .work) × (c .reportAfter ≡ c .report)
   pub only64 : c .result .reason ≡ 64 → lengthsOk t (c .work) ≡ false
-  -- 65 exactly for a table that is not sound; "Left as it was: table, report", and the work buffer is all zero
-  pub broken : lengthsOk t (c .work) ≡ true → (Sound t → ⊥)
-      → (c .result ≡ returns 65 0 0) × (t′ ≡ t) × (c .workAfter ≡ zeros workBytes) × (c .reportAfter ≡ c .report)
-  pub only65 : c .result .reason ≡ 65 → (lengthsOk t (c .work) ≡ true) × (Sound t → ⊥)
+  -- 65 exactly for a table that breaks the layout or a rule on tree, sites or tour
+  pub broken : lengthsOk t (c .work) ≡ true → ¬ Whole t → RefusedWith 65 t c t′
+  pub only65 : c .result .reason ≡ 65 → (lengthsOk t (c .work) ≡ true) × ¬ Whole t
+  -- 69 exactly for a table that keeps these, and whose standing leg or list is wrong; "the buffers are left as with 65"
+  pub broken-standing : lengthsOk t (c .work) ≡ true → Whole t → ¬ StandingOk t → RefusedWith 69 t c t′
+  pub only69 : c .result .reason ≡ 69 → (lengthsOk t (c .work) ≡ true) × Whole t × ¬ StandingOk t
   -- every other call takes commands
   pub taken : lengthsOk t (c .work) ≡ true → Sound t → Kept t c t′
 
@@ -265,6 +272,8 @@ pub record Demand3On (cs : List Call) (b : Book) (t′ : List ℕ) : Type 0 wher
   pub answers : map said cs ≡ replies emptyBook (map asked cs)
   -- "No table that came from laying out and batches is ever refused with 65."
   pub never65 : (c : Call) → List·Memᴰ c cs → c .result .reason ≢ 65
+  -- document 02, C-17: "No table that came from laying out and batches is ever refused with 69 either."
+  pub never69 : (c : Call) → List·Memᴰ c cs → c .result .reason ≢ 69
   -- the list of a leg on the grid is answered whenever a site is held and the report has room; the table's bytes
   -- are left
   pub lists : (l : Leg) → LegOnGrid l → sitesOf b ≢ [] → (c : Call) (t″ : List ℕ) → Asks t′ (list4C l) c t″

@@ -2,8 +2,10 @@
 -- Assumes nothing.
 use mathlib.Core.Path.{_≡_, refl}
 use mathlib.Core.List.{[], _∷_}
+use mathlib.Core.Option.{none, some}
 use native.Mathlib.Decide.{decLe, decLt}
 use native.Mathlib.Omega.{arith}
+use Rattle.limits.specs.Limits.{workBytes}
 use Rattle.words.specs.Words.{wordAt}
 use Rattle.grid.specs.Position.{squaredDifference, distance, LegOnGrid}
 use Rattle.grid.specs.Coordinate.{fromWord, toWord}
@@ -18,7 +20,7 @@ use Rattle.book.specs.Command.{formOf, parseAt}
 use Rattle.book.specs.Answer.{answer}
 use Rattle.book.specs.Run.{records, turn, runFrom}
 use Rattle.demands.specs.Whole.{replies, repliesAsking, bookAfter}
-use Rattle.replay.specs.Replayed.{siteOne, siteTwo, endAsks, endReplies, tenBytes}
+use Rattle.replay.specs.Replayed.{ask, siteOne, siteTwo, standTen, endAsks, endReplies, tenBytes}
 
 -- 64, 0, 66, 67 and 68
 pub end-replies : replies emptyBook endAsks ≡ endReplies
@@ -37,3 +39,13 @@ ten-list = refl
 
 pub ten-on : LegOnGrid ten
 ten-on = record { s = record { east = omega arith; north = omega arith }; e = record { east = omega arith; north = omega arith } }
+
+-- a 53 sets the leg, and adds no site
+pub stood-book : bookAfter emptyBook (ask workBytes standTen 2 ∷ []) ≡ record { lines = []; leg = some ten; tour = none }
+unfolding repliesAsking bookAfter records turn runFrom parseAt formOf wordAt fromWord toWord answer holds change
+stood-book = refl
+
+-- its list is empty
+pub no-entry : splitOf ten [] ≡ []
+unfolding splitOf build
+no-entry = refl

@@ -1,16 +1,18 @@
 -- A row of real calls beside the site book, and one leg asked of two tables. Document 01, "The site book" and "Legs
--- to try".
+-- to try". Calls on a damaged table: document 02, C-17.
 -- Assumes nothing.
 use mathlib.Core.Path.{_≡_}
 use mathlib.Core.List.{List, [], _∷_, map}
 use Prim.Native.Nat.{ℕ}
 use lib.ListN.{length, take}
 use Rattle.limits.specs.Limits.{workBytes}
+use Rattle.words.specs.Words.{putWord}
 use Rattle.grid.specs.declared.Site.{Site}
 use Rattle.split.specs.Legs.{at, site, ten}
 use Rattle.book.specs.declared.BatchResult.{BatchResult}
 use Rattle.book.specs.Numbers.{reasonNumber}
 use Rattle.book.specs.Book.{emptyBook}
+use Rattle.table_empty.specs.EmptyTable.{emptyTable}
 use Rattle.demands.specs.Batch.{returnOf, LaidOut}
 use Rattle.demands.specs.Whole.{Call, MadeOn, Ran, Said, Ask, asked, repliesAsking, Filled, Asks}
 use Rattle.demands.specs.Demands.{list4C}
@@ -19,6 +21,7 @@ use Rattle.replay.specs.declared.Heard.{Heard}
 use Rattle.replay.specs.declared.Opening.{Opening}
 use Rattle.replay.specs.declared.Closing.{Closing}
 use Rattle.replay.specs.declared.Row.{Row}
+use Rattle.replay.specs.declared.Damaged.{Damaged}
 
 -- a call as the book takes it
 abbrev pub ask : ℕ → List ℕ → ℕ → Ask
@@ -47,6 +50,14 @@ removeCut = 0x44 ∷ 3 ∷ 0 ∷ 0x41 ∷ 1 ∷ 0 ∷ []
 -- the list of the leg (0,0) to (10,0)
 abbrev pub listTen : List ℕ
 listTen = 0x4C ∷ 0 ∷ 0 ∷ 0 ∷ 0 ∷ 10 ∷ 0 ∷ 0 ∷ 0 ∷ []
+
+-- the standing list
+abbrev pub printAlone : List ℕ
+printAlone = 0x50 ∷ []
+
+-- the standing leg (0,0) to (10,0)
+abbrev pub standTen : List ℕ
+standTen = 0x53 ∷ 0 ∷ 0 ∷ 0 ∷ 0 ∷ 10 ∷ 0 ∷ 0 ∷ 0 ∷ []
 
 -- the five calls
 abbrev pub endAsks : List Ask
@@ -136,3 +147,27 @@ pub record Replayed (r : Row) : Type 0 where
   pub any-length : (n : ℕ) → saidOf (r .opening) (r .closing) ≡ repliesAsking n emptyBook (map (resized n) endAsks)
   pub ours : r .ours ≡ tenBytes
   pub theirs : r .theirs ≡ r .ours
+
+-- a table just laid out, with the greatest length of its standing list
+abbrev pub lengthHit : List ℕ
+lengthHit = putWord emptyTable 12 65535
+
+-- a call on it says 69, and leaves it
+pub record LengthHit (r : Heard) (t′ : List ℕ) : Type 0 where
+  pub told : saidIn r ≡ reply 69 0 []
+  pub left : t′ ≡ lengthHit
+
+-- a table just laid out got a standing leg: no site is held
+pub record Stood (t′ : List ℕ) : Type 0 where
+  pub calls : List Call
+  pub ran : Ran calls t′
+  pub asks : map asked calls ≡ ask workBytes standTen 2 ∷ []
+
+-- THE CALLS ON DAMAGED TABLES. Document 02, C-17: "A sound tree with a wrong standing list, or a standing leg off the
+-- grid, gets its own number", "tested directly after 65"
+pub record DamageTold (r : Damaged) : Type 0 where
+  pub length : saidIn (r .length) ≡ reply 69 0 []
+  pub flag : saidIn (r .flag) ≡ reply 65 0 []
+  pub zeros : saidIn (r .zeros) ≡ reply 65 0 []
+  pub leg : saidIn (r .leg) ≡ reply 69 0 []
+  pub siteless : saidIn (r .siteless) ≡ reply 69 0 []

@@ -1,9 +1,7 @@
 // The two public calls: laying out a table, and a batch of commands on it. Document 01, "Buffers and batches".
-pub mod admit;
-
-use admit::Admission;
 use book::BatchResult;
 use book::Reason;
+use table_admit::Admission;
 ghost use mathlib.Core.Path.{_≡_};
 ghost use Rattle.demands.specs.Batch.{returns, returnOf, Served, Batch, LaidOut};
 ghost use lib.ListN.{length};
@@ -53,7 +51,7 @@ pub fn batch(table: &mut [u8], work: &mut [u8], commands: &[u8], report: &mut [u
     ensures { λ r. ⌜ Batch (now (table .entry)) (now (work .entry)) (now (commands .entry)) (now (report .entry))
         (returnOf r) (now (table .exit)) (now (work .exit)) (now (report .exit)) ⌝ }
 {
-    let admission = admit::admit(table, work);
+    let admission = table_admit::admit(table, work);
     match admission {
         Admission::Taken => carry_out(table, work, commands, report),
         Admission::Refused(reason) => refused(reason),

@@ -6,7 +6,7 @@ use Prim.Native.Nat.{ℕ, _-_, _≤_}
 use native.Mathlib.Omega.{arith}
 use lib.ListN.{length}
 use Rattle.book.specs.declared.Reason.{Reason}
-use Rattle.book.specs.declared.Reason.the-variants.{AllUsed, WrongLength, Broken, UnknownCommand, CutShort, NoRoom}
+use Rattle.book.specs.declared.Reason.the-variants.{AllUsed, WrongLength, Broken, UnknownCommand, CutShort, NoRoom, BrokenStanding}
 use Rattle.book.specs.Book.{Book}
 use Rattle.book.specs.Run.{Outcome, run, StopsFor}
 use Rattle.book.proofs.Runs.{run-ends}
@@ -21,6 +21,7 @@ ready-for cs room o size left l n Broken h = h
 ready-for cs room o size left l n UnknownCommand h = tt
 ready-for cs room o size left l n CutShort h = omega (arith, n, cut-bound cs (o .used) h)
 ready-for cs room o size left l n NoRoom h = tt
+ready-for cs room o size left l n BrokenStanding h = h
 
 pub ready-after : (cs : List ℕ) (room : ℕ) (b : Book) (size left : ℕ) → longestCommand ≤ size → left ≡ length cs - run cs room b .used
     → (x : Reason) → run cs room b .reason ≡ x → Resumable size x left

@@ -8,7 +8,7 @@ use native.Mathlib.Omega.{arith}
 use lib.ListN.{length, take, drop, take-append-drop}
 use lib.Seq.{take-take, length-take-le, length-slice}
 use Rattle.book.specs.declared.Reason.{Reason}
-use Rattle.book.specs.declared.Reason.the-variants.{AllUsed, WrongLength, Broken, UnknownCommand, CutShort, NoRoom}
+use Rattle.book.specs.declared.Reason.the-variants.{AllUsed, WrongLength, Broken, UnknownCommand, CutShort, NoRoom, BrokenStanding}
 use Rattle.stops.specs.declared.Batched.{Batched}
 use Rattle.stops.specs.declared.Next.{Next}
 use Rattle.stops.specs.declared.Next.the-variants.{Untaken}
@@ -22,7 +22,7 @@ use Rattle.stops.specs.Calls.{JoinedInput, Onward, WantsMore, Resumable,
 pub reads-as : (reason x : Reason) → reason ≡ x → WantsMore x → WantsMore reason
 reads-as reason x e h = rw e h
 
--- there is room to read; and 64 and 65 do not come
+-- there is room to read; and 64, 65 and 69 do not come
 pub ready-as : (size left : ℕ) (reason x : Reason) → reason ≡ x → Resumable size reason left → Resumable size x left
 ready-as size left reason x e h = subst (λ (y : Reason). Resumable size y left) e h
 
@@ -34,6 +34,7 @@ onward-joined size Broken rest held h j = absurd h
 onward-joined size UnknownCommand rest held h j = absurd h
 onward-joined size CutShort rest held h j = j
 onward-joined size NoRoom rest held h j = absurd h
+onward-joined size BrokenStanding rest held h j = absurd h
 
 final-read : (reason : Reason) → WantsMore reason → Final reason
 final-read AllUsed h = tt
@@ -42,6 +43,7 @@ final-read Broken h = absurd h
 final-read UnknownCommand h = absurd h
 final-read CutShort h = tt
 final-read NoRoom h = absurd h
+final-read BrokenStanding h = absurd h
 
 after : (s : List ℕ) (reason : Reason) (left : ℕ) (got : Got) (s′ : List ℕ) → WantsMore reason → ReadOn left s got s′
     → Follows (length s) reason (take left s) (afterRead got reason) s′

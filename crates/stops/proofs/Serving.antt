@@ -10,7 +10,7 @@ use lib.Seq.{length-take-le}
 use borrow.Author.Tests.{eq-eqb}
 use Rattle.limits.specs.Limits.{tableBytes, workBytes}
 use Rattle.book.specs.declared.Reason.{Reason}
-use Rattle.book.specs.declared.Reason.the-variants.{AllUsed, WrongLength, Broken, UnknownCommand, CutShort, NoRoom}
+use Rattle.book.specs.declared.Reason.the-variants.{AllUsed, WrongLength, Broken, UnknownCommand, CutShort, NoRoom, BrokenStanding}
 use Rattle.book.specs.Numbers.{reasonNumber}
 use Rattle.book.specs.declared.BatchResult.{BatchResult}
 use Rattle.book.specs.Run.{Outcome, records, run, afterAll, StopsFor}
@@ -97,3 +97,4 @@ reason-byte Broken n e = omega (arith, e)
 reason-byte UnknownCommand n e = omega (arith, e)
 reason-byte CutShort n e = omega (arith, e)
 reason-byte NoRoom n e = omega (arith, e)
+reason-byte BrokenStanding n e = omega (arith, e)

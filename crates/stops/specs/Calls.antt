@@ -10,7 +10,8 @@ use lib.ListN.{length, take, drop}
 use Rattle.limits.specs.Limits.{maxSites, workBytes}
 use Rattle.records.specs.ListRecord.{listSize}
 use Rattle.book.specs.declared.Reason.{Reason}
-use Rattle.book.specs.declared.Reason.the-variants.{AllUsed, WrongLength, Broken, UnknownCommand, CutShort, NoRoom}
+use Rattle.book.specs.declared.Reason.the-variants.{AllUsed, WrongLength, Broken, UnknownCommand}
+use Rattle.book.specs.declared.Reason.the-variants.{CutShort, NoRoom, BrokenStanding}
 use Rattle.book.specs.declared.BatchResult.{BatchResult}
 use Rattle.book.specs.Command.{commandTable, longestIn}
 use Rattle.book.specs.Numbers.{reasonNumber}
@@ -54,6 +55,7 @@ Onward size Broken rest held = ⊥
 Onward size UnknownCommand rest held = ⊥
 Onward size CutShort rest held = JoinedInput size rest held
 Onward size NoRoom rest held = held ≡ rest
+Onward size BrokenStanding rest held = ⊥
 
 -- the reasons after which the program reads
 abbrev pub WantsMore : Reason → Type 0
@@ -63,9 +65,10 @@ WantsMore Broken = ⊥
 WantsMore UnknownCommand = ⊥
 WantsMore CutShort = Unit {0}
 WantsMore NoRoom = ⊥
+WantsMore BrokenStanding = ⊥
 
 -- the reason of a call that left so many bytes in an input buffer of `size`: after 0 and 67 there is room behind
--- them, so that a read of nothing is the end of the input, and 64 and 65 do not come
+-- them, so that a read of nothing is the end of the input, and 64, 65 and 69 do not come
 abbrev pub Resumable : ℕ → Reason → ℕ → Type 0
 Resumable size AllUsed left = left < size
 Resumable size WrongLength left = ⊥
@@ -73,6 +76,7 @@ Resumable size Broken left = ⊥
 Resumable size UnknownCommand left = Unit {0}
 Resumable size CutShort left = left < size
 Resumable size NoRoom left = Unit {0}
+Resumable size BrokenStanding left = ⊥
 
 -- "It stops at the end of the input or after 66"
 abbrev pub Final : Reason → Type 0
@@ -82,6 +86,7 @@ Final Broken = ⊥
 Final UnknownCommand = Unit {0}
 Final CutShort = Unit {0}
 Final NoRoom = ⊥
+Final BrokenStanding = ⊥
 
 -- what follows a read after a call that ended with this reason
 abbrev pub afterRead : Got → Reason → Next

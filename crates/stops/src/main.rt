@@ -129,6 +129,7 @@ fn follow(input: &mut [u8], reason: Reason, left: usize) -> Next
         Reason::UnknownCommand => Next::End(Reason::UnknownCommand),
         Reason::WrongLength => Next::End(Reason::WrongLength),
         Reason::Broken => Next::End(Reason::Broken),
+        Reason::BrokenStanding => Next::End(Reason::BrokenStanding),
     }
 }
 

@@ -31,12 +31,11 @@ use Rattle.table_standing.specs.Standing.{standingIn, numbersOf}
 use Rattle.tree_node.specs.Layout.{treeStart}
 use Rattle.table_rules.specs.Table.{bookOf, Whole, StandingOk, Sound}
 use Rattle.table_rules.specs.Following.{Follows}
-use Rattle.table_rules.proofs.Books.{sound-proper}
-use Rattle.table_rules.proofs.Same.{lines-same, sites-same, leg-same, tour-same, list-same, flag-same}
+use Rattle.table_rules.proofs.Books.{sound-few, sound-proper}
+use Rattle.table_rules.proofs.Same.{lines-same, sites-same, leg-same, tour-same, list-same, flag-same, tied-below}
 use Rattle.demands.specs.Step.{Holds}
 use Rattle.table_patch.specs.Patching.{Patchable}
-use Rattle.table_patch.proofs.Restanding.{tied-below}
-use Rattle.table_patch.proofs.Patching.{sound-few, patchable}
+use Rattle.table_patch.proofs.Patching.{patchable}
 use Rattle.table_change.specs.Changes.{Relined}
 use Rattle.table_change.proofs.Struck.{strike-written, strike-moved}
 use Rattle.table_change.proofs.Indices.{written-at, moved-at}

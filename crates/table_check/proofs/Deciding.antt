@@ -30,10 +30,10 @@ use Rattle.table_sites.specs.Rules.{SitesOk}
 use Rattle.table_sites.proofs.Kept.{sites-array}
 use Rattle.table_standing.specs.Layout.{listStart}
 use Rattle.table_standing.specs.Standing.{wordsFrom, standingIn, numbersOf}
+use Rattle.table_standing.proofs.Numbers.{standing-length}
 use Rattle.tree_check.specs.Tied.{Tied}
-use Rattle.table_rules.specs.Table.{bookOf, Whole, StandingOk, Sound}
+use Rattle.table_rules.specs.Table.{bookOf, Whole, StandingOk}
 use Rattle.table_rules.specs.Listing.{ListsTable}
-use Rattle.table_check.proofs.Matching.{words-length}
 
 -- ---- the standing leg and list
 
@@ -54,7 +54,7 @@ module _ (b : List ℕ) (s : Standing) (w : Whole b) (q : asOption s ≡ legIn b
             leg = subst LegOk (sym leg) tt;
             list = ap (wordsFrom b listStart) (sym e ∙ eqb-true n 0 z) ∙ sym list;
           }
-      go false z = λ x. eqb-false n 0 z (e ∙ (omega (arith, words-length b listStart (lengthIn b), ap length (x .list ∙ list))))
+      go false z = λ x. eqb-false n 0 z (e ∙ (omega (arith, standing-length b, ap length (x .list ∙ list))))
 
   module _ (l : Leg) (a : s ≡ Standing.Along l) where
     leg-is : legIn b ≡ some l
@@ -135,14 +135,3 @@ module _ (b : List ℕ) (len : length b ≡ tableBytes) where
       → Says r (Tied b) → Says r (Whole b)
   whole-says q p o r s e h f u g t =
       says-map r (λ x. record { len = len; sites = says-yes q s e; header = says-yes p h f; tour = says-yes o u g; tree = x }) (λ w. w .tree) t
-
--- ---- both halves
-
-pub whole-not : (b : List ℕ) (q : Bool) → Says q (Whole b) → q ≡ false → ¬ Sound b
-whole-not b q s e x = says-no q s e (x .whole)
-
-pub whole-yes : (b : List ℕ) (q : Bool) → Says q (Whole b) → q ≡ true → Whole b
-whole-yes b q s e = says-yes q s e
-
-pub sound-says : (b : List ℕ) (q r : Bool) → Says q (Whole b) → q ≡ true → Says r (StandingOk b) → Says r (Sound b)
-sound-says b q r s e t = says-map r (λ x. record { whole = says-yes q s e; standing = x }) (λ x. x .standing) t

@@ -2,13 +2,12 @@
 -- Assumes nothing.
 use mathlib.Core.Path.{_≡_, refl, sym, ap, _∙_}
 use mathlib.Core.List.{List, [], _∷_, _++_}
-use Prim.Native.Nat.{ℕ, zero, suc, _+_, _*_, _≤_, _<_}
+use Prim.Native.Nat.{ℕ, zero, suc, _+_, _≤_, _<_}
 use native.Mathlib.Omega.{arith}
 use native.Mathlib.Decide.{decLt}
 use lib.ListN.{length, getD, List·getD-append}
 use lib.Seq.{getD-append-seam}
 use Rattle.limits.specs.Limits.{tableBytes}
-use Rattle.words.specs.Words.{wordAt}
 use Rattle.grid.specs.declared.Leg.{Leg}
 use Rattle.split.specs.SplitList.{Entry}
 use Rattle.list_row.specs.Places.{siteAt}
@@ -18,27 +17,11 @@ use Rattle.list_row.proofs.Entries.{entries-one, entries-length}
 use Rattle.table_header.specs.Header.{lengthIn}
 use Rattle.table_standing.specs.Layout.{listStart}
 use Rattle.table_standing.specs.Standing.{wordsFrom, standingIn, numbersOf, storedNumber}
-use Rattle.table_standing.proofs.Numbers.{numbers-append, words-are}
-
-pub words-length : (b : List ℕ) (i n : ℕ) → length (wordsFrom b i n) ≡ n
-unfolding wordsFrom
-words-length b i zero = refl
-words-length b i (suc n) = ap suc (words-length b (i + 2) n)
-
-numbers-length : (es : List Entry) → length (numbersOf es) ≡ length es
-unfolding numbersOf
-numbers-length [] = refl
-numbers-length (e ∷ es) = ap suc (numbers-length es)
+use Rattle.table_standing.proofs.Numbers.{numbers-append, numbers-length, words-are, standing-length, standing-number}
 
 numbers-one : (e : Entry) → numbersOf (e ∷ []) ≡ e .site .number ∷ []
 unfolding numbersOf
 numbers-one e = refl
-
-word-of : (b : List ℕ) (i n j : ℕ) → j < n → getD (wordsFrom b i n) j 0 ≡ wordAt b (i + 2 * j)
-unfolding wordsFrom
-word-of b i zero j h = absurd (omega arith)
-word-of b i (suc n) zero h = let e : i + 2 * 0 ≡ i = omega arith in ap (wordAt b) (sym e)
-word-of b i (suc n) (suc j) h = let e : i + 2 + 2 * j ≡ i + 2 * suc j = omega arith in word-of b (i + 2) n j (omega arith) ∙ ap (wordAt b) e
 
 -- the numbers of a row's list, one by one
 numbers-at : (l : Leg) (b r : List ℕ) (k j : ℕ) → j < k → getD (numbersOf (entriesIn l b r k)) j 0 ≡ siteAt b (placeAt r j) .number
@@ -83,18 +66,17 @@ module _ (l : Leg) (b r : List ℕ) (k : ℕ) (len : length b ≡ tableBytes) (h
 
   -- of another length
   pub other-length : (n : ℕ) → n ≡ lengthIn b → (n ≡ k → ⊥) → ¬ (standingIn b ≡ numbersOf (entriesIn l b r k))
-  unfolding standingIn
   other-length n en h e =
-      h (omega (arith, words-length b listStart (lengthIn b), ap length e, numbers-length (entriesIn l b r k), entries-length l b r k))
+      h (omega (arith, standing-length b, ap length e, numbers-length (entriesIn l b r k), entries-length l b r k))
 
   -- of another number
-  pub other-number : (m i n s : ℕ) → m ≡ lengthIn b → m ≡ k → i < k → n ≡ siteAt b (placeAt r i) .number → s ≡ storedNumber b i → (n ≡ s → ⊥)
+  pub other-number : (i n s : ℕ) → i < k → n ≡ siteAt b (placeAt r i) .number → s ≡ storedNumber b i → (n ≡ s → ⊥)
       → ¬ (standingIn b ≡ numbersOf (entriesIn l b r k))
-  unfolding standingIn
-  other-number m i n s em ek h en es d e =
+  other-number i n s h en es d e =
+      let long : lengthIn b ≡ k = sym (standing-length b) ∙ ap length e ∙ numbers-length (entriesIn l b r k) ∙ entries-length l b r k in
       d
       (en
       ∙ sym (numbers-at l b r k i h)
       ∙ sym (ap (λ (x : List ℕ). getD x i 0) e)
-      ∙ word-of b listStart (lengthIn b) i (omega arith)
+      ∙ standing-number b i (omega (arith, h, long))
       ∙ sym es)

@@ -1,4 +1,5 @@
-// The test of a table's contents: whether any 32,768 bytes are a sound table. Document 01, reason 65.
+// The two tests of a table's contents, of any 32,768 bytes: whether layout, tree, sites and tour keep their rules
+// (document 01, reason 65), and whether the standing leg and list do (document 02, C-17, reason 69).
 use grid::Leg;
 use table_header::Standing;
 use table_header::Touring;
@@ -14,8 +15,7 @@ ghost use Rattle.table_header.specs.Header.{siteNumber, tourIn};
 ghost use Rattle.table_sites.specs.Lines.{linesIn, Array};
 ghost use Rattle.table_standing.specs.Standing.{standingIn, numbersOf};
 ghost use Rattle.tree_check.specs.Marks.{seenBytes};
-ghost use Rattle.table_rules.specs.Table.{Whole, StandingOk, Sound};
-ghost use Rattle.table_check.specs.Room.{TestRoom};
+ghost use Rattle.table_rules.specs.Table.{Whole, StandingOk};
 
 // Whether the stored standing list has the numbers of the list in the first k of the row.
 fn list_matches(t: &[u8], work: &[u8], leg: Leg, k: usize) -> bool
@@ -39,8 +39,8 @@ fn list_matches(t: &[u8], work: &[u8], leg: Leg, k: usize) -> bool
     true
 }
 
-// Whether the standing leg and the standing list keep their rules, in a table whose other rules hold.
-fn standing_ok(t: &[u8], work: &mut [u8]) -> bool
+// The second test: whether the standing leg and the standing list keep their rules, in a table whose other rules hold.
+pub fn standing_ok(t: &[u8], work: &mut [u8]) -> bool
     requires { ⌜ Whole (now t) × (rowBytes ≤ length (now work)) ⌝ }
     ensures { λ r. ⌜ Says r (StandingOk (now (t .entry))) ⌝ }
 {
@@ -92,8 +92,8 @@ fn tour_ok(t: &[u8]) -> bool
     }
 }
 
-// Whether sites, header, tour and tree keep their rules.
-fn whole_ok(t: &[u8], work: &mut [u8]) -> bool
+// The first test: whether sites, header, tour and tree keep their rules.
+pub fn whole_ok(t: &[u8], work: &mut [u8]) -> bool
     requires { ⌜ (length (now t) ≡ tableBytes) × (seenBytes ≤ length (now work)) ⌝ }
     ensures { λ r. ⌜ Says r (Whole (now (t .entry))) ⌝ }
 {
@@ -103,17 +103,6 @@ fn whole_ok(t: &[u8], work: &mut [u8]) -> bool
                 return tree_check::check(t, &mut work[..tree_check::SEEN_BYTES]);
             }
         }
-    }
-    false
-}
-
-// Whether the table is sound.
-pub fn check(t: &[u8], work: &mut [u8]) -> bool
-    requires { ⌜ (length (now t) ≡ tableBytes) × TestRoom (now work) ⌝ }
-    ensures { λ r. ⌜ Says r (Sound (now (t .entry))) ⌝ }
-{
-    if whole_ok(t, work) {
-        return standing_ok(t, work);
     }
     false
 }

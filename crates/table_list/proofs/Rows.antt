@@ -14,7 +14,7 @@ use Rattle.words.specs.Words.{wordAt, putWord, Only}
 use Rattle.words.proofs.Frame.{only-refl, only-trans, only-wider, only-putWord, word-putWord, word-low}
 use Rattle.grid.specs.declared.Site.{Site}
 use Rattle.grid.specs.declared.Leg.{Leg}
-use Rattle.split.specs.SplitList.{Entry, Numbered}
+use Rattle.split.specs.SplitList.{Numbered}
 use Rattle.split.specs.Hull.{Point, pointOf, points, In, IsHull, Convex}
 use Rattle.split.specs.SplitOf.{entriesAfter, entriesAlong, onto, entriesOf, build, splitOf}
 use Rattle.split.proofs.Insertion.{build-hull}
@@ -30,6 +30,7 @@ use Rattle.table_sites.specs.Rules.{SitesOk}
 use Rattle.table_sites.proofs.Reading.{lines-length}
 use Rattle.table_standing.specs.Layout.{listStart}
 use Rattle.table_standing.specs.Standing.{wordsFrom, standingIn, numbersOf, storedNumber}
+use Rattle.table_standing.proofs.Numbers.{numbers-length, standing-length}
 use Rattle.table_rules.specs.Table.{bookOf, Sound}
 use Rattle.table_rules.specs.Listing.{ListsTable}
 use Rattle.table_list.specs.Loading.{PlaceOf, NumbersHeld, PlacesOf}
@@ -152,20 +153,6 @@ pub record Stored (l : Leg) (s : List Site) (b : List ℕ) : Type 0 where
   pub lines : (p : Site) → List·Memᴰ p s → List·Memᴰ p (linesIn b)
   pub few : length s ≤ maxSites
   pub list : standingIn b ≡ numbersOf (splitOf l s)
-
-words-length : (x : List ℕ) (i n : ℕ) → length (wordsFrom x i n) ≡ n
-unfolding wordsFrom
-words-length x i zero = refl
-words-length x i (suc n) = ap suc (words-length x (i + 2) n)
-
-pub standing-length : (b : List ℕ) → length (standingIn b) ≡ lengthIn b
-unfolding standingIn
-standing-length b = words-length b listStart (lengthIn b)
-
-pub numbers-length : (es : List Entry) → length (numbersOf es) ≡ length es
-unfolding numbersOf
-numbers-length [] = refl
-numbers-length (e ∷ es) = ap suc (numbers-length es)
 
 -- every number of points of lines is that of a line
 words-member : (l : Leg) (b : List ℕ) (f : List Point) → PointsOf l (linesIn b) f → (o n : ℕ) → wordsFrom b o n ≡ numbersIn f → (j : ℕ) → j < n → holds (wordAt b (o + 2 * j)) (linesIn b) ≡ true

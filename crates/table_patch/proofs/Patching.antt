@@ -19,7 +19,6 @@ use Rattle.split.proofs.Exists.{split-is, split-only}
 use Rattle.split.proofs.Insertion.{build-hull}
 use Rattle.split.proofs.Skipping.{skip-hull}
 use Rattle.split.proofs.Dealing.{order-free-of, hull-list}
-use Rattle.split.proofs.Once.{few}
 use Rattle.split.proofs.Unlisted.{unlisted}
 use Rattle.list_row.specs.Places.{siteAt}
 use Rattle.list_row.specs.declared.Vertex.{Vertex}
@@ -34,12 +33,13 @@ use Rattle.table_header.specs.Header.{legIn, asOption, lengthIn}
 use Rattle.table_sites.specs.Lines.{linesIn}
 use Rattle.table_sites.proofs.Reading.{lines-length}
 use Rattle.table_standing.specs.Standing.{standingIn, numbersOf, ListStored}
+use Rattle.table_standing.proofs.Numbers.{standing-length}
 use Rattle.table_rules.specs.Table.{bookOf, Whole, Sound}
+use Rattle.table_rules.proofs.Books.{whole-numbered, sound-few}
 use Rattle.demands.specs.Step.{Holds}
 use Rattle.table_list.specs.Loading.{PlaceOf, NumbersHeld, PlacesOf, EntryShuts}
-use Rattle.table_list.proofs.Rows.{standing-length, numbers-length, Stored, stored-few, stored-held, places-held, places-list}
+use Rattle.table_list.proofs.Rows.{Stored, stored-few, stored-held, places-held, places-list}
 use Rattle.table_list.proofs.Ends.{shut-true, entry-shuts-out}
-use Rattle.table_search.proofs.Listing.{whole-numbered}
 use Rattle.table_patch.specs.Patching.{ListsOthers, Patchable}
 use Rattle.table_patch.proofs.Restanding.{stored-holds}
 
@@ -100,23 +100,6 @@ pub unnamed-list : (o : Option Leg) (s : List Site) (n : ℕ) → Rising s → N
     → numbersOf (listOf o s) ≡ numbersOf (listOf o (strikeLine n s))
 unnamed-list none s n r num out = refl
 unnamed-list (some l) s n r num out = ap numbersOf (unnamed-gone l s n r num out)
-
--- no more entries than sites
-list-few : (o : Option Leg) (s : List Site) → Numbered s → length (numbersOf (listOf o s)) ≤ length s
-unfolding numbersOf
-list-few none s num = omega arith
-list-few (some l) s num = omega (arith, numbers-length (splitOf l s), few l s num (splitOf l s) (split-is l s num))
-
-pub sound-few : (b : List ℕ) → Sound b → lengthIn b ≤ maxSites
-sound-few b s =
-    omega (
-      arith,
-      standing-length b,
-      ap length (s .standing .list),
-      list-few (legIn b) (linesIn b) (whole-numbered b (s .whole)),
-      lines-length b,
-      s .whole .sites .few,
-    )
 
 -- WHEN ONE LINE HAS CHANGED in a sound table, and its list has not
 pub patchable : (b b₁ : List ℕ) (n : ℕ) → Sound b → Whole b₁ → legIn b₁ ≡ legIn b → (lengthIn b ≤ maxSites → standingIn b₁ ≡ standingIn b)

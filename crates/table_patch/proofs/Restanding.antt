@@ -9,7 +9,6 @@ use lib.ListN.{length}
 use Rattle.limits.specs.Limits.{tableBytes}
 use Rattle.words.specs.Words.{putWord, Only}
 use Rattle.words.proofs.Frame.{only-putWord, word-putWord}
-use Rattle.grid.specs.declared.Site.{Site}
 use Rattle.grid.specs.declared.Leg.{Leg}
 use Rattle.grid.specs.Position.{LegOnGrid}
 use Rattle.split.specs.SplitList.{Entry}
@@ -18,60 +17,40 @@ use Rattle.book.specs.Book.{sitesOf, listOf, standingList}
 use Rattle.book.specs.Proper.{LegOk}
 use Rattle.table_header.specs.declared.Standing.{Standing}
 use Rattle.table_header.specs.Layout.{lengthStart}
-use Rattle.table_header.specs.Header.{legIn, tourIn, asOption, lengthIn}
-use Rattle.table_sites.specs.Lines.{linesIn}
+use Rattle.table_header.specs.Header.{legIn, asOption, lengthIn}
 use Rattle.table_standing.specs.Layout.{listStart}
 use Rattle.table_standing.specs.Standing.{wordsFrom, standingIn, numbersOf, ListStored}
-use Rattle.tree_node.specs.Layout.{treeStart}
-use Rattle.tree_node.specs.Tally.{total}
-use Rattle.tree_rules.proofs.Outside.{rooted-below, leaves-below}
-use Rattle.tree_check.specs.Leaves.{leafEntries}
-use Rattle.tree_check.specs.Tied.{Tied}
 use Rattle.table_rules.specs.Table.{bookOf, Whole}
 use Rattle.table_rules.specs.Listing.{ListsTable}
-use Rattle.table_rules.proofs.Same.{lines-same, sites-same, leg-same, tour-same, header-same}
+use Rattle.table_rules.specs.Fault.{StandingFault}
+use Rattle.table_rules.proofs.Same.{leg-same}
+use Rattle.table_rules.proofs.Fault.{fault-lines, fault-tour, fault-whole}
 use Rattle.demands.specs.Step.{Holds}
 
--- a change below the tree keeps the tree's rules and leaf entries, if the lines stay
-pub tied-below : {lo : ℕ} (b b′ : List ℕ) → Only lo treeStart b b′ → linesIn b′ ≡ linesIn b → Tied b → Tied b′
-tied-below b b′ o e t =
-    record {
-      rooted = rooted-below o (t .rooted);
-      leaf = λ w. ap (total w) (leaves-below o) ∙ t .leaf w ∙ sym (ap (λ (s : List Site). total w (leafEntries s)) e);
-    }
-
 module _ (b b′ : List ℕ) (w : Whole b) (es : List Entry) (st : ListStored es b b′) where
-  outside : Only lengthStart treeStart b b′
-  outside = record { len = st .len; low = st .low; high = λ i h. st .high i (omega arith) }
-
-  lines-stay : linesIn b′ ≡ linesIn b
-  lines-stay = lines-same b b′ (λ i l h. st .low i (omega arith)) (λ i l h. st .between i (omega arith) (omega arith)) (w .sites .few)
+  -- no other bytes than those of the list
+  outside : StandingFault b b′
+  outside =
+      record {
+        len = st .len;
+        low = λ i h. st .low i (omega arith);
+        unset = λ n i l h. st .low i h;
+        between = st .between;
+        high = st .high;
+      }
 
   leg-stays : legIn b′ ≡ legIn b
   leg-stays = leg-same b b′ (λ i l h. st .low i h)
 
-  tour-stays : tourIn b′ ≡ tourIn b
-  tour-stays = tour-same b b′ (λ i l h. st .between i (omega arith) (omega arith))
-
-  whole-stays : Whole b′
-  whole-stays =
-      record {
-        len = st .len ∙ w .len;
-        sites = sites-same b b′ (λ i l h. st .low i (omega arith)) (λ i l h. st .between i (omega arith) (omega arith)) (w .sites);
-        header = header-same b b′ (λ i l h. st .low i h) (λ i l h. st .between i l (omega arith)) (w .header);
-        tour = rw (tour-stays, lines-stay) (w .tour);
-        tree = tied-below b b′ outside lines-stay (w .tree);
-      }
-
   book-stays : bookOf b′ ≡ bookOf b
-  book-stays = λ i. record { lines = lines-stay i; leg = leg-stays i; tour = tour-stays i }
+  book-stays = λ i. record { lines = fault-lines b b′ w outside i; leg = leg-stays i; tour = fault-tour b b′ w outside i }
 
   -- THE RIGHT LIST STORED makes the table sound
   pub stored-holds : LegOk (legIn b) → numbersOf es ≡ numbersOf (standingList (bookOf b)) → Holds b′ (bookOf b)
   stored-holds leg right =
       record {
         sound = record {
-          whole = whole-stays;
+          whole = fault-whole b b′ w outside;
           standing = record {
             leg = subst LegOk (sym leg-stays) leg;
             list = st .list ∙ right ∙ sym (λ i. numbersOf (standingList (book-stays i)));

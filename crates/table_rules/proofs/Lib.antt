@@ -1,4 +1,5 @@
 pub mod Same
+pub mod Fault
 pub mod Books
 pub mod Laid
 pub mod Earlier

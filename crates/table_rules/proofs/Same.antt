@@ -1,4 +1,4 @@
--- What a change of some bytes leaves: the lines, the standing leg, the stored list, the header.
+-- What a change of some bytes leaves: the lines, the standing leg, the stored list, the header, the tree.
 -- Assumes nothing.
 use mathlib.Core.Path.{_≡_, refl, sym, ap, ap₂, subst, _∙_}
 use mathlib.Core.List.{List, _∷_, List·Memᴰ}
@@ -6,7 +6,7 @@ use Prim.Native.Nat.{ℕ, zero, suc, _+_, _*_, _≤_, _<_}
 use native.Mathlib.Omega.{arith}
 use lib.ListN.{getD}
 use Rattle.limits.specs.Limits.{maxSites}
-use Rattle.words.specs.Words.{wordAt}
+use Rattle.words.specs.Words.{wordAt, Only}
 use Rattle.grid.specs.declared.Site.{Site}
 use Rattle.list_row.specs.Places.{siteAtByte}
 use Rattle.table_header.specs.Layout.{layoutStart, flagStart, legStart, lengthStart, tourStart, cornerStart, lastStart, tourEnd, keptEnd}
@@ -16,6 +16,11 @@ use Rattle.table_sites.specs.Lines.{lineAt, linesFrom, linesIn, SpareZero}
 use Rattle.table_sites.specs.Rules.{SitesOk}
 use Rattle.table_standing.specs.Layout.{listStart, listEnd}
 use Rattle.table_standing.specs.Standing.{wordsFrom, standingIn}
+use Rattle.tree_node.specs.Layout.{treeStart}
+use Rattle.tree_node.specs.Tally.{total}
+use Rattle.tree_rules.proofs.Outside.{rooted-below, leaves-below}
+use Rattle.tree_check.specs.Leaves.{leafEntries}
+use Rattle.tree_check.specs.Tied.{Tied}
 
 -- the bytes from lo up to hi are the same
 abbrev pub Same : ℕ → ℕ → List ℕ → List ℕ → Type 0
@@ -117,4 +122,12 @@ header-same b b′ s k h =
       leg = flag-same b b′ flagStart legStart lengthStart s (omega arith) (omega arith) (h .leg);
       tour = flag-same b b′ tourStart cornerStart tourEnd (λ i l u. k i (omega arith) (omega arith)) (omega arith) (omega arith) (h .tour);
       kept = λ i l u. k i (omega arith) u ∙ h .kept i l u;
+    }
+
+-- a change below the tree keeps the tree's rules and leaf entries, if the lines stay
+pub tied-below : {lo : ℕ} (b b′ : List ℕ) → Only lo treeStart b b′ → linesIn b′ ≡ linesIn b → Tied b → Tied b′
+tied-below b b′ o e t =
+    record {
+      rooted = rooted-below o (t .rooted);
+      leaf = λ w. ap (total w) (leaves-below o) ∙ t .leaf w ∙ sym (ap (λ (s : List Site). total w (leafEntries s)) e);
     }

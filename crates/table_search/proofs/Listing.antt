@@ -3,18 +3,13 @@
 use mathlib.Core.List.{List}
 use Prim.Native.Nat.{ℕ}
 use Rattle.grid.specs.declared.Leg.{Leg}
-use Rattle.split.specs.SplitList.{Numbered}
-use Rattle.book.proofs.Lines.{rising-one}
 use Rattle.table_sites.specs.Lines.{linesIn}
 use Rattle.tree_search.specs.Searching.{ListsTree}
 use Rattle.tree_search.proofs.Finding.{found-is}
 use Rattle.table_rules.specs.Table.{Whole}
 use Rattle.table_rules.specs.Listing.{ListsTable}
+use Rattle.table_rules.proofs.Books.{whole-numbered}
 use Rattle.table_search.proofs.Points.{tree-sites}
-
--- no number is held twice
-pub whole-numbered : (b : List ℕ) → Whole b → Numbered (linesIn b)
-whole-numbered b w = record { small = λ p m. w .sites .numbers p m .most; one = rising-one (linesIn b) (w .sites .rising) }
 
 -- THE LIST OF A LEG
 pub searched-list : (l : Leg) (b r r′ : List ℕ) (k : ℕ) → Whole b → ListsTree l b r r′ k → ListsTable l b r′ k

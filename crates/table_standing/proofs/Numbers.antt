@@ -5,7 +5,7 @@ use mathlib.Core.List.{List, [], _∷_, _++_}
 use Prim.Native.Nat.{ℕ, zero, suc, _+_, _*_, _≤_, _<_}
 use native.Mathlib.Omega.{arith}
 use native.Mathlib.Decide.{decLt}
-use lib.ListN.{length}
+use lib.ListN.{length, getD}
 use Rattle.words.specs.Words.{wordAt, putWord, Only}
 use Rattle.words.proofs.Frame.{only-refl, only-trans, only-wider, only-putWord, word-putWord, word-low, word-high}
 use Rattle.grid.specs.declared.Leg.{Leg}
@@ -14,12 +14,40 @@ use Rattle.list_row.specs.Places.{siteAt, HasSite}
 use Rattle.list_row.specs.Vertices.{placeAt, Held, entriesIn}
 use Rattle.list_row.specs.Entries.{rowEntry}
 use Rattle.list_row.proofs.Entries.{entries-one}
-use Rattle.table_standing.specs.Standing.{wordsFrom, numbersOf, NumberRow}
+use Rattle.table_header.specs.Header.{lengthIn}
+use Rattle.table_standing.specs.Layout.{listStart}
+use Rattle.table_standing.specs.Standing.{wordsFrom, standingIn, numbersOf, storedNumber, NumberRow}
 
 pub numbers-append : (a z : List Entry) → numbersOf (a ++ z) ≡ numbersOf a ++ numbersOf z
 unfolding numbersOf
 numbers-append [] z = refl
 numbers-append (e ∷ a) z = ap (λ (x : List ℕ). e .site .number ∷ x) (numbers-append a z)
+
+pub numbers-length : (es : List Entry) → length (numbersOf es) ≡ length es
+unfolding numbersOf
+numbers-length [] = refl
+numbers-length (e ∷ es) = ap suc (numbers-length es)
+
+words-length : (b : List ℕ) (i n : ℕ) → length (wordsFrom b i n) ≡ n
+unfolding wordsFrom
+words-length b i zero = refl
+words-length b i (suc n) = ap suc (words-length b (i + 2) n)
+
+word-of : (b : List ℕ) (i n j : ℕ) → j < n → getD (wordsFrom b i n) j 0 ≡ wordAt b (i + 2 * j)
+unfolding wordsFrom
+word-of b i zero j h = absurd (omega arith)
+word-of b i (suc n) zero h = let e : i + 2 * 0 ≡ i = omega arith in ap (wordAt b) (sym e)
+word-of b i (suc n) (suc j) h = let e : i + 2 + 2 * j ≡ i + 2 * suc j = omega arith in word-of b (i + 2) n j (omega arith) ∙ ap (wordAt b) e
+
+-- the stored list has as many numbers as its length says
+pub standing-length : (b : List ℕ) → length (standingIn b) ≡ lengthIn b
+unfolding standingIn
+standing-length b = words-length b listStart (lengthIn b)
+
+-- and these
+pub standing-number : (b : List ℕ) (i : ℕ) → i < lengthIn b → getD (standingIn b) i 0 ≡ storedNumber b i
+unfolding standingIn
+standing-number b i h = word-of b listStart (lengthIn b) i h
 
 pub words-more : (b : List ℕ) (i n : ℕ) → wordsFrom b i (suc n) ≡ wordsFrom b i n ++ (wordAt b (i + 2 * n) ∷ [])
 unfolding wordsFrom

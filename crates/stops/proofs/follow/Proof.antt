@@ -1,5 +1,5 @@
 use borrow.Author.Needs.{needs}
-use Rattle.book.specs.declared.Reason.the-variants.{AllUsed, WrongLength, Broken, CutShort}
+use Rattle.book.specs.declared.Reason.the-variants.{AllUsed, WrongLength, Broken, CutShort, BrokenStanding}
 use Rattle.stops.proofs.Following.{reads-as, ready-as, onward-full, final-unknown}
 use Rattle.stops.proofs.follow.Statement.{statement}
 use Rattle.stops.proofs.follow.Tie as tie
@@ -28,6 +28,9 @@ enum-told-5 c = search needs
 enum-told-6 : tie.Need-enum-told-6
 enum-told-6 c = search needs
 
+enum-told-7 : tie.Need-enum-told-7
+enum-told-7 c = search needs
+
 same-length : tie.Need-same-length
 same-length c = search needs
 
@@ -52,6 +55,9 @@ returns-5 c = absurd (ready-as _ _ (c .before .before .before .args .reason) Wro
 returns-6 : tie.Need-returns-6
 returns-6 c = absurd (ready-as _ _ (c .before .before .before .args .reason) Broken (search needs) (c .before .before .before .pre .1))
 
+returns-7 : tie.Need-returns-7
+returns-7 c = absurd (ready-as _ _ (c .before .before .before .args .reason) BrokenStanding (search needs) (c .before .before .before .pre .1))
+
 pub follow-spec : {M : Type 1} → statement M
 follow-spec =
     tie.close
@@ -64,6 +70,7 @@ follow-spec =
     enum-told-4
     enum-told-5
     enum-told-6
+    enum-told-7
     same-length
     returns
     same-length-2
@@ -71,4 +78,5 @@ follow-spec =
     returns-3
     returns-4
     returns-5
-    returns-6)
+    returns-6
+    returns-7)

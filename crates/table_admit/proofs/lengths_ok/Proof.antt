@@ -1,7 +1,7 @@
-use Rattle.service.proofs.Calls.{wrong-table, by-work}
+use Rattle.table_admit.proofs.Admitting.{wrong-table, by-work}
 use borrow.Author.Needs.{needs}
-use Rattle.service.proofs.admit.lengths_ok.Statement.{statement}
-use Rattle.service.proofs.admit.lengths_ok.Tie as tie
+use Rattle.table_admit.proofs.lengths_ok.Statement.{statement}
+use Rattle.table_admit.proofs.lengths_ok.Tie as tie
 
 returns : tie.Need-returns
 returns c = search (needs, wrong-table)
