@@ -1,7 +1,7 @@
 //! The site book of document 01 ("The site book", "Causes and numbers"), with the tour of document
 //! 02, C-13.
 //!
-//! The book has no table, so it never answers 65; a table of wrong length is not its matter.
+//! The book has no table, so it never answers 65 or 69; a table of wrong length is not its matter.
 
 use crate::command::{Command, Unread};
 use crate::grid::{Leg, MOST_SITES, Position, REPORT_LEN, Site, WORK_LEN};

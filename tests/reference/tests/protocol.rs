@@ -125,7 +125,7 @@ fn commands_have_these_lengths_and_refusals_in_this_order() {
 fn every_refusal_and_reason_is_told() {
     let first: Vec<String> = rows().iter().map(|row| row[1].clone()).collect();
     for number in [
-        "1", "2", "3", "4", "5", "6", "7", "8", "64", "65", "66", "67", "68",
+        "1", "2", "3", "4", "5", "6", "7", "8", "64", "65", "66", "67", "68", "69",
     ] {
         assert!(first.iter().any(|cell| cell == number), "{number}");
     }

@@ -1,5 +1,5 @@
 /* The inline functions of include/stops.h, for tests/header.rs: "write" turns lines into command
-   bytes, "read" turns record bytes into lines. */
+   bytes, "read" turns record bytes into lines; "reasons" prints the numbers of the reasons. */
 #include "stops.h"
 
 #include <stdio.h>
@@ -69,6 +69,13 @@ static int read_records(void)
     return EXIT_SUCCESS;
 }
 
+static int print_reasons(void)
+{
+    printf("%d %d %d %d %d %d %d\n", STOPS_ALL_USED, STOPS_WRONG_LENGTH, STOPS_BROKEN_TABLE,
+           STOPS_BROKEN_STANDING, STOPS_UNKNOWN_COMMAND, STOPS_CUT_COMMAND, STOPS_NO_ROOM);
+    return EXIT_SUCCESS;
+}
+
 int main(int argc, char **argv)
 {
     const char *mode = argc == 2 ? argv[1] : "version";
@@ -76,6 +83,8 @@ int main(int argc, char **argv)
         return write_commands();
     if (strcmp(mode, "read") == 0)
         return read_records();
+    if (strcmp(mode, "reasons") == 0)
+        return print_reasons();
     printf("%s %d\n", STOPS_VERSION, STOPS_VERSION_NUMBER);
     return EXIT_SUCCESS;
 }

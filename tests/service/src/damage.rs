@@ -7,16 +7,16 @@ use crate::bytes::{
     word,
 };
 use crate::desk::{Desk, Lent};
-use crate::table::{Rule, meaning};
-use crate::{BROKEN_TABLE, Service};
+use crate::table::{Rule, meaning, reason};
+use crate::{BROKEN_STANDING, Service};
 use reference::book::WRONG_LENGTH;
 use reference::grid::WORK_LEN;
 use reference::split::TieRule;
 use reference::ties::first;
 use std::ops::Range;
 
-/// Sends the commands to a service with this table. Returns the broken rules, for which 65 must
-/// come; without any, the answer must be that of the book in the table.
+/// Sends the commands to a service with this table. Returns the broken rules, for which 65 or 69
+/// must come, as `reason` says; without any, the answer must be that of the book in the table.
 pub fn offer(service: &impl Service, table: &[u8], commands: &[u8]) -> Vec<Rule> {
     match meaning(table) {
         Err(broken) => {
@@ -30,13 +30,43 @@ pub fn offer(service: &impl Service, table: &[u8], commands: &[u8]) -> Vec<Rule>
     }
 }
 
+/// Tables that were offered, by what came of them.
+#[derive(Clone, Copy, Debug, Default, PartialEq, Eq)]
+pub struct Outcomes {
+    pub with_65: usize,
+    pub with_69: usize,
+    pub taken: usize,
+}
+
+impl Outcomes {
+    /// Counts a table that breaks these rules.
+    pub fn count(&mut self, broken: &[Rule]) {
+        *match reason(broken) {
+            None => &mut self.taken,
+            Some(BROKEN_STANDING) => &mut self.with_69,
+            Some(_) => &mut self.with_65,
+        } += 1;
+    }
+
+    pub fn refused(&self) -> usize {
+        self.with_65 + self.with_69
+    }
+
+    pub fn add(&mut self, other: &Outcomes) {
+        self.with_65 += other.with_65;
+        self.with_69 += other.with_69;
+        self.taken += other.taken;
+    }
+}
+
 fn assert_refused(service: &impl Service, table: &[u8], commands: &[u8], broken: &[Rule]) {
     let mut after = table.to_vec();
     let mut lent = Lent::new(commands.len(), WORK_LEN, 3 * commands.len());
     let answer = lent.batch(service, &mut after, commands);
-    assert_eq!(answer, (BROKEN_TABLE, 0, 0), "{broken:?}");
+    let due = reason(broken).expect("a rule is broken");
+    assert_eq!(answer, (due, 0, 0), "{due} is due for {broken:?}");
     lent.assert_after(&answer, &[]);
-    assert!(after == table, "65 leaves the table: {broken:?}");
+    assert!(after == table, "{due} leaves the table: {broken:?}");
 }
 
 /// A work buffer of wrong length comes before the table's contents.

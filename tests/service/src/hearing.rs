@@ -4,7 +4,7 @@
 use crate::Service;
 use crate::desk::{LONGEST_RECORD, Lent};
 use crate::draw::Pool;
-use reference::book::ALL_USED;
+use reference::book::{ALL_USED, NO_ROOM};
 use reference::command::{self, Command};
 use reference::grid::{Leg, TABLE_LEN, WORK_LEN};
 use reference::listener::{Listener, Told};
@@ -61,10 +61,11 @@ impl<S: Service> Hearing<'_, S> {
     }
 }
 
-/// The records of a call.
+/// The records of a call, which ends with the last command or for want of room.
 fn batch(service: &impl Service, table: &mut [u8], commands: &[u8], room: usize) -> Vec<Record> {
     let mut lent = Lent::new(room, WORK_LEN, room);
-    let (_, _, written) = lent.batch(service, table, commands);
+    let (reason, _, written) = lent.batch(service, table, commands);
+    assert!([ALL_USED, NO_ROOM].map(u32::from).contains(&reason));
     Record::read_all(lent.written(written)).expect("a report consists of whole records")
 }
 

@@ -5,6 +5,7 @@ pub mod bytes;
 pub mod damage;
 pub mod desk;
 pub mod draw;
+pub mod faults;
 pub mod hearing;
 pub mod history;
 pub mod model;
@@ -18,8 +19,11 @@ pub use model::Model;
 #[cfg(feature = "proved")]
 pub use proved::Proved;
 
-/// The reason for a broken table; the site book has the others.
+/// The reason for a table that breaks a rule on layout, sites, tour or tree; the site book has
+/// those that are not the table's.
 pub const BROKEN_TABLE: u32 = 65;
+/// The reason where only the standing leg or list is wrong, so that the sites can be read.
+pub const BROKEN_STANDING: u32 = 69;
 
 /// Reason, command bytes used and report bytes written.
 pub type Answer = (u32, usize, usize);

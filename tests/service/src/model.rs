@@ -5,7 +5,7 @@ mod admission;
 
 use crate::bytes::{book, empty_table};
 use crate::shape::{self, Dealing};
-use crate::{Answer, BROKEN_TABLE, Service};
+use crate::{Answer, Service};
 use reference::book::{ALL_USED, WRONG_LENGTH};
 use reference::grid::{TABLE_LEN, WORK_LEN};
 
@@ -31,8 +31,8 @@ impl Service for Model {
             return (WRONG_LENGTH.into(), 0, 0);
         }
         work.fill(0);
-        if !admission::admits(table) {
-            return (BROKEN_TABLE, 0, 0);
+        if let Some(reason) = admission::refusal(table) {
+            return (reason, 0, 0);
         }
         let before = book(table);
         let mut book = before.clone();

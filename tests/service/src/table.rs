@@ -10,10 +10,11 @@ use crate::bytes::{
     LEG_WORDS, LEVELS, MOST_SITES, REMEMBERED, Record, SITES_HELD, TABLE_LEN, TOUR_FLAG, book,
     listed, number, records, sites, word,
 };
-use reference::book::Book;
+use crate::{BROKEN_STANDING, BROKEN_TABLE};
+use reference::book::{Book, WRONG_LENGTH};
 use std::collections::BTreeSet;
 
-/// What a table must keep; a broken one gives reason 65.
+/// What a table must keep; `Rule::reason` says what a broken one gives.
 #[derive(Clone, Copy, Debug, PartialEq, Eq, PartialOrd, Ord)]
 pub enum Rule {
     /// 32,768 bytes.
@@ -65,6 +66,24 @@ pub enum Rule {
     NodeOnce,
 }
 
+impl Rule {
+    /// The reason for a table that breaks this rule alone (document 02, C-17): the leg's grid and
+    /// the list, with its length, are the standing half; the leg's flag and zeros are layout.
+    pub fn reason(self) -> u32 {
+        match self {
+            Rule::Length => WRONG_LENGTH.into(),
+            Rule::LegOnGrid | Rule::StandingList => BROKEN_STANDING,
+            _ => BROKEN_TABLE,
+        }
+    }
+}
+
+/// The reason for a table that breaks these rules and no other; none for a sound one.
+pub fn reason(broken: &[Rule]) -> Option<u32> {
+    // 64 is tested first, then 65, directly after it 69: the lowest number comes first.
+    broken.iter().map(|rule| rule.reason()).min()
+}
+
 /// What a sound table says.
 #[derive(Clone, Debug, PartialEq, Eq)]
 pub struct Meaning {
@@ -90,7 +109,8 @@ pub fn meaning(table: &[u8]) -> Result<Meaning, Vec<Rule>> {
     })
 }
 
-/// The rules that the bytes break, each once; any bytes will do.
+/// The rules that the bytes break, each once; any bytes will do. The list is not judged where a
+/// rule before it is broken, which changes no reason: that is 65, or 69 for a leg off the grid.
 pub fn broken_rules(table: &[u8]) -> Vec<Rule> {
     if table.len() != TABLE_LEN {
         return vec![Rule::Length];

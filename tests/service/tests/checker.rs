@@ -11,7 +11,7 @@ use service::bytes::{
 };
 use service::draw::Pool;
 use service::shape::{self, Dealing};
-use service::table::{Rule, broken_rules, meaning};
+use service::table::{Rule, broken_rules, meaning, reason};
 use service::{Model, Service};
 
 const SHAPES: usize = 1_500;
@@ -248,7 +248,98 @@ fn the_rule_on_the_standing_list_is_named() {
     assert_eq!(without_leg, list);
 }
 
-/// Document 02, C-11: "The standing list and test 65 follow".
+/// Document 02, C-17: "65 is kept for the layout and the rules on tree, sites and tour".
+#[test]
+fn each_rule_gives_its_reason() {
+    for rule in [
+        Rule::LayoutNumber,
+        Rule::HeaderKeptZero,
+        Rule::AtMost512Sites,
+        Rule::NumberNotZero,
+        Rule::NumbersRise,
+        Rule::SiteOnGrid,
+        Rule::RecordKeptZero,
+        Rule::LegFlag,
+        Rule::NoLegIsZero,
+        Rule::TourFlag,
+        Rule::CornerOnGrid,
+        Rule::RememberedHeld,
+        Rule::NoTourIsZero,
+        Rule::AtMostSixLevels,
+        Rule::NodeId,
+        Rule::AtMostEightEntries,
+        Rule::AtLeastThreeEntries,
+        Rule::AtLeastTwoInRoot,
+        Rule::AtLeastOneInRoot,
+        Rule::LeafIsPoint,
+        Rule::SmallestBox,
+        Rule::EntryKeptZero,
+        Rule::SiteInOneLeafEntry,
+        Rule::NoOtherLeafEntry,
+        Rule::FreeCount,
+        Rule::NodeOnce,
+    ] {
+        assert_eq!(reason(&[rule]), Some(65), "{rule:?}");
+        // Directly before 69, in whichever order they are named.
+        assert_eq!(reason(&[rule, Rule::StandingList]), Some(65), "{rule:?}");
+        assert_eq!(reason(&[Rule::LegOnGrid, rule]), Some(65), "{rule:?}");
+    }
+    assert_eq!(reason(&[Rule::LegOnGrid]), Some(69));
+    assert_eq!(reason(&[Rule::StandingList]), Some(69));
+    assert_eq!(reason(&[Rule::Length]), Some(64));
+    assert_eq!(reason(&[]), None);
+}
+
+/// An edit of the standing half beside each one elsewhere, and alone.
+#[test]
+fn reasons_of_two_edits() {
+    type Edit = fn(&mut Vec<u8>, Nodes);
+    let standing: [Edit; 7] = [
+        |t, _| put_word(t, listed_at(0), 2),
+        |t, _| put_word(t, listed_at(3), 999),
+        |t, _| put_word(t, ENTRIES_LISTED, 513),
+        |t, _| put_word(t, ENTRIES_LISTED, 0),
+        |t, _| put_word(t, LEG_WORDS[3], FAR_EDGE + 1),
+        |t, _| {
+            put_word(t, LEG_WORDS[0], 65_535);
+            put_word(t, ENTRIES_LISTED, 65_535);
+        },
+        // No leg, and its list is still there.
+        |t, _| t[LEG_FLAG..ENTRIES_LISTED].fill(0),
+    ];
+    let elsewhere: [Edit; 10] = [
+        |t, _| put_word(t, LAYOUT, 1),
+        |t, _| t[HEADER_KEPT.start] = 1,
+        |t, _| put_word(t, LEG_FLAG, 2),
+        |t, _| t[record_at(39) + 7] = 1,
+        |t, _| put_number(t, SITES_HELD, 39),
+        |t, _| t[TOUR.start] = 2,
+        |t, _| t[TOUR.end - 1] = 1,
+        |t, _| put_number(t, FREE_NODES, 257),
+        |t, nodes| t[entry_at(nodes.root, 1) + 2] ^= 1,
+        |t, nodes| t[node_at(nodes.leaf)] = 7,
+    ];
+    for edit in standing {
+        assert_eq!(reason(&edited(edit)), Some(69));
+        for other in elsewhere {
+            assert_eq!(reason(&edited(other)), Some(65));
+            let both = edited(|t, nodes| {
+                edit(t, nodes);
+                other(t, nodes);
+            });
+            assert_eq!(reason(&both), Some(65), "{both:?}");
+        }
+    }
+    // Without a flag the leg's words are no leg, be they on the grid or off it.
+    let unset = edited(|t, _| {
+        put_word(t, LEG_FLAG, 0);
+        put_word(t, LEG_WORDS[0], 65_535);
+        put_word(t, ENTRIES_LISTED, 0);
+    });
+    assert_eq!((reason(&unset), unset), (Some(65), vec![Rule::NoLegIsZero]));
+}
+
+/// Document 02, C-11: "The standing list and test 65 follow", which is 69 since C-17.
 #[test]
 fn a_stored_list_follows_the_tie_rule() {
     let sites = [Site::new(2, 3, 4), Site::new(5, 3, -4)];
@@ -260,8 +351,9 @@ fn a_stored_list_follows_the_tie_rule() {
         let mut table = shape::table(&book, &mut Dealing::Even);
         for named in [2, 5] {
             put_word(&mut table, listed_at(0), named);
-            let sound = broken_rules(&table).is_empty();
-            assert_eq!(sound, named == number, "{leg:?} naming {named}");
+            let due = (named != number).then_some(69);
+            let said = reason(&broken_rules(&table));
+            assert_eq!(said, due, "{leg:?} naming {named}");
         }
     }
 }

@@ -1,5 +1,6 @@
-//! Damaged tables: 65 comes exactly when the checker finds a broken rule, and leaves table and
-//! report; where it finds none, the answer is that of the book in the bytes.
+//! Damaged tables: 65 or 69 comes exactly when the checker finds a broken rule, the one that is due
+//! for it, and leaves table and report; where it finds none, the answer is that of the book in the
+//! bytes.
 
 use reference::book::{Book, Tour};
 use reference::command::{add, begin, corner, list, print, remove, stand};
@@ -10,7 +11,7 @@ use service::bytes::{
     SITE_ARRAY, SITES_HELD, STACK_END, STANDING_LIST, TOUR, TOUR_FLAG, empty_table, entry_at,
     leaf_entry, node_at, number, put_number, put_word, word,
 };
-use service::damage::{assert_wrong_length_first, flipped, nodes, offer, regions};
+use service::damage::{Outcomes, assert_wrong_length_first, flipped, nodes, offer, regions};
 use service::desk::Desk;
 use service::draw::Pool;
 use service::shape::{self, Dealing};
@@ -94,7 +95,7 @@ fn questions(random: &mut Random, pool: &Pool) -> Vec<u8> {
 
 fn one_flipped_bit_in_every_byte_that_counts(service: &impl Service) {
     let mut random = Random::new(71);
-    let mut told: BTreeMap<&str, [usize; 2]> = BTreeMap::new();
+    let mut told: BTreeMap<&str, Outcomes> = BTreeMap::new();
     let tables = SIZES.map(|count| sound_table(&mut random, count));
     // Other lists may be short; this one and its leg have bits enough.
     let row = (row(), Pool::new(&mut random, FEW_SITES));
@@ -111,17 +112,26 @@ fn one_flipped_bit_in_every_byte_that_counts(service: &impl Service) {
                 };
                 for bit in bits {
                     let commands = questions(&mut random, &pool);
-                    let broken = offer(service, &flipped(&table, at, bit), &commands);
-                    outcome[usize::from(broken.is_empty())] += 1;
+                    outcome.count(&offer(service, &flipped(&table, at, bit), &commands));
                 }
             }
         }
     }
-    println!("refused and taken: {told:?}");
+    println!("{told:?}");
     assert_eq!(told.len(), 7);
-    assert!(told.values().all(|[refused, _]| *refused >= 100));
+    assert!(told.values().all(|outcome| outcome.refused() >= 100));
     // A leg that moves a little may have the same list.
-    assert!(told["header"][1] >= 10);
+    assert!(told["header"].taken >= 10);
+    // The header has words of both halves, the list those of one, and the rest those of the other.
+    for (name, outcome) in &told {
+        let halves = match *name {
+            "header" => (true, true),
+            "standing list" => (false, true),
+            _ => (true, false),
+        };
+        assert_eq!((outcome.with_65 > 0, outcome.with_69 > 0), halves, "{name}");
+    }
+    assert!(told["header"].with_65 >= 100 && told["header"].with_69 >= 100);
 }
 
 /// Tables of many sizes, each without a tour, with one that begins, and with one that remembers a site.
@@ -240,7 +250,7 @@ fn likely_value(random: &mut Random, table: &[u8]) -> usize {
 
 fn words_changed_to_likely_values(service: &impl Service) {
     let mut random = Random::new(72);
-    let (mut refused, mut taken) = (0, 0);
+    let mut outcomes = Outcomes::default();
     for nth in 0..WORDS_CHANGED {
         let count = random.index(if nth % 20 == 0 { 200 } else { 30 });
         let (mut table, pool) = sound_table(&mut random, count);
@@ -258,13 +268,11 @@ fn words_changed_to_likely_values(service: &impl Service) {
             }
         }
         let commands = questions(&mut random, &pool);
-        match offer(service, &table, &commands)[..] {
-            [] => taken += 1,
-            _ => refused += 1,
-        }
+        outcomes.count(&offer(service, &table, &commands));
     }
-    println!("refused {refused}, taken {taken}");
-    assert!(refused >= WORDS_CHANGED / 2 && taken >= WORDS_CHANGED / 50);
+    println!("{outcomes:?}");
+    assert!(outcomes.refused() >= WORDS_CHANGED / 2);
+    assert!(outcomes.taken >= WORDS_CHANGED / 50 && outcomes.with_69 >= WORDS_CHANGED / 50);
 }
 
 /// Two entries anywhere in the tree change places; in one node that is another legal order.

@@ -1,10 +1,12 @@
-//! The inline functions of include/stops.h write the second program's commands and read its records.
+//! The inline functions of include/stops.h write the second program's commands and read its
+//! records, and its reasons have the second program's numbers.
 
-use reference::book::Book;
+use reference::book::{ALL_USED, Book, CUT_COMMAND, NO_ROOM, UNKNOWN_COMMAND, WRONG_LENGTH};
 use reference::command::{self, Command as Bytes};
 use reference::grid::{HALF_WIDTH, Leg, Site};
 use reference::random::{self, Random};
 use reference::record::Record;
+use service::{BROKEN_STANDING, BROKEN_TABLE};
 use std::io::Write;
 use std::path::{Path, PathBuf};
 use std::process::{Command, Stdio};
@@ -104,6 +106,22 @@ fn both_forms_of_the_version_agree() {
         panic!("{text}");
     };
     assert_eq!(number, (10_000 * first + 100 * second + third).to_string());
+}
+
+/// In the order in which they are tested, but for 0.
+#[test]
+fn reasons_are_the_second_programs() {
+    let commands = [UNKNOWN_COMMAND, CUT_COMMAND, NO_ROOM].map(u32::from);
+    let tables = [WRONG_LENGTH.into(), BROKEN_TABLE, BROKEN_STANDING];
+    let reasons = [&[u32::from(ALL_USED)][..], &tables, &commands].concat();
+    let said = run(&program("header_reasons"), "reasons", b"");
+    let said = String::from_utf8(said).unwrap();
+    let said: Vec<u32> = said
+        .split_whitespace()
+        .map(|word| word.parse().unwrap())
+        .collect();
+    assert_eq!(said, reasons);
+    assert_eq!(said, [0, 64, 65, 69, 66, 67, 68]);
 }
 
 fn in_words(record: &Record) -> String {

@@ -42,8 +42,10 @@ fn runs(service: &impl Service, seed: u64) {
         tally.add(&run.desk.tally);
     }
     println!("{compared} lists compared with fresh tables; {tally:?}");
-    for reason in [0, 64, 66, 67, 68] {
-        assert!(tally.by_reason[&reason] >= RUNS / 5, "reason {reason}");
+    // Each was the book's: no table from laying out and batches is refused with 65, nor with 69.
+    assert!(tally.by_reason.keys().eq(&[0, 64, 66, 67, 68]));
+    for (reason, times) in &tally.by_reason {
+        assert!(*times >= RUNS / 5, "reason {reason}");
     }
     let refusals = &tally.by_refusal[1..];
     assert!(

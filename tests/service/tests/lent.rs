@@ -8,9 +8,9 @@ use reference::command::{CORNER, add, begin, corner, list, move_site, print, rem
 use reference::grid::{HALF_WIDTH, Leg, Site, TABLE_LEN, WORK_LEN, spread};
 use reference::random::{self, Random};
 use reference::record::ENTRY_LEN;
-use service::bytes::{ENTRIES_LISTED, empty_table};
+use service::bytes::{ENTRIES_LISTED, LEVELS, empty_table};
 use service::desk::{Desk, LONGEST_RECORD};
-use service::{BROKEN_TABLE, Proved};
+use service::{BROKEN_STANDING, BROKEN_TABLE, Proved};
 use std::ffi::c_void;
 use std::thread;
 
@@ -174,6 +174,8 @@ fn the_bytes_beside_the_work_buffer_are_left() {
     let records = 514 + LONGEST_RECORD + (LONGEST_RECORD - ENTRY_LEN);
     assert_eq!(taken, answer(ALL_USED, commands.len(), records));
     table[ENTRIES_LISTED] ^= 1;
+    assert_eq!(given(&mut table).reason, BROKEN_STANDING);
+    table[LEVELS] ^= 1;
     assert_eq!(given(&mut table).reason, BROKEN_TABLE);
 }
 
@@ -299,11 +301,14 @@ fn calls_that_end_early_leave_a_table_that_can_only_be_read() {
         assert_eq!(ended(WORK_LEN, &command, room), answer(NO_ROOM, 0, 0));
     }
     assert_eq!(ended(WORK_LEN - 1, &change, 9), answer(WRONG_LENGTH, 0, 0));
-    let mut broken = filled();
-    broken[0] = 3;
-    let refused = ReadOnly::of(&broken).batch(&mut [1; WORK_LEN], &change, &mut [0; 9]);
-    assert_eq!(
-        (refused.reason, refused.used, refused.written),
-        (BROKEN_TABLE, 0, 0)
-    );
+    // A site too many, and an entry of the standing list too many.
+    for (at, reason) in [(0, BROKEN_TABLE), (ENTRIES_LISTED, BROKEN_STANDING)] {
+        let mut broken = filled();
+        broken[at] = 3;
+        let refused = ReadOnly::of(&broken).batch(&mut [1; WORK_LEN], &change, &mut [0; 9]);
+        assert_eq!(
+            (refused.reason, refused.used, refused.written),
+            (reason, 0, 0)
+        );
+    }
 }

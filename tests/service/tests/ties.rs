@@ -31,9 +31,9 @@ on_each_service!(
     the_standing_list_of_two_and_five_through_every_change,
     mirror_images_of_listed_sites_come_and_go,
     runs_beside_a_standing_leg_answer_as_the_book_and_as_fresh_tables,
-    the_earlier_list_of_two_and_five_gives_65,
-    earlier_lists_give_65_where_a_tie_changes_them_and_are_else_taken,
-    any_other_site_of_a_tie_in_a_stored_list_gives_65,
+    the_earlier_list_of_two_and_five_gives_69,
+    earlier_lists_give_69_where_a_tie_changes_them_and_are_else_taken,
+    any_other_site_of_a_tie_in_a_stored_list_gives_69,
 );
 
 /// Twice, as 4C and 50 have it, the list that names one site alone.
@@ -185,7 +185,7 @@ fn runs_beside_a_standing_leg_answer_as_the_book_and_as_fresh_tables(service: &i
     assert!(tally.sided >= tally.checked / 10);
 }
 
-fn the_earlier_list_of_two_and_five_gives_65(service: &impl Service) {
+fn the_earlier_list_of_two_and_five_gives_69(service: &impl Service) {
     for (leg, now, earlier) in [(LEG, 5, 2), (way_back(&LEG), 2, 2)] {
         let mut desk = Desk::lay_out(service);
         desk.records(&[add(LEFT), add(RIGHT), stand(leg)]);
@@ -217,7 +217,7 @@ fn book(random: &mut Random) -> Book {
 }
 
 /// An earlier table is refused for its list alone; without such a tie it is taken as it is.
-fn earlier_lists_give_65_where_a_tie_changes_them_and_are_else_taken(service: &impl Service) {
+fn earlier_lists_give_69_where_a_tie_changes_them_and_are_else_taken(service: &impl Service) {
     let mut random = Random::new(322);
     let (mut refused, mut taken) = (0, 0);
     for _ in 0..STORED_LISTS {
@@ -238,7 +238,7 @@ fn earlier_lists_give_65_where_a_tie_changes_them_and_are_else_taken(service: &i
     assert!(refused >= STORED_LISTS / 20 && taken >= STORED_LISTS / 2);
 }
 
-fn any_other_site_of_a_tie_in_a_stored_list_gives_65(service: &impl Service) {
+fn any_other_site_of_a_tie_in_a_stored_list_gives_69(service: &impl Service) {
     let mut random = Random::new(323);
     let mut refused = 0;
     for _ in 0..STORED_LISTS / 10 {

@@ -1,10 +1,10 @@
 //! Wrong services, document 01's six and more: the comparisons of the other tests reject each,
 //! and for the reason that it is wrong. Each is the model with one fault.
 
-use reference::book::Tour;
-use reference::command::{self, Command, LIST, list};
-use reference::grid::{Leg, Site, WORK_LEN, WRONG_WORK};
-use reference::layout::MIRRORED;
+use reference::book::{Book, Tour};
+use reference::command::{self, Command, LIST, PRINT, list};
+use reference::grid::{Leg, MOST_SITES, Site, WORK_LEN, WRONG_WORK};
+use reference::layout::{LAYOUTS, MIRRORED, case};
 use reference::random::Random;
 use reference::record::{ACCEPTED, LISTED, REFUSED};
 use reference::ties::{
@@ -14,17 +14,18 @@ use reference::ties::{
 use reference::tours;
 use service::bytes::{
     ENTRIES_LISTED, FAR_EDGE, HEADER_KEPT, LEVELS, REMEMBERED, ROOT, STACK_END, TOUR, TOUR_FLAG,
-    empty_table, entry_at, leg, number, put_word, sites, tour, word,
+    empty_table, entry_at, leg, listed, listed_at, number, put_word, sites, tour, word,
 };
 use service::damage::{assert_wrong_length_first, flipped, offer, regions, stored_by};
 use service::desk::Desk;
 use service::draw::Pool;
+use service::faults::{ELSEWHERE, STANDING};
 use service::hearing::hear_alone;
 use service::history::{Size, compare_with_fresh, run};
 use service::shape::{self, Dealing};
-use service::table::{Rule, broken_rules, meaning};
+use service::table::{Rule, broken_rules, meaning, reason};
 use service::wrong::{Step, Wrong, listing_by, slipping};
-use service::{Answer, BROKEN_TABLE, Model, Service};
+use service::{Answer, BROKEN_STANDING, BROKEN_TABLE, Model, Service};
 
 /// Of each size, so many that the rarest fault shows: the side by narrow products.
 const ROUNDS: usize = 200;
@@ -387,7 +388,7 @@ fn judges_a_stored_list_by_the_earlier_rule() {
         let sound = w.len() == WORK_LEN && meaning(t).is_ok();
         if sound && stored_by(number_alone, t) != t {
             w.fill(0);
-            return (BROKEN_TABLE, 0, 0);
+            return (BROKEN_STANDING, 0, 0);
         }
         Model.batch(t, w, c, r)
     }));
@@ -832,5 +833,383 @@ fn a_listener_takes_whole_lists_as_well() {
         if answered(&step) {
             put_word(t, REMEMBERED, 0);
         }
+    }));
+}
+
+// What is broken in a table: document 02, C-17.
+
+/// Sound tables of few sites, with a leg and without, and each with every fault of the standing
+/// half, alone and beside one elsewhere.
+fn trial_by_faults(service: &impl Service) {
+    let mut random = Random::new(113);
+    for layout in LAYOUTS.repeat(12) {
+        let count = random.pick(&[0, 1, 2, 3, 9, 20]);
+        let case = case(&mut random, layout, count);
+        let mut book = Book::of(&case.sites, Some(case.leg));
+        if random.once_in(3) {
+            book.leg = None;
+        }
+        book.tour = random.once_in(2).then(|| Tour::begun(case.leg.s));
+        let sound = shape::table(&book, &mut Dealing::Any(&mut random));
+        let mut behind = sound.clone();
+        for i in listed(&sound).len()..MOST_SITES {
+            put_word(&mut behind, listed_at(i), 1);
+        }
+        for table in [&sound, &behind] {
+            offer(service, table, &[PRINT]);
+            assert_wrong_length_first(service, table, WORK_LEN - 1);
+        }
+        for (fault, part) in STANDING.iter().flat_map(|f| ELSEWHERE.map(|p| (f, p))) {
+            let (at, value) = part.word(&mut random, &sound);
+            let mut broken = sound.clone();
+            put_word(&mut broken, at, value);
+            offer(service, &broken, &[PRINT]);
+            let Some(mut wrong) = fault.put(&mut random, &sound) else {
+                continue;
+            };
+            for commands in [&[PRINT][..], &[], &[0x3F], &list(case.leg)] {
+                offer(service, &wrong, commands);
+            }
+            assert_wrong_length_first(service, &wrong, WORK_LEN - 1);
+            put_word(&mut wrong, at, value);
+            offer(service, &wrong, &[PRINT]);
+        }
+    }
+}
+
+/// The random histories show it: "No table that came from laying out and batches is ever refused
+/// with 69 either."
+#[test]
+#[should_panic(expected = "reason, used and written of")]
+fn refuses_a_standing_list_of_its_own() {
+    trial(&Wrong(|t, w, c, r| {
+        if w.len() == WORK_LEN && listed(t).len() >= 5 {
+            w.fill(0);
+            return (BROKEN_STANDING, 0, 0);
+        }
+        Model.batch(t, w, c, r)
+    }));
+}
+
+#[test]
+fn the_model_passes_the_trial_by_faults() {
+    trial_by_faults(&Wrong(|t, w, c, r| Model.batch(t, w, c, r)));
+}
+
+/// As the model, but for the reason that it says for the rules of a refused table.
+fn saying(said: fn(&[u8], &[Rule]) -> u32, t: &[u8], answer: Answer) -> Answer {
+    match answer.0 {
+        BROKEN_TABLE | BROKEN_STANDING => (said(t, &broken_rules(t)), 0, 0),
+        _ => answer,
+    }
+}
+
+/// The model, but for the reason of each refused table.
+macro_rules! says {
+    ($t:ident, $broken:ident => $said:expr) => {
+        Wrong(|t, w, c, r| {
+            let answer = Model.batch(t, w, c, r);
+            saying(|$t, $broken| $said, t, answer)
+        })
+    };
+}
+
+/// The reason that is due, or another one where this holds.
+fn but(other: u32, holds: bool, broken: &[Rule]) -> u32 {
+    match holds {
+        true => other,
+        false => reason(broken).expect("a refused table"),
+    }
+}
+
+#[test]
+fn says_what_is_due_and_passes() {
+    trial_by_faults(&says!(_t, broken => but(0, false, broken)));
+}
+
+#[test]
+#[should_panic(expected = "69 is due for")]
+fn says_65_as_before() {
+    trial_by_faults(&says!(_t, _broken => BROKEN_TABLE));
+}
+
+#[test]
+#[should_panic(expected = "65 is due for")]
+fn says_69_before_65() {
+    trial_by_faults(&says!(_t, broken => {
+        let standing = |rule: &Rule| rule.reason() == BROKEN_STANDING;
+        but(BROKEN_STANDING, broken.iter().any(standing), broken)
+    }));
+}
+
+#[test]
+#[should_panic(expected = "65 is due for [SmallestBox")]
+fn says_69_for_a_broken_tree() {
+    trial_by_faults(&says!(_t, broken => {
+        but(BROKEN_STANDING, broken.contains(&Rule::SmallestBox), broken)
+    }));
+}
+
+#[test]
+#[should_panic(expected = "65 is due for [RememberedHeld]")]
+fn says_69_for_a_remembered_site_that_is_not_held() {
+    trial_by_faults(&says!(_t, broken => {
+        but(BROKEN_STANDING, *broken == [Rule::RememberedHeld], broken)
+    }));
+}
+
+#[test]
+#[should_panic(expected = "65 is due for [LegFlag]")]
+fn says_69_for_another_flag_of_a_leg() {
+    trial_by_faults(&says!(_t, broken => {
+        but(BROKEN_STANDING, *broken == [Rule::LegFlag], broken)
+    }));
+}
+
+#[test]
+#[should_panic(expected = "65 is due for [NoLegIsZero]")]
+fn says_69_for_words_without_a_leg() {
+    trial_by_faults(&says!(_t, broken => {
+        but(BROKEN_STANDING, *broken == [Rule::NoLegIsZero], broken)
+    }));
+}
+
+#[test]
+#[should_panic(expected = "69 is due for [LegOnGrid]")]
+fn says_65_for_a_leg_off_the_grid() {
+    trial_by_faults(&says!(_t, broken => {
+        but(BROKEN_TABLE, broken.contains(&Rule::LegOnGrid), broken)
+    }));
+}
+
+#[test]
+#[should_panic(expected = "69 is due for [StandingList]")]
+fn says_65_for_a_wrong_list() {
+    trial_by_faults(&says!(_t, broken => {
+        but(BROKEN_TABLE, broken.contains(&Rule::StandingList), broken)
+    }));
+}
+
+#[test]
+#[should_panic(expected = "69 is due for [StandingList]")]
+fn says_65_for_a_length_past_512() {
+    trial_by_faults(&says!(t, broken => {
+        but(BROKEN_TABLE, number(t, ENTRIES_LISTED) > MOST_SITES, broken)
+    }));
+}
+
+/// As if the length were one of the zeros without a leg.
+#[test]
+#[should_panic(expected = "69 is due for [StandingList]")]
+fn says_65_for_a_length_without_a_leg() {
+    trial_by_faults(&says!(t, broken => but(BROKEN_TABLE, leg(t).is_none(), broken)));
+}
+
+#[test]
+#[should_panic(expected = "69 is due for [StandingList]")]
+fn says_65_for_a_list_that_names_a_site_which_is_not_held() {
+    trial_by_faults(&says!(t, broken => {
+        let held = |number: &u16| sites(t).iter().any(|site| site.number == *number);
+        but(BROKEN_TABLE, !listed(t).iter().all(held), broken)
+    }));
+}
+
+/// The table with the list that is due, and without a leg where that is off the grid.
+fn mended(t: &[u8]) -> Vec<u8> {
+    let mut mended = t.to_vec();
+    let on_grid = leg(t).filter(|leg| leg.s.on_grid() && leg.e.on_grid());
+    shape::write_standing(&mut mended, &sites(t), on_grid);
+    mended
+}
+
+fn right_list(t: &[u8]) -> Vec<u16> {
+    listed(&mended(t))
+}
+
+/// As the model, but tables with this rule broken alone are taken where this holds, mended for the
+/// call.
+fn trusting(
+    rule: Rule,
+    trusts: fn(&[u8]) -> bool,
+    (t, w, c, r): (&mut [u8], &mut [u8], &[u8], &mut [u8]),
+) -> Answer {
+    if broken_rules(t) == [rule] && trusts(t) {
+        return Model.batch(&mut mended(t), w, c, r);
+    }
+    Model.batch(t, w, c, r)
+}
+
+/// The model, but for a wrong list where this holds.
+macro_rules! trusts {
+    ($t:ident => $trusts:expr) => {
+        Wrong(|t, w, c, r| trusting(Rule::StandingList, |$t| $trusts, (t, w, c, r)))
+    };
+}
+
+#[test]
+fn trusts_none_and_passes() {
+    trial_by_faults(&trusts!(_t => false));
+}
+
+#[test]
+#[should_panic(expected = "69 is due for [LegOnGrid]")]
+fn takes_a_leg_off_the_grid() {
+    trial_by_faults(&Wrong(|t, w, c, r| {
+        trusting(Rule::LegOnGrid, |_| true, (t, w, c, r))
+    }));
+}
+
+#[test]
+#[should_panic(expected = "69 is due for [StandingList]")]
+fn takes_any_list_where_no_site_is_held() {
+    trial_by_faults(&trusts!(t => sites(t).is_empty() && leg(t).is_some()));
+}
+
+#[test]
+#[should_panic(expected = "69 is due for [StandingList]")]
+fn takes_any_length_without_a_leg() {
+    trial_by_faults(&trusts!(t => leg(t).is_none()));
+}
+
+#[test]
+#[should_panic(expected = "69 is due for [StandingList]")]
+fn takes_a_list_that_ends_early() {
+    trial_by_faults(&trusts!(t => right_list(t).starts_with(&listed(t))));
+}
+
+#[test]
+#[should_panic(expected = "69 is due for [StandingList]")]
+fn takes_a_list_that_goes_on() {
+    trial_by_faults(&trusts!(t => {
+        leg(t).is_some() && listed(t).starts_with(&right_list(t))
+    }));
+}
+
+#[test]
+#[should_panic(expected = "69 is due for [StandingList]")]
+fn takes_the_sites_of_the_list_in_any_order() {
+    trial_by_faults(&trusts!(t => {
+        let (mut stored, mut right) = (listed(t), right_list(t));
+        stored.sort();
+        right.sort();
+        stored == right
+    }));
+}
+
+#[test]
+#[should_panic(expected = "69 is due for [StandingList]")]
+fn reads_one_byte_of_the_length() {
+    trial_by_faults(&trusts!(t => {
+        let right = right_list(t);
+        let stored = (0..right.len()).map(|i| word(t, listed_at(i)));
+        usize::from(t[ENTRIES_LISTED]) == right.len() && stored.eq(right)
+    }));
+}
+
+#[test]
+#[should_panic(expected = "69 is due for [StandingList]")]
+fn reads_one_byte_of_a_listed_number() {
+    trial_by_faults(&trusts!(t => {
+        let low = |list: Vec<u16>| list.into_iter().map(|n| n % 256).collect::<Vec<_>>();
+        low(listed(t)) == low(right_list(t))
+    }));
+}
+
+#[test]
+#[should_panic(expected = "69 is due for [StandingList]")]
+fn judges_the_list_only_where_it_is_printed() {
+    trial_by_faults(&Wrong(|t, w, c, r| match c {
+        [PRINT] => Model.batch(t, w, c, r),
+        _ => trusting(Rule::StandingList, |_| true, (t, w, c, r)),
+    }));
+}
+
+#[test]
+#[should_panic(expected = "reason, used and written of")]
+fn judges_what_stands_behind_the_list() {
+    trial_by_faults(&Wrong(|t, w, c, r| {
+        let behind = (listed(t).len()..MOST_SITES).any(|i| word(t, listed_at(i)) != 0);
+        if w.len() == WORK_LEN && meaning(t).is_ok() && behind {
+            w.fill(0);
+            return (BROKEN_STANDING, 0, 0);
+        }
+        Model.batch(t, w, c, r)
+    }));
+}
+
+/// The model, but for what it does where it says 69.
+macro_rules! at_69 {
+    ($t:ident, $w:ident, $c:ident, $r:ident => $answer:expr) => {
+        Wrong(|$t, $w, $c, $r| match Model.batch($t, $w, $c, $r) {
+            (BROKEN_STANDING, ..) => $answer,
+            answer => answer,
+        })
+    };
+}
+
+#[test]
+#[should_panic(expected = "the work buffer is 0")]
+fn leaves_a_mark_after_69() {
+    trial_by_faults(&at_69!(_t, w, _c, _r => {
+        w[1_023] = 1;
+        (BROKEN_STANDING, 0, 0)
+    }));
+}
+
+#[test]
+#[should_panic(expected = "the work buffer is 0")]
+fn leaves_the_work_buffer_at_69() {
+    trial_by_faults(&Wrong(|t, w, c, r| {
+        let before = w.to_vec();
+        let answer = Model.batch(t, w, c, r);
+        if answer.0 == BROKEN_STANDING {
+            w.copy_from_slice(&before);
+        }
+        answer
+    }));
+}
+
+#[test]
+#[should_panic(expected = "the rest of the report is left")]
+fn writes_the_report_at_69() {
+    trial_by_faults(&at_69!(_t, _w, _c, r => {
+        if let Some(byte) = r.first_mut() {
+            *byte = 69;
+        }
+        (BROKEN_STANDING, 0, 0)
+    }));
+}
+
+#[test]
+#[should_panic(expected = "69 leaves the table")]
+fn mends_the_list_at_69() {
+    trial_by_faults(&at_69!(t, _w, _c, _r => {
+        let mended = mended(t);
+        t.copy_from_slice(&mended);
+        (BROKEN_STANDING, 0, 0)
+    }));
+}
+
+#[test]
+#[should_panic(expected = "69 is due for")]
+fn counts_bytes_as_used_at_69() {
+    trial_by_faults(&at_69!(_t, _w, c, _r => (BROKEN_STANDING, c.len(), 0)));
+}
+
+#[test]
+#[should_panic(expected = "bytes of work")]
+fn says_69_before_64() {
+    trial_by_faults(&Wrong(|t, w, c, r| match reason(&broken_rules(t)) {
+        Some(BROKEN_STANDING) if w.len() != WORK_LEN => (BROKEN_STANDING, 0, 0),
+        _ => Model.batch(t, w, c, r),
+    }));
+}
+
+#[test]
+#[should_panic(expected = "69 is due for")]
+fn says_66_before_69() {
+    trial_by_faults(&at_69!(_t, _w, c, _r => match c {
+        [0x3F, ..] => (66, 0, 0),
+        _ => (BROKEN_STANDING, 0, 0),
     }));
 }

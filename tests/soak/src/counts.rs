@@ -2,6 +2,7 @@
 
 use reference::command::{ADD, BEGIN, CORNER, LIST, MOVE, PRINT, REMOVE, STAND};
 use reference::listener::Told;
+use service::damage::Outcomes;
 use service::desk::Tally;
 use std::fmt::{Display, Formatter, Result};
 
@@ -13,9 +14,9 @@ pub struct Counts {
     pub fresh_lists: usize,
     /// What was heard of tours with no book beside the service.
     pub heard_alone: Told,
-    /// Tables with a flipped bit, and those among them in which a rule was broken.
-    pub damaged: usize,
-    pub broken: usize,
+    /// Tables with a flipped bit, and with faults in the standing half.
+    pub flipped: Outcomes,
+    pub faulty: Outcomes,
 }
 
 impl Counts {
@@ -24,8 +25,8 @@ impl Counts {
         self.tally.add(&other.tally);
         self.fresh_lists += other.fresh_lists;
         self.heard_alone.add(&other.heard_alone);
-        self.damaged += other.damaged;
-        self.broken += other.broken;
+        self.flipped.add(&other.flipped);
+        self.faulty.add(&other.faulty);
     }
 }
 
@@ -74,9 +75,22 @@ impl Display for Counts {
         writeln!(f, "  side decides {} standing lists", tally.sided)?;
         write_tours(f, "tours", &tally.tours)?;
         write_tours(f, "heard alone", &self.heard_alone)?;
-        let (damaged, broken) = (self.damaged, self.broken);
-        write!(f, "damaged tables {damaged}, of which {broken} broken")
+        write_damaged(f, "flipped bits", &self.flipped)?;
+        writeln!(f)?;
+        write_damaged(f, "standing half", &self.faulty)
     }
+}
+
+fn write_damaged(f: &mut Formatter, what: &str, outcomes: &Outcomes) -> Result {
+    let Outcomes {
+        with_65,
+        with_69,
+        taken,
+    } = outcomes;
+    write!(
+        f,
+        "{what:14} {with_65} refused with 65, {with_69} with 69, {taken} taken"
+    )
 }
 
 fn write_tours(f: &mut Formatter, what: &str, told: &Told) -> Result {

@@ -6,19 +6,22 @@ use reference::command::{begin, corner, stand};
 use reference::grid::{Leg, MOST_SITES};
 use reference::random::Random;
 use service::Service;
-use service::damage::{flipped, offer, regions};
+use service::bytes::put_word;
+use service::damage::{Outcomes, flipped, offer, regions};
 use service::desk::Desk;
 use service::draw::{Pool, broken_off};
+use service::faults::{ELSEWHERE, STANDING};
 use service::hearing::hear_alone;
 use service::history::{Run, call, compare_with_fresh};
 use service::shape::{self, Dealing};
+use service::table::Rule;
 
 const DAYS: usize = 365;
 const MOST_COMMANDS_A_CALL: usize = 20;
 /// After so many days come fresh tables, one with a listener alone, and damaged ones.
 const QUARTER: usize = 91;
 const HEARD_A_QUARTER: usize = 20;
-const DAMAGED_A_QUARTER: usize = 10;
+const FLIPPED_A_QUARTER: usize = 10;
 /// Once in so many days the commands are a tour's.
 const TOUR_ONCE_IN: i64 = 6;
 
@@ -53,10 +56,10 @@ impl Year {
                 counts.fresh_lists += compare_with_fresh(&mut self.random, &mut run);
                 let heard = hear_alone(service, &mut self.random, &run.pool, HEARD_A_QUARTER);
                 counts.heard_alone.add(&heard);
-                for _ in 0..DAMAGED_A_QUARTER {
-                    counts.damaged += 1;
-                    counts.broken += usize::from(self.damage(&run));
+                for _ in 0..FLIPPED_A_QUARTER {
+                    counts.flipped.count(&self.flip(&run));
                 }
+                self.damage(&run, &mut counts.faulty);
             }
         }
         counts.tally = run.desk.tally;
@@ -108,8 +111,8 @@ impl Year {
         call(&mut self.random, &mut run.desk, &self.commands);
     }
 
-    /// Offers the table with one bit flipped where a rule speaks; whether one was broken.
-    fn damage<S: Service>(&mut self, run: &Run<S>) -> bool {
+    /// Offers the table with one bit flipped where a rule speaks; which rules were broken.
+    fn flip<S: Service>(&mut self, run: &Run<S>) -> Vec<Rule> {
         let random = &mut self.random;
         let table = &run.desk.table;
         let regions = regions(table);
@@ -118,6 +121,23 @@ impl Year {
         let at = bytes.start + random.index(bytes.len());
         let damaged = flipped(table, at, random.index(8));
         self.commands = run.pool.commands(random, 3).concat();
-        !offer(run.desk.service(), &damaged, &self.commands).is_empty()
+        offer(run.desk.service(), &damaged, &self.commands)
+    }
+
+    /// Offers the table with each fault of the standing half, alone and beside one elsewhere.
+    fn damage<S: Service>(&mut self, run: &Run<S>, outcomes: &mut Outcomes) {
+        let random = &mut self.random;
+        let table = &run.desk.table;
+        for fault in STANDING {
+            let Some(mut damaged) = fault.put(random, table) else {
+                continue;
+            };
+            self.commands = run.pool.commands(random, 3).concat();
+            outcomes.count(&offer(run.desk.service(), &damaged, &self.commands));
+            let part = random.pick(&ELSEWHERE);
+            let (at, value) = part.word(random, table);
+            put_word(&mut damaged, at, value);
+            outcomes.count(&offer(run.desk.service(), &damaged, &self.commands));
+        }
     }
 }

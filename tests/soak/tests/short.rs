@@ -18,7 +18,11 @@ fn some_years_show_no_difference(service: &impl Service) {
     let tally = &counts.tally;
     assert!(tally.calls >= YEARS * 365 && tally.lists >= YEARS * 365);
     assert!(tally.sided >= YEARS, "ties along the whole leg");
-    assert!(counts.fresh_lists >= 4 * 6 * YEARS && counts.broken >= YEARS);
+    assert!(counts.fresh_lists >= 4 * 6 * YEARS && counts.flipped.refused() >= YEARS);
+    // A fault of the standing half gives 69, and 65 beside one elsewhere.
+    let faulty = &counts.faulty;
+    assert!(faulty.with_69 >= 4 * 2 * YEARS && faulty.with_65 == faulty.with_69);
+    assert_eq!(faulty.taken, 0);
     let tours = &tally.tours;
     assert!(tours.legs >= 365 * YEARS && tours.most_legs >= 10, "tours");
     assert!(tours.left_out >= 200 * YEARS && tours.nothing >= 50 * YEARS);

@@ -1,21 +1,26 @@
-//! The model's own test of a table (reason 65): one walk from the root that stops at the first
-//! fault, with the boxes made from the sites upwards.
+//! The model's own test of a table (reasons 65 and 69): one walk from the root that stops at the
+//! first fault, with the boxes made from the sites upwards; then the standing leg and its list.
 
 use crate::bytes::{
     self, ENTRIES_LISTED, Entry, FEWEST_ENTRIES, FEWEST_IN_ROOT, FREE_NODES, HEADER_KEPT, LAYOUT,
     LAYOUT_NUMBER, LEG_FLAG, LEG_WORDS, LEVELS, MOST_ENTRIES, MOST_LEVELS, MOST_NODES, ROOT,
     SITES_HELD, TOUR, TOUR_FLAG, free_at, leg, listed, node_at, number, position, sites, word,
 };
+use crate::{BROKEN_STANDING, BROKEN_TABLE};
 use reference::grid::{MOST_SITES, Site};
 use reference::hull;
 
-pub(super) fn admits(table: &[u8]) -> bool {
-    header(table) && records(table) && standing(table) && toured(table) && tree(table)
+/// The reason to refuse the table; none if it is taken.
+pub(super) fn refusal(table: &[u8]) -> Option<u32> {
+    let whole = header(table) && records(table) && flagged(table) && toured(table) && tree(table);
+    match whole {
+        false => Some(BROKEN_TABLE),
+        true => (!standing(table)).then_some(BROKEN_STANDING),
+    }
 }
 
 fn header(table: &[u8]) -> bool {
     let counts = number(table, SITES_HELD) <= MOST_SITES
-        && number(table, ENTRIES_LISTED) <= MOST_SITES
         && number(table, LEVELS) <= MOST_LEVELS
         && number(table, FREE_NODES) <= MOST_NODES;
     let layout = word(table, LAYOUT) == LAYOUT_NUMBER;
@@ -31,16 +36,25 @@ fn records(table: &[u8]) -> bool {
         && bytes::records(table).all(|record| record.kept == 0)
 }
 
+/// There is a leg or none; where it lies does not matter here.
+fn flagged(table: &[u8]) -> bool {
+    match word(table, LEG_FLAG) {
+        0 => LEG_WORDS.iter().all(|at| word(table, *at) == 0),
+        flag => flag == 1,
+    }
+}
+
+/// The leg is on the grid and the list its own, in a table whose sites can be read.
 fn standing(table: &[u8]) -> bool {
-    let numbers = listed(table);
-    match (word(table, LEG_FLAG), leg(table)) {
-        (1, Some(leg)) => {
+    let length = number(table, ENTRIES_LISTED);
+    match leg(table) {
+        Some(leg) => {
             let on_grid = leg.s.on_grid() && leg.e.on_grid();
             let list = || hull::split_list(&leg, &sites(table));
-            on_grid && list().iter().map(|entry| entry.site).eq(numbers)
+            let listed = || list().iter().map(|entry| entry.site).eq(listed(table));
+            on_grid && length <= MOST_SITES && listed()
         }
-        (0, None) => numbers.is_empty() && LEG_WORDS.iter().all(|at| word(table, *at) == 0),
-        _ => false,
+        None => length == 0,
     }
 }
 
