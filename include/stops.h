@@ -3,9 +3,9 @@
 #ifndef STOPS_H
 #define STOPS_H
 
-#define STOPS_VERSION "0.10.0"
+#define STOPS_VERSION "0.11.0"
 /* 10000 times the first number, 100 times the second, and the third. */
-#define STOPS_VERSION_NUMBER 1000
+#define STOPS_VERSION_NUMBER 1100
 
 #include <stddef.h>
 #include <stdint.h>
@@ -31,10 +31,13 @@ extern "C" {
 enum stops_reason {
     STOPS_ALL_USED = 0,         /* all commands were used */
     STOPS_WRONG_LENGTH = 64,    /* table or work buffer of wrong length; every buffer is left */
-    STOPS_BROKEN_TABLE = 65,    /* a rule is broken in the table; table and report are left */
+    STOPS_BROKEN_TABLE = 65,    /* a rule on layout, sites, tour or tree is broken in the table;
+                                   table and report are left */
     STOPS_UNKNOWN_COMMAND = 66, /* an unknown command byte */
     STOPS_CUT_COMMAND = 67,     /* a known command, its operands cut short */
-    STOPS_NO_ROOM = 68          /* the next record exceeds what is left of the report buffer */
+    STOPS_NO_ROOM = 68,         /* the next record exceeds what is left of the report buffer */
+    STOPS_BROKEN_STANDING = 69  /* tested directly after 65: the standing leg or list in the table
+                                   is wrong, its sites can be read; table and report are left */
 };
 
 /* Command bytes and their operands. A number is an unsigned 16-bit word, a position two signed

@@ -32,7 +32,7 @@ pub fn renewed(table: &[u8]) -> Result<Vec<u8>, Failure> {
     Ok(renewed)
 }
 
-/// Whether this release refuses the table, but --dump does not.
+/// Whether this release refuses the table, and an earlier one took it.
 pub fn is_carried_over(table: &[u8]) -> Result<bool, Failure> {
     let renewed = renewed(table)?;
     Ok(renewed != table && Service::take_up(renewed).is_ok())

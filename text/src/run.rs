@@ -124,6 +124,7 @@ mod tests {
     use crate::input::Input;
     use crate::output::Output;
     use crate::service::Service;
+    use binding::layout::{ENTRIES_LISTED, SITES_HELD};
     use std::time::Instant;
 
     /// The exit code, the answers and the messages.
@@ -145,9 +146,19 @@ mod tests {
 
     #[test]
     fn a_reason_that_cannot_come_up_is_told_and_has_its_code() {
-        let (code, out, err) = ran(Service::broken(), b"print\nprint\n");
-        let end = "end 65: a rule is broken in the table\n";
-        assert_eq!((code, out.as_str(), err.as_str()), (5, end, ""));
+        for (at, end) in [
+            (
+                SITES_HELD,
+                "end 65: a rule on layout, sites, tour or tree is broken in the table\n",
+            ),
+            (
+                ENTRIES_LISTED,
+                "end 69: the standing leg or list in the table is wrong, its sites can be read\n",
+            ),
+        ] {
+            let (code, out, err) = ran(Service::broken(at), b"print\nprint\n");
+            assert_eq!((code, out.as_str(), err.as_str()), (5, end, ""));
+        }
     }
 
     #[test]

@@ -10,7 +10,12 @@ use binding::layout::{TABLE_LEN, WORK_LEN};
 const REPORT_LEN: usize = 65_536;
 
 const ALL_USED: u32 = 0;
+pub const WRONG_LENGTH: u32 = 64;
+/// A rule on layout, sites, tour or tree.
+pub const BROKEN_TABLE: u32 = 65;
 const NO_ROOM: u32 = 68;
+/// The standing leg or list is wrong, and no other rule is broken: sites and tour can be read.
+pub const BROKEN_STANDING: u32 = 69;
 
 pub struct Service {
     table: Vec<u8>,
@@ -49,11 +54,11 @@ impl Service {
         }
     }
 
-    /// A table that says it holds a site, and holds none.
+    /// An empty table with a 1 at this byte.
     #[cfg(test)]
-    pub fn broken() -> Self {
+    pub fn broken(at: usize) -> Self {
         let mut service = Service::new().unwrap();
-        service.table[0] = 1;
+        service.table[at] = 1;
         service
     }
 
@@ -121,6 +126,7 @@ fn for_each_record(
 #[cfg(test)]
 mod tests {
     use super::*;
+    use binding::layout::{ENTRIES_LISTED, SITES_HELD};
     use reference::command::{add, list, print, stand};
     use reference::grid::{HALF_WIDTH, Leg, Site, spread};
 
@@ -164,9 +170,11 @@ mod tests {
     }
 
     #[test]
-    fn a_broken_table_ends_with_65_and_no_record() {
-        let mut service = Service::broken();
+    fn a_broken_table_ends_with_65_or_69_and_no_record() {
+        let mut service = Service::broken(SITES_HELD);
         assert_eq!(serve(&mut service, &print()), (vec![], Some(65)));
+        let mut service = Service::broken(ENTRIES_LISTED);
+        assert_eq!(serve(&mut service, &print()), (vec![], Some(69)));
     }
 
     #[test]

@@ -1,7 +1,8 @@
 //! How a run ends: what it met on the way, or what broke it off.
 
+use crate::service::BROKEN_STANDING;
 use crate::words;
-use std::fmt;
+use std::fmt::{self, Display};
 use std::io;
 
 /// What was met; the exit code is that of the worst.
@@ -39,8 +40,8 @@ pub enum Failure {
     Ended(u32),
     /// A file, and the reason that the service gives for refusing it as a table.
     NoTable(String, u32),
-    /// A file whose table an earlier release took, and the service refuses.
-    Earlier(String),
+    /// A file whose table an earlier release took, and the service refuses for this reason.
+    Earlier(String, u32),
     /// The bytes that the service wrote are no records.
     Report,
     /// With --decode: the byte, and why it cannot be read.
@@ -53,7 +54,7 @@ impl Failure {
             Failure::Undecodable(..) => 2,
             Failure::Usage(_) => 3,
             Failure::Io(..) => 4,
-            Failure::Ended(_) | Failure::Report | Failure::NoTable(..) | Failure::Earlier(_) => 5,
+            Failure::Ended(_) | Failure::Report | Failure::NoTable(..) | Failure::Earlier(..) => 5,
         }
     }
 
@@ -63,7 +64,13 @@ impl Failure {
     }
 }
 
-impl fmt::Display for Failure {
+/// What is said of a file whose table is refused for this reason.
+pub fn unsound(name: impl Display, reason: u32) -> String {
+    let why = words::reason(reason);
+    format!("{name} is no sound table: reason {reason}, {why}")
+}
+
+impl Display for Failure {
     fn fmt(&self, f: &mut fmt::Formatter) -> fmt::Result {
         match self {
             Failure::Usage(what) => write!(f, "{what}; try --help"),
@@ -76,16 +83,18 @@ impl fmt::Display for Failure {
                 )
             }
             Failure::NoTable(name, reason) => {
-                let why = words::reason(*reason);
-                write!(
-                    f,
-                    "{name} is no sound table: reason {reason}, {why}; --check {name} tells more"
-                )
+                write!(f, "{}; --check {name} tells more", unsound(name, *reason))?;
+                match *reason {
+                    BROKEN_STANDING => {
+                        write!(f, ", --dump {name} writes the lines that lay it out anew")
+                    }
+                    _ => Ok(()),
+                }
             }
-            Failure::Earlier(name) => {
+            Failure::Earlier(name, reason) => {
                 write!(
                     f,
-                    "{name} is a table of an earlier release, refused with reason 65; --dump {name} carries it over"
+                    "{name} is a table of an earlier release, refused with reason {reason}; --dump {name} carries it over"
                 )
             }
             Failure::Report => write!(f, "the service wrote a report that cannot be read"),
@@ -142,7 +151,7 @@ mod tests {
             (
                 Failure::Ended(65),
                 5,
-                "the service ended with reason 65: a rule is broken in the table",
+                "the service ended with reason 65: a rule on layout, sites, tour or tree is broken in the table",
             ),
             (
                 Failure::Ended(64),
@@ -152,12 +161,22 @@ mod tests {
             (
                 Failure::NoTable("t".into(), 65),
                 5,
-                "t is no sound table: reason 65, a rule is broken in the table; --check t tells more",
+                "t is no sound table: reason 65, a rule on layout, sites, tour or tree is broken in the table; --check t tells more",
             ),
             (
-                Failure::Earlier("t".into()),
+                Failure::NoTable("t".into(), 69),
+                5,
+                "t is no sound table: reason 69, the standing leg or list in the table is wrong, its sites can be read; --check t tells more, --dump t writes the lines that lay it out anew",
+            ),
+            (
+                Failure::Earlier("t".into(), 65),
                 5,
                 "t is a table of an earlier release, refused with reason 65; --dump t carries it over",
+            ),
+            (
+                Failure::Earlier("t".into(), 69),
+                5,
+                "t is a table of an earlier release, refused with reason 69; --dump t carries it over",
             ),
             (
                 Failure::Report,

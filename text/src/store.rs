@@ -24,8 +24,8 @@ impl Store {
         };
         let service = match &store.held {
             Some(table) => match table_of(file, table.clone()) {
-                Err(_) if earlier::is_carried_over(table)? => {
-                    return Err(Failure::Earlier(name_of(file)));
+                Err(Failure::NoTable(name, reason)) if earlier::is_carried_over(table)? => {
+                    return Err(Failure::Earlier(name, reason));
                 }
                 taken => taken?,
             },

@@ -107,17 +107,18 @@ fn refusal(number: u8) -> String {
 }
 
 pub fn is_reason(number: u32) -> bool {
-    matches!(number, 0 | 64..=68)
+    matches!(number, 0 | 64..=69)
 }
 
 pub fn reason(number: u32) -> &'static str {
     match number {
         0 => "all commands used",
         64 => "table or work buffer of wrong length",
-        65 => "a rule is broken in the table",
+        65 => "a rule on layout, sites, tour or tree is broken in the table",
         66 => "unknown command byte",
         67 => "known command, operands cut short",
         68 => "the command's record exceeds what is left of the report buffer",
+        69 => "the standing leg or list in the table is wrong, its sites can be read",
         _ => "no such reason",
     }
 }
@@ -172,12 +173,19 @@ mod tests {
         let expected = [
             (0, "end 0: all commands used\n"),
             (64, "end 64: table or work buffer of wrong length\n"),
-            (65, "end 65: a rule is broken in the table\n"),
+            (
+                65,
+                "end 65: a rule on layout, sites, tour or tree is broken in the table\n",
+            ),
             (66, "end 66: unknown command byte\n"),
             (67, "end 67: known command, operands cut short\n"),
             (
                 68,
                 "end 68: the command's record exceeds what is left of the report buffer\n",
+            ),
+            (
+                69,
+                "end 69: the standing leg or list in the table is wrong, its sites can be read\n",
             ),
         ];
         for (number, words) in expected {

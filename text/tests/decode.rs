@@ -2,17 +2,33 @@
 
 mod common;
 
-use common::{batch_program, run, run_program, scratch};
+use common::{at_root, batch_program, run, run_program, scratch};
 use reference::random::{self, Random};
 use reference::record::Record;
 use std::process::Command;
+
+/// The reasons of include/stops.h.
+fn reasons() -> Vec<u8> {
+    let header = std::fs::read_to_string(at_root("include/stops.h")).unwrap();
+    let (_, reasons) = header.split_once("enum stops_reason {").unwrap();
+    let (reasons, _) = reasons.split_once('}').unwrap();
+    let number = |part: &str| {
+        let digits: String = part.chars().take_while(char::is_ascii_digit).collect();
+        digits.parse().unwrap()
+    };
+    reasons.split(" = ").skip(1).map(number).collect()
+}
 
 #[test]
 fn every_reason() {
     let ends = [
         (0, 0, "all commands used"),
         (64, 5, "table or work buffer of wrong length"),
-        (65, 5, "a rule is broken in the table"),
+        (
+            65,
+            5,
+            "a rule on layout, sites, tour or tree is broken in the table",
+        ),
         (66, 5, "unknown command byte"),
         (67, 5, "known command, operands cut short"),
         (
@@ -20,7 +36,13 @@ fn every_reason() {
             5,
             "the command's record exceeds what is left of the report buffer",
         ),
+        (
+            69,
+            5,
+            "the standing leg or list in the table is wrong, its sites can be read",
+        ),
     ];
+    assert_eq!(reasons(), ends.map(|(reason, ..)| reason));
     for (reason, code, words) in ends {
         let ran = run(&["--decode"], [0x2B, 0x2E, reason]);
         let message = match reason {
@@ -93,6 +115,7 @@ fn bytes_that_are_no_output() {
             "0/0 is no start: it is not from 0 to below 1",
         ),
         (vec![0x2E, 1], 0, "no reason has the number 1"),
+        (vec![0x2E, 70], 0, "no reason has the number 70"),
         (vec![0x2E, 0, 0x2B], 2, "something follows the end mark"),
     ];
     for (bytes, at, fault) in cases {
@@ -167,4 +190,9 @@ fn ends_that_do_not_fit_the_commands() {
     let cut = decoded("cut.bin", b"P?", &refused(67));
     let message = "stops-text: byte 2: the end does not fit: after 1 records the commands go on at their byte 1\n";
     assert_eq!(cut, (2, message.into()));
+    // With these no command is done.
+    for reason in [64, 65, 69] {
+        assert!(!fits("refused.bin", b"P", reason));
+        assert_eq!(decoded("refused.bin", b"P", &[0x2E, reason]).0, 5);
+    }
 }

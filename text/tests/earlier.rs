@@ -9,7 +9,7 @@ use reference::command::Command;
 use reference::grid::Position;
 use reference::record::Record;
 use reference::ties::{number_alone, renamed};
-use service::bytes::{self, TOUR, listed};
+use service::bytes::{self, LEG_WORDS, TOUR, listed, put_word, word};
 use service::damage::aged;
 use std::path::Path;
 
@@ -95,7 +95,7 @@ fn a_table_of_release_0_7_0_is_carried_over() {
     let (old, new) = (table("of 0.7.0"), table("carried over"));
     let bytes = put(&old, OF_0_7_0);
     assert_eq!(bytes[14..16], [1, 0]);
-    assert_refused(&old);
+    assert_refused(&old, 65);
     let dump = file_mode("--dump", &old);
     let told = format!(
         "stops-text: {} is of layout 1, and read as such\n",
@@ -110,14 +110,23 @@ fn a_table_of_release_0_7_0_is_carried_over() {
 }
 
 /// Where --dump helps.
-fn assert_refused(file: &Path) {
+fn assert_refused(file: &Path, reason: u32) {
     let served = on(file, &[], "print\n");
     let told = format!(
-        "stops-text: {0} is a table of an earlier release, refused with reason 65; --dump {0} carries it over\n",
+        "stops-text: {0} is a table of an earlier release, refused with reason {reason}; --dump {0} carries it over\n",
         file.display()
     );
     assert_eq!((served.code, served.text()), (5, ""));
     assert_eq!(served.err, told);
+}
+
+/// What --dump says of a list that is right by the earlier rule alone.
+fn read_by_number(file: &Path) -> String {
+    format!(
+        "stops-text: {} has a standing list of a release before 0.9.0, and is read as such; \
+         if it is of a later one, its leg or list is damaged\n",
+        file.display()
+    )
 }
 
 /// Old table, dump, new table, lists by the rule of today.
@@ -126,13 +135,9 @@ fn a_table_whose_list_the_right_hand_rule_changes_is_carried_over() {
     let (old, new) = (table("by number"), table("right first"));
     let bytes = put(&old, CHANGED);
     assert_eq!(bytes[14..16], [2, 0]);
-    assert_refused(&old);
+    assert_refused(&old, 69);
     let dump = file_mode("--dump", &old);
-    let told = format!(
-        "stops-text: {} has a standing list of a release before 0.9.0, and is read as such\n",
-        old.display()
-    );
-    assert_eq!((dump.code, &dump.err), (0, &told));
+    assert_eq!((dump.code, &dump.err), (0, &read_by_number(&old)));
     assert_eq!(dump.out, kept(CHANGED, "dump"));
     assert!(std::fs::read(&old).unwrap() == bytes);
     assert_eq!(on(&new, &["--create"], dump.text()).code, 0);
@@ -141,7 +146,27 @@ fn a_table_whose_list_the_right_hand_rule_changes_is_carried_over() {
     assert_eq!(file_mode("--dump", &new).err, "");
 }
 
-/// Neither release took it.
+/// The leg turns round, and with it the side on which the site of the list stands. So the list is
+/// the earlier rule's, and nothing tells the table from one of then.
+#[test]
+fn a_hit_leg_whose_list_is_that_of_an_earlier_release_is_told() {
+    let file = table("hit leg");
+    let adds = "add 2 3 4\nadd 5 3 -4\n";
+    let lines = format!("{adds}stand 80 0 0 0\n");
+    assert_eq!(on(&file, &["--create"], &lines).code, 0);
+    let mut bytes = std::fs::read(&file).unwrap();
+    assert_eq!(listed(&bytes), [2]);
+    let easting = word(&bytes, LEG_WORDS[0]);
+    put_word(&mut bytes, LEG_WORDS[0], easting ^ 0x400);
+    std::fs::write(&file, &bytes).unwrap();
+    assert_refused(&file, 69);
+    let dump = file_mode("--dump", &file);
+    assert_eq!((dump.code, &dump.err), (0, &read_by_number(&file)));
+    assert_eq!(dump.text(), format!("{adds}stand -944 0 0 0\n"));
+    assert!(std::fs::read(&file).unwrap() == bytes);
+}
+
+/// Neither release took it: the list is a wrong one, and the leg may be.
 #[test]
 fn a_list_of_an_earlier_release_and_a_tour_do_not_go_together() {
     let old = table("tour by number");
@@ -149,12 +174,17 @@ fn a_list_of_an_earlier_release_and_a_tour_do_not_go_together() {
     bytes[16] = 1;
     std::fs::write(&old, &bytes).unwrap();
     let dump = file_mode("--dump", &old);
-    assert_eq!((dump.code, dump.text()), (5, ""));
+    let lines = String::from_utf8(kept(CHANGED, "dump")).unwrap();
+    let (adds, stand) = lines.split_once("stand").unwrap();
+    let comment =
+        "# The standing list was wrong, so the leg may be. If this is the leg, take the # away:";
+    let doubtful = format!("{adds}{comment}\n# stand{stand}tour -12000 -12000\n");
+    assert_eq!((dump.code, dump.text()), (5, doubtful.as_str()));
     let served = on(&old, &[], "print\n");
     assert_eq!((served.code, served.text()), (5, ""));
-    assert!(served.err.contains("is no sound table: reason 65, "));
+    assert!(served.err.contains("is no sound table: reason 69, "));
     let told = file_mode("--check", &old);
-    assert!(!told.text().contains("--dump"), "{}", told.text());
+    assert!(!told.text().contains("0.9.0"), "{}", told.text());
 }
 
 /// `4,160`
@@ -171,7 +201,7 @@ fn a_list_of_an_earlier_release_is_told() {
     let bytes = put(&old, CHANGED);
     let dump = String::from_utf8(kept(CHANGED, "dump")).unwrap();
     assert_eq!(on(&new, &["--create"], &dump).code, 0);
-    let mut expected = "broken: the service refuses it with reason 65\n".to_string();
+    let mut expected = "broken: the service refuses it with reason 69\n".to_string();
     let (then, now) = (listed(&bytes), listed(&std::fs::read(&new).unwrap()));
     assert_eq!(then.len(), now.len());
     for (i, (then, now)) in then.iter().zip(&now).enumerate() {
@@ -185,6 +215,9 @@ fn a_list_of_an_earlier_release_is_told() {
     }
     expected +=
         "the standing list is that of a release before 0.9.0: --dump carries the table over\n";
+    expected += "the sites, the tour and the tree keep their rules, so all sites can be read, \
+                 whichever of leg and list is damaged: \
+                 --dump writes the lines that lay the table out anew\n";
     let adds: Vec<&str> = dump
         .lines()
         .filter(|line| line.starts_with("add"))
@@ -303,7 +336,7 @@ fn lists_in_earlier_layouts_are_by_number() {
         assert!(told.text().contains(what), "{}", told.text());
         bytes[4_160] = 2;
         std::fs::write(&old, &bytes).unwrap();
-        assert_refused(&old);
+        assert_refused(&old, 65);
         let dump = file_mode("--dump", &old);
         assert_eq!((dump.code, dump.text()), (0, lines));
         let layout = format!(

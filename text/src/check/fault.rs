@@ -1,11 +1,14 @@
 //! A broken rule: where, what, and the bytes.
 
 use crate::grid::grouped;
+use crate::service::{BROKEN_STANDING, BROKEN_TABLE, WRONG_LENGTH};
 use binding::layout::{far_edge, number};
 use std::fmt;
 
 #[derive(Clone, Debug, PartialEq, Eq)]
 pub struct Fault {
+    /// What the service says where nothing else is broken.
+    pub reason: u32,
     place: String,
     what: String,
     /// The byte, what stands there, and what belongs there where that is one thing.
@@ -16,19 +19,27 @@ impl Fault {
     /// Of the word at this byte.
     pub fn at(table: &[u8], at: usize, place: impl Into<String>, what: impl Into<String>) -> Self {
         Fault {
+            reason: BROKEN_TABLE,
             place: place.into(),
             what: what.into(),
             word: Some((at, number(table, at), None)),
         }
     }
 
-    /// Of a table as a whole.
-    pub fn whole(what: String) -> Self {
+    /// Of a table's length.
+    pub fn length(what: String) -> Self {
         Fault {
+            reason: WRONG_LENGTH,
             place: "table".into(),
             what,
             word: None,
         }
+    }
+
+    /// In the standing leg or list, so that sites, tour and tree can be sound.
+    pub fn of_standing(mut self) -> Self {
+        self.reason = BROKEN_STANDING;
+        self
     }
 
     pub fn belongs(mut self, belongs: impl Into<usize>) -> Self {

@@ -18,7 +18,7 @@ use crate::command::Command;
 use crate::desk::Desk;
 use crate::grid::{Site, grouped};
 use crate::lists::RIGHT_FIRST;
-use crate::service::Service;
+use crate::service::{BROKEN_STANDING, Service};
 use crate::status::{Failure, Met};
 use crate::store::table_of;
 use crate::{earlier, show, table};
@@ -29,12 +29,17 @@ use std::io::Write;
 /// So many broken rules are told; one fault often breaks many.
 const MOST_TOLD: usize = 20;
 
+/// Of a table in which nothing but the standing leg or list is wrong.
+const READABLE: &str = "the sites, the tour and the tree keep their rules, so all sites can be \
+                        read, whichever of leg and list is damaged: --dump writes the lines that \
+                        lay the table out anew";
+
 /// Every rule that the bytes break, in the order of the bytes' regions; none for a sound table.
 pub fn faults(table: &[u8]) -> Result<Vec<Fault>, Failure> {
     if table.len() != TABLE_LEN {
         let (long, whole) = (grouped(table.len()), grouped(TABLE_LEN));
         let what = format!("{long} bytes long, a table has {whole}");
-        return Ok(vec![Fault::whole(what)]);
+        return Ok(vec![Fault::length(what)]);
     }
     let mut faults = header::faults(table);
     faults.extend(tour::faults(table));
@@ -52,6 +57,12 @@ pub fn faults(table: &[u8]) -> Result<Vec<Fault>, Failure> {
     Ok(faults)
 }
 
+/// The number that the service refuses a table with these faults with; none for a sound one. It
+/// tests in the order of the numbers.
+fn reason(faults: &[Fault]) -> Option<u32> {
+    faults.iter().map(|fault| fault.reason).min()
+}
+
 /// Whether sites and leg can be read.
 pub fn is_readable(table: &[u8]) -> bool {
     table.len() == TABLE_LEN && unreadable(table).is_empty()
@@ -67,14 +78,13 @@ fn unreadable(table: &[u8]) -> Vec<Fault> {
 /// Tells what a table holds, or what is wrong with it and which sites can still be read.
 pub fn tell<W: Write, E: Write>(bytes: &[u8], desk: &mut Desk<W, E>) -> Result<Met, Failure> {
     let faults = faults(bytes)?;
-    if faults.is_empty() {
+    let Some(reason) = reason(&faults) else {
         let mut service = table_of("the table".as_ref(), bytes.to_vec())?;
         desk.say("sound: no rule is broken")?;
         show::counts(&mut service, desk)?;
         desk.flush()?;
         return Ok(Met::default());
-    }
-    let reason = if bytes.len() == TABLE_LEN { 65 } else { 64 };
+    };
     desk.say(format_args!(
         "broken: the service refuses it with reason {reason}"
     ))?;
@@ -86,6 +96,9 @@ pub fn tell<W: Write, E: Write>(bytes: &[u8], desk: &mut Desk<W, E>) -> Result<M
     }
     if let Some(note) = earlier_list(bytes)? {
         desk.say(note)?;
+    }
+    if reason == BROKEN_STANDING {
+        desk.say(READABLE)?;
     }
     let readable = readable(bytes);
     let of_layout = if is_unknown(bytes) {

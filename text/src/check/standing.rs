@@ -1,4 +1,5 @@
-//! The standing leg and the numbers of its list.
+//! The standing leg and the numbers of its list. The flag, and the zeros without a leg, belong to the
+//! layout (65); the leg's grid and the list, with its length, are tested behind all else (69).
 
 use super::fault::{Fault, off_grid};
 use crate::lists::Lists;
@@ -26,7 +27,7 @@ pub fn leg_faults(table: &[u8]) -> Vec<Fault> {
         if flag == 0 && word(table, at) != 0 {
             faults.push(fault(format!("no leg is set, but its {name} is")).belongs(0u16));
         } else if word(table, at) > far_edge(table) {
-            faults.push(fault(off_grid(table, name)));
+            faults.push(fault(off_grid(table, name)).of_standing());
         }
     }
     faults
@@ -39,7 +40,7 @@ pub fn list_faults(table: &[u8]) -> Result<Vec<Fault>, Failure> {
     if number(table, ENTRIES_LISTED) != right.len() {
         let what = "the number of entries is not that of the leg's list";
         let fault = Fault::at(table, ENTRIES_LISTED, "standing list", what);
-        return Ok(vec![fault.belongs(right.len())]);
+        return Ok(vec![fault.belongs(right.len()).of_standing()]);
     }
     let mut faults = Vec::new();
     for (i, site) in right.into_iter().enumerate() {
@@ -51,7 +52,7 @@ pub fn list_faults(table: &[u8]) -> Result<Vec<Fault>, Failure> {
                 format!("standing list, entry {i}"),
                 what,
             );
-            faults.push(fault.belongs(site));
+            faults.push(fault.belongs(site).of_standing());
         }
     }
     Ok(faults)

@@ -1,10 +1,12 @@
 //! The verdict is the service's on every table tried, and each rule is told with its byte.
 
-use super::{earlier_list, faults};
+mod standing;
+
+use super::{earlier_list, faults, reason};
 use crate::earlier::renewed;
 use crate::grid::grouped;
 use crate::lists::stands;
-use crate::service::Service;
+use crate::service::{BROKEN_STANDING, BROKEN_TABLE, Service};
 use binding::layout::{
     CORNER_WORDS, EARLIER_HALF_WIDTH, ENTRIES_LISTED, FAR_EDGE, FREE_NODES, HALF_WIDTH,
     HEADER_KEPT, LAYOUT, LAYOUT_NUMBER, LEG_FLAG, LEVELS, MOST_LEVELS, REMEMBERED, ROOT,
@@ -28,13 +30,29 @@ fn told(table: &[u8]) -> Vec<String> {
     faults.iter().map(ToString::to_string).collect()
 }
 
-/// Whether the table is sound: three programs say the same.
-fn agreed(table: &[u8]) -> bool {
+/// The number that the table is refused with, none where it is sound: three programs say the same.
+fn verdict(table: &[u8]) -> Option<u32> {
     let told = told(table);
-    let taken = Service::take_up(table.to_vec()).is_ok();
-    assert_eq!(taken, told.is_empty(), "{told:?}");
-    assert_eq!(taken, broken_rules(table).is_empty());
-    taken
+    let refused = Service::take_up(table.to_vec()).err();
+    assert_eq!(refused, reason(&faults(table).unwrap()), "{told:?}");
+    assert_eq!(refused, number_of(&broken_rules(table)), "{told:?}");
+    assert_eq!(refused.is_none(), told.is_empty(), "{told:?}");
+    refused
+}
+
+/// Of a table of the right length that breaks these rules.
+fn number_of(broken: &[Rule]) -> Option<u32> {
+    let is_standing = |rule: &Rule| matches!(rule, Rule::LegOnGrid | Rule::StandingList);
+    match broken {
+        [] => None,
+        _ if broken.iter().all(is_standing) => Some(BROKEN_STANDING),
+        _ => Some(BROKEN_TABLE),
+    }
+}
+
+/// Whether the table is sound.
+fn agreed(table: &[u8]) -> bool {
+    verdict(table).is_none()
 }
 
 /// A sound table of any shape.
@@ -89,21 +107,25 @@ fn sound_tables_of_every_shape() {
 #[test]
 fn a_flipped_bit_in_every_field() {
     let mut random = Random::new(202);
-    let (mut refused, mut taken) = (0, 0);
+    let (mut refused, mut standing, mut taken) = (0, 0, 0);
     for count in [0, 1, 3, 9, 12, 40] {
         let table = any_sound(&mut random, count);
         for region in regions(&table) {
             for at in region.bytes {
                 let bits = if region.name == "stack" { 1 } else { 8 };
                 for _ in 0..bits {
-                    let agreed = agreed(&flipped(&table, at, random.index(8)));
-                    *if agreed { &mut taken } else { &mut refused } += 1;
+                    *match verdict(&flipped(&table, at, random.index(8))) {
+                        None => &mut taken,
+                        Some(BROKEN_STANDING) => &mut standing,
+                        Some(_) => &mut refused,
+                    } += 1;
                 }
             }
         }
     }
     // A leg that moves a little may have the same list, and a corner may stand anywhere.
-    assert!(refused > 10_000 && taken > 10, "{refused} {taken}");
+    let told = format!("{refused} {standing} {taken}");
+    assert!(refused > 10_000 && standing > 100 && taken > 10, "{told}");
 }
 
 #[test]
@@ -267,6 +289,7 @@ fn listed_on_earlier_grid(random: &mut Random, count: usize) -> Vec<u8> {
 fn agreed_on_earlier(table: &[u8]) -> bool {
     let told = told(table);
     assert!(told[0].starts_with("header: the number of an earlier layout: "));
+    assert_eq!(verdict(table), Some(BROKEN_TABLE));
     assert_eq!(dumped(table), told.len() == 1, "{told:?}");
     assert_eq!(earlier_list(table).unwrap(), None);
     told.len() == 1
