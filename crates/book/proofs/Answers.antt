@@ -14,14 +14,17 @@ use Rattle.limits.specs.Limits.{gridWidth, maxSites}
 use Rattle.grid.specs.declared.Position.{Position}
 use Rattle.grid.specs.declared.Leg.{Leg}
 use Rattle.grid.specs.Position.{OnGrid, LegOnGrid}
+use Rattle.readings.specs.declared.Location.{Location}
+use Rattle.readings.specs.declared.Location.the-variants.{InSteps}
+use Rattle.readings.specs.Location.{finiteIn, placed}
 use Rattle.split.specs.SplitList.{Entry}
 use Rattle.split.specs.SplitOf.{splitOf}
 use Rattle.book.specs.declared.Command.{Command}
 use Rattle.book.specs.declared.Command.the-variants.{Add, Remove, Move, List as ListOf, Stand, Print, Begin, Corner}
 use Rattle.book.specs.declared.Cause.{Cause}
-use Rattle.book.specs.declared.Cause.the-variants.{NumberZero, OffGrid, Held, NotHeld, Full, NoSite, NoLeg, NoTour}
+use Rattle.book.specs.declared.Cause.the-variants.{NumberZero, OffGrid, Held, NotHeld, Full, NoSite, NoLeg, NoTour, NotFinite}
 use Rattle.book.specs.Tour.{Tour, legTo, tourLeg, remembered, leftOut}
-use Rattle.book.specs.Book.{Book, sitesOf, listOf, holds}
+use Rattle.book.specs.Book.{Book, sitesOf, listOf, holds, change}
 use Rattle.book.specs.Reply.{Reply, done, refused, listed}
 use Rattle.book.specs.Answer.{Test, offGrid, legOffGrid, legless, tourless, tests, firstCause, accepted, answer}
 
@@ -63,33 +66,41 @@ leg-off l h = go (legOffGrid l) refl
     go true e = refl
     go false e = absurd (h (on-leg l e))
 
--- ---- 41: a site is added
+-- ---- 41 and 61: a site is added
 
-module _ (b : Book) (n : ℕ) (p : Position) where
+module _ (b : Book) (n : ℕ) (l : Location) where
   -- cause 1: the number is 0
-  pub answer-add-zero : n ≡ 0 → answer b (Add n p) ≡ refused NumberZero
+  pub answer-add-zero : n ≡ 0 → answer b (Add n l) ≡ refused NumberZero
   unfolding answer
   answer-add-zero z = rw (eq-eqb n 0 z) refl
 
-  -- cause 2: off the grid
-  pub answer-add-off : n ≢ 0 → ¬ OnGrid p → answer b (Add n p) ≡ refused OffGrid
-  unfolding answer
-  answer-add-off z g = rw (ne-eqb n 0 z, off-grid p g) refl
+  module _ (z : n ≢ 0) where
+    -- cause 11: a reading is not finite
+    pub answer-add-not-finite : finiteIn l ≡ false → answer b (Add n l) ≡ refused NotFinite
+    unfolding answer
+    answer-add-not-finite f = rw (ne-eqb n 0 z, f) refl
 
-  -- cause 3: the number is held
-  pub answer-add-held : n ≢ 0 → OnGrid p → holds n (b .lines) ≡ true → answer b (Add n p) ≡ refused Held
-  unfolding answer
-  answer-add-held z g h = rw (ne-eqb n 0 z, on-grid p g, h) refl
+    module _ (f : finiteIn l ≡ true) where
+      -- cause 2: off the grid
+      pub answer-add-off : ¬ OnGrid (placed l) → answer b (Add n l) ≡ refused OffGrid
+      unfolding answer
+      answer-add-off g = rw (ne-eqb n 0 z, f, off-grid (placed l) g) refl
 
-  -- cause 5: 512 sites are held
-  pub answer-add-full : n ≢ 0 → OnGrid p → holds n (b .lines) ≡ false → length (b .lines) ≡ maxSites → answer b (Add n p) ≡ refused Full
-  unfolding answer
-  answer-add-full z g h f = rw (ne-eqb n 0 z, on-grid p g, h, eq-eqb (length (b .lines)) maxSites f) refl
+      module _ (g : OnGrid (placed l)) where
+        -- cause 3: the number is held
+        pub answer-add-held : holds n (b .lines) ≡ true → answer b (Add n l) ≡ refused Held
+        unfolding answer
+        answer-add-held h = rw (ne-eqb n 0 z, f, on-grid (placed l) g, h) refl
 
-  -- no cause
-  pub answer-add-done : n ≢ 0 → OnGrid p → holds n (b .lines) ≡ false → length (b .lines) ≢ maxSites → answer b (Add n p) ≡ done
-  unfolding answer
-  answer-add-done z g h f = rw (ne-eqb n 0 z, on-grid p g, h, ne-eqb (length (b .lines)) maxSites f) refl
+        -- cause 5: 512 sites are held
+        pub answer-add-full : holds n (b .lines) ≡ false → length (b .lines) ≡ maxSites → answer b (Add n l) ≡ refused Full
+        unfolding answer
+        answer-add-full h k = rw (ne-eqb n 0 z, f, on-grid (placed l) g, h, eq-eqb (length (b .lines)) maxSites k) refl
+
+        -- no cause
+        pub answer-add-done : holds n (b .lines) ≡ false → length (b .lines) ≢ maxSites → answer b (Add n l) ≡ done
+        unfolding answer
+        answer-add-done h k = rw (ne-eqb n 0 z, f, on-grid (placed l) g, h, ne-eqb (length (b .lines)) maxSites k) refl
 
 -- ---- 44: a site is removed
 
@@ -109,28 +120,57 @@ module _ (b : Book) (n : ℕ) where
   unfolding answer
   answer-remove-done z h = rw (ne-eqb n 0 z, h) refl
 
--- ---- 4D: a site is moved
+-- ---- 4D and 6D: a site is moved
 
-module _ (b : Book) (n : ℕ) (p : Position) where
+module _ (b : Book) (n : ℕ) (l : Location) where
   -- cause 1: the number is 0
-  pub answer-move-zero : n ≡ 0 → answer b (Move n p) ≡ refused NumberZero
+  pub answer-move-zero : n ≡ 0 → answer b (Move n l) ≡ refused NumberZero
   unfolding answer
   answer-move-zero z = rw (eq-eqb n 0 z) refl
 
-  -- cause 2: off the grid
-  pub answer-move-off : n ≢ 0 → ¬ OnGrid p → answer b (Move n p) ≡ refused OffGrid
-  unfolding answer
-  answer-move-off z g = rw (ne-eqb n 0 z, off-grid p g) refl
+  module _ (z : n ≢ 0) where
+    -- cause 11: a reading is not finite
+    pub answer-move-not-finite : finiteIn l ≡ false → answer b (Move n l) ≡ refused NotFinite
+    unfolding answer
+    answer-move-not-finite f = rw (ne-eqb n 0 z, f) refl
 
-  -- cause 4: the number is not held
-  pub answer-move-absent : n ≢ 0 → OnGrid p → holds n (b .lines) ≡ false → answer b (Move n p) ≡ refused NotHeld
-  unfolding answer
-  answer-move-absent z g h = rw (ne-eqb n 0 z, on-grid p g, h) refl
+    module _ (f : finiteIn l ≡ true) where
+      -- cause 2: off the grid
+      pub answer-move-off : ¬ OnGrid (placed l) → answer b (Move n l) ≡ refused OffGrid
+      unfolding answer
+      answer-move-off g = rw (ne-eqb n 0 z, f, off-grid (placed l) g) refl
 
-  -- no cause
-  pub answer-move-done : n ≢ 0 → OnGrid p → holds n (b .lines) ≡ true → answer b (Move n p) ≡ done
+      module _ (g : OnGrid (placed l)) where
+        -- cause 4: the number is not held
+        pub answer-move-absent : holds n (b .lines) ≡ false → answer b (Move n l) ≡ refused NotHeld
+        unfolding answer
+        answer-move-absent h = rw (ne-eqb n 0 z, f, on-grid (placed l) g, h) refl
+
+        -- no cause
+        pub answer-move-done : holds n (b .lines) ≡ true → answer b (Move n l) ≡ done
+        unfolding answer
+        answer-move-done h = rw (ne-eqb n 0 z, f, on-grid (placed l) g, h) refl
+
+-- ---- FINITE READINGS ARE ANSWERED AS THEIR STEPS
+
+module _ (b : Book) (n : ℕ) (l : Location) (f : finiteIn l ≡ true) (p : Position) (is : placed l ≡ p) where
+  pub same-add : answer b (Add n l) ≡ answer b (Add n (InSteps p))
   unfolding answer
-  answer-move-done z g h = rw (ne-eqb n 0 z, on-grid p g, h) refl
+  same-add = rw (f, is) refl
+
+  pub same-move : answer b (Move n l) ≡ answer b (Move n (InSteps p))
+  unfolding answer
+  same-move = rw (f, is) refl
+
+-- and do what their steps do
+module _ (b : Book) (n : ℕ) (l : Location) (p : Position) (is : placed l ≡ p) where
+  pub same-added : change (Add n l) b ≡ change (Add n (InSteps p)) b
+  unfolding change
+  same-added = rw is refl
+
+  pub same-moved : change (Move n l) b ≡ change (Move n (InSteps p)) b
+  unfolding change
+  same-moved = rw is refl
 
 -- ---- 4C: the split list of a leg
 

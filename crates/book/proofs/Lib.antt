@@ -11,3 +11,4 @@ pub mod Hearing
 pub mod Tours
 pub mod Refill
 pub mod Prefixes
+pub mod Written

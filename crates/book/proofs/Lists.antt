@@ -65,9 +65,9 @@ pub record BookList (b : Book) (c : Command) (es : List Entry) : Type 0 where
 
 -- what a command shows is the end of the list
 pub shown-ends : (b : Book) (c : Command) (es : List Entry) → EndOf (shownBy b c es) es
-shown-ends b (Add n p) es = left-ends none es
+shown-ends b (Add n l) es = left-ends none es
 shown-ends b (Remove n) es = left-ends none es
-shown-ends b (Move n p) es = left-ends none es
+shown-ends b (Move n l) es = left-ends none es
 shown-ends b (ListOf l) es = left-ends none es
 shown-ends b (Stand l) es = left-ends none es
 shown-ends b Print es = left-ends none es
@@ -89,9 +89,9 @@ module _ (b : Book) (ok : Proper b) where
 
   -- A LISTED ANSWER is what the command shows of document 01's split list of its leg over the book's sites
   pub answer-list : (c : Command) (es : List Entry) → answer b c ≡ listed es → BookList b c es
-  answer-list (Add n p) es h = absurd (done-not-listed es (accepted-listed b (Add n p) es h))
+  answer-list (Add n l) es h = absurd (done-not-listed es (accepted-listed b (Add n l) es h))
   answer-list (Remove n) es h = absurd (done-not-listed es (accepted-listed b (Remove n) es h))
-  answer-list (Move n p) es h = absurd (done-not-listed es (accepted-listed b (Move n p) es h))
+  answer-list (Move n l) es h = absurd (done-not-listed es (accepted-listed b (Move n l) es h))
   answer-list (ListOf l) es h =
       let f : ListFits b l es = list-accepted b l es h in
       record { leg = l; asked = refl; is = f .is; onGrid = f .onGrid }

@@ -4,13 +4,14 @@ use mathlib.Core.Path.{_≡_, refl, sym, ap, _∙_, subst, subst⁻¹}
 use mathlib.Core.Bool.{Bool, true, false, cond}
 use mathlib.Core.Option.{Option, none, some}
 use mathlib.Core.List.{List, [], _∷_, _++_, append-assoc, append-nil}
-use Prim.Native.Nat.{ℕ, zero, suc, _+_, _≤_, _<_}
+use Prim.Native.Nat.{ℕ, zero, suc, _+_, _*_, _≤_, _<_}
 use native.Mathlib.Omega.{arith}
 use lib.ListN.{length, getD, length-append, List·getD-append}
 use lib.Dec.{leb, ltb}
 use borrow.Author.Tests.{ltb-false, leb-true, leb-false, le-ltb, lt-leb}
 use Rattle.words.specs.Words.{wordAt}
 use Rattle.grid.specs.Coordinate.{fromWord}
+use Rattle.readings.specs.Location.{longAt, numberOf, readingAt}
 use Rattle.book.specs.declared.Command.{Command}
 use Rattle.book.specs.declared.Parsed.{Parsed}
 use Rattle.book.specs.declared.Parsed.the-variants.{End, Unknown, Cut, Whole}
@@ -18,7 +19,7 @@ use Rattle.book.specs.declared.Reason.{Reason}
 use Rattle.book.specs.declared.Reason.the-variants.{AllUsed, UnknownCommand, CutShort, NoRoom}
 use Rattle.book.specs.Numbers.{reasonNumber}
 use Rattle.book.specs.declared.Shape.{Shape}
-use Rattle.book.specs.declared.Shape.the-variants.{Nothing, Number, OnePosition, NumberPosition, TwoPositions}
+use Rattle.book.specs.declared.Shape.the-variants.{Nothing, Number, OnePosition, NumberPosition, TwoPositions, NumberReadings}
 use Rattle.book.specs.Command.{Maker, operandBytes, positionAt, legAt, madeAt, Form, formBytes, formOf, whole, commandAt, parseAt}
 use Rattle.book.specs.Book.{Book}
 use Rattle.book.specs.Encode.{commandBytes}
@@ -49,12 +50,21 @@ module _ (s more : List ℕ) where
   leg-front : (i : ℕ) → i + 8 ≤ length s → legAt (s ++ more) i ≡ legAt s i
   leg-front i h = λ j. record { s = position-front i (omega arith) j; e = position-front (i + 4) (omega arith) j }
 
-  made-front : (x : Shape) (f : Maker x) (i : ℕ) → i + operandBytes x ≤ length s → madeAt x f (s ++ more) i ≡ madeAt x f s i
+  long-front : (i : ℕ) → i + 4 ≤ length s → longAt (s ++ more) i ≡ longAt s i
+  unfolding longAt
+  long-front i h = λ j. word-front i (omega arith) j + 65536 * word-front (i + 2) (omega arith) j
+
+  reading-front : (i : ℕ) → i + 8 ≤ length s → readingAt (s ++ more) i ≡ readingAt s i
+  reading-front i h =
+      λ j. record { easting = numberOf (long-front i (omega arith) j); northing = numberOf (long-front (i + 4) (omega arith) j) }
+
+  pub made-front : (x : Shape) (f : Maker x) (i : ℕ) → i + operandBytes x ≤ length s → madeAt x f (s ++ more) i ≡ madeAt x f s i
   made-front Nothing f i h = refl
   made-front Number f i h = ap f (word-front i h)
   made-front OnePosition f i h = ap f (position-front i h)
   made-front NumberPosition f i h = λ j. f (word-front i (omega arith) j) (position-front (i + 2) (omega arith) j)
   made-front TwoPositions f i h = ap f (leg-front i h)
+  made-front NumberReadings f i h = λ j. f (word-front i (omega arith) j) (reading-front (i + 2) (omega arith) j)
 
   -- A WHOLE COMMAND STAYS, whatever stands behind it
   pub parse-front : (at : ℕ) (d : Command) (next : ℕ) → parseAt s at ≡ Whole d next → parseAt (s ++ more) at ≡ Whole d next

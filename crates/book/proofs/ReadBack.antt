@@ -1,9 +1,11 @@
 -- The bytes of commands are read back, wherever they stand; and a call on them takes the commands in turn.
 -- Assumes nothing.
 use mathlib.Core.Path.{_≡_, refl, sym, ap, _∙_, subst}
+use mathlib.Core.Logic.{_≢_}
+use mathlib.Core.Bool.{Bool, false}
 use mathlib.Core.List.{List, [], _∷_, _++_, append-assoc, append-nil}
 use mathlib.Core.Option.{some}
-use Prim.Native.Nat.{ℕ, _+_, _*_, _/_, _%_, _≤_, _<_}
+use Prim.Native.Nat.{ℕ, _+_, _*_, _/_, _%_, _^_, _≤_, _<_}
 use native.Mathlib.Nat.{add-assoc, zero-add}
 use native.Mathlib.Omega.{arith}
 use lib.ListN.{length, length-append}
@@ -13,16 +15,25 @@ use Rattle.grid.specs.declared.Position.{Position}
 use Rattle.grid.specs.declared.Leg.{Leg}
 use Rattle.grid.specs.Coordinate.{fromWord, toWord}
 use Rattle.grid.proofs.Signed.{word-of}
+use lib.Dec.{T}
+use lib.Ieee.{Float, nan, inf, fin, binary32, fits, toBits, ofBits}
+use lib.Ieee.Bits.{ofBits-toBits, toBits-lt}
+use lib.Ieee.Scale.{finite}
+use Rattle.readings.specs.declared.Reading.{Reading}
+use Rattle.readings.specs.declared.Location.the-variants.{InSteps, InMetres}
+use Rattle.readings.specs.Reading.{finite?}
+use Rattle.readings.specs.Location.{longAt, numberOf, readingAt}
+use Rattle.readings.proofs.Patterns.{finite-pattern, number-finite, number-not}
 use Rattle.records.specs.Bytes.{bytes2}
-use Rattle.records.proofs.ReadBack.{bytes2-hold}
+use Rattle.records.proofs.ReadBack.{bytes2-hold, bytes4-hold}
 use Rattle.book.specs.declared.Command.{Command}
 use Rattle.book.specs.declared.Command.the-variants.{Add, Remove, Move, List as ListOf, Stand, Print, Begin, Corner}
 use Rattle.book.specs.declared.Parsed.the-variants.{End, Whole}
 use Rattle.book.specs.declared.Reason.the-variants.{AllUsed, NoRoom}
 use Rattle.book.specs.declared.Shape.{Shape}
-use Rattle.book.specs.declared.Shape.the-variants.{Nothing, Number, OnePosition, NumberPosition, TwoPositions}
-use Rattle.book.specs.Command.{Maker, operandBytes, positionAt, legAt, madeAt, Form, form, formBytes, formOf, parseAt}
-use Rattle.book.specs.Encode.{positionBytes, legBytes, commandBytes}
+use Rattle.book.specs.declared.Shape.the-variants.{Nothing, Number, OnePosition, NumberPosition, TwoPositions, NumberReadings}
+use Rattle.book.specs.Command.{Maker, operandBytes, positionAt, legAt, madeAt, addAt, moveTo, addSurveyed, moveSurveyed, Form, form, formBytes, formOf, parseAt}
+use Rattle.book.specs.Encode.{positionBytes, readingBytes, legBytes, commandBytes}
 use Rattle.book.specs.Book.{Book}
 use Rattle.book.specs.Reply.{recordOf}
 use Rattle.book.specs.Answer.{answer, after}
@@ -35,11 +46,23 @@ pub record PositionSmall (p : Position) : Type 0 where
   pub east : p .east < 65536
   pub north : p .north < 65536
 
+-- a 32-bit pattern holds it, and is read as it: a finite number, or none. An infinity's is read as no number
+pub record NumberFits (x : Float) : Type 0 where
+  pub fit : T (fits binary32 x)
+  pub no-infinity : (s : Bool) → x ≢ inf s
+
+-- two of them hold the readings
+pub record ReadingFits (r : Reading) : Type 0 where
+  pub easting : NumberFits (r .easting)
+  pub northing : NumberFits (r .northing)
+
 -- the command's fields hold its operands
 abbrev pub Encodable : Command → Type 0
-Encodable (Add n p) = (n < 65536) × PositionSmall p
+Encodable (Add n (InSteps p)) = (n < 65536) × PositionSmall p
+Encodable (Add n (InMetres r)) = (n < 65536) × ReadingFits r
 Encodable (Remove n) = n < 65536
-Encodable (Move n p) = (n < 65536) × PositionSmall p
+Encodable (Move n (InSteps p)) = (n < 65536) × PositionSmall p
+Encodable (Move n (InMetres r)) = (n < 65536) × ReadingFits r
 Encodable (ListOf l) = PositionSmall (l .s) × PositionSmall (l .e)
 Encodable (Stand l) = PositionSmall (l .s) × PositionSmall (l .e)
 Encodable Print = Unit {0}
@@ -61,6 +84,17 @@ leg-behind : (pre s : List ℕ) (i : ℕ) → legAt (pre ++ s) (length pre + i) 
 leg-behind pre s i =
     let e : length pre + i + 4 ≡ length pre + (i + 4) = omega arith in
     λ j. record { s = position-behind pre s i j; e = (ap (positionAt (pre ++ s)) e ∙ position-behind pre s (i + 4)) j }
+
+long-behind : (pre s : List ℕ) (i : ℕ) → longAt (pre ++ s) (length pre + i) ≡ longAt s i
+unfolding longAt
+long-behind pre s i =
+    let e : length pre + i + 2 ≡ length pre + (i + 2) = omega arith in
+    λ j. word-behind pre s i j + 65536 * (ap (wordAt (pre ++ s)) e ∙ word-behind pre s (i + 2)) j
+
+reading-behind : (pre s : List ℕ) (i : ℕ) → readingAt (pre ++ s) (length pre + i) ≡ readingAt s i
+reading-behind pre s i =
+    let e : length pre + i + 4 ≡ length pre + (i + 4) = omega arith in
+    λ j. record { easting = numberOf (long-behind pre s i j); northing = numberOf ((ap (longAt (pre ++ s)) e ∙ long-behind pre s (i + 4)) j) }
 
 word-small : (x : ℕ) → toWord x < 65536
 unfolding toWord
@@ -89,10 +123,34 @@ leg-back x l t g h = λ j. record {
   e = record { east = coordinate-back (l .e .east) (h .east) j; north = coordinate-back (l .e .north) (h .north) j };
 }
 
+-- a reading, read from its bytes
+none-finite : finite? (toBits binary32 nan) ≡ false
+unfolding toBits
+none-finite = refl
+
+number-kept : (x : Float) → NumberFits x → numberOf (toBits binary32 x) ≡ x
+number-kept nan h = number-not (toBits binary32 nan) none-finite
+number-kept (inf s) h = absurd (h .no-infinity s refl)
+number-kept (fin s m e) h =
+    let b : ofBits binary32 (toBits binary32 (fin s m e)) ≡ fin s m e = ofBits-toBits binary32 (fin s m e) (h .fit) in
+    number-finite (toBits binary32 (fin s m e)) (subst T (sym (sym (finite-pattern (toBits binary32 (fin s m e))) ∙ ap finite b)) tt) ∙ b
+
+long-back : (b : ℕ) → b < 2 ^ 32 → b % 256 + 256 * (b / 256 % 256) + 65536 * (b / 65536 % 256 + 256 * (b / 16777216 % 256)) ≡ b
+long-back b h = omega (arith, bytes4-hold b h)
+
+number-read : (x : Float) → NumberFits x
+    → numberOf (toBits binary32 x % 256 + 256 * (toBits binary32 x / 256 % 256)
+    + 65536 * (toBits binary32 x / 65536 % 256 + 256 * (toBits binary32 x / 16777216 % 256))) ≡ x
+number-read x h = ap numberOf (long-back (toBits binary32 x) (toBits-lt binary32 x (h .fit))) ∙ number-kept x h
+
+reading-back : (x y z : ℕ) (r : Reading) (t : List ℕ) → ReadingFits r → readingAt (x ∷ y ∷ z ∷ readingBytes r ++ t) 3 ≡ r
+unfolding longAt wordAt
+reading-back x y z r t h = λ j. record { easting = number-read (r .easting) (h .easting) j; northing = number-read (r .northing) (h .northing) j }
+
 -- ---- commands
 
 -- what is made of operands behind other bytes
-made-behind : (x : Shape) (f : Maker x) (pre s : List ℕ) (i : ℕ) → madeAt x f (pre ++ s) (length pre + i) ≡ madeAt x f s i
+pub made-behind : (x : Shape) (f : Maker x) (pre s : List ℕ) (i : ℕ) → madeAt x f (pre ++ s) (length pre + i) ≡ madeAt x f s i
 made-behind Nothing f pre s i = refl
 made-behind Number f pre s i = ap f (word-behind pre s i)
 made-behind OnePosition f pre s i = ap f (position-behind pre s i)
@@ -100,6 +158,9 @@ made-behind NumberPosition f pre s i =
     let e : length pre + i + 2 ≡ length pre + (i + 2) = omega arith in
     λ j. f (word-behind pre s i j) ((ap (positionAt (pre ++ s)) e ∙ position-behind pre s (i + 2)) j)
 made-behind TwoPositions f pre s i = ap f (leg-behind pre s i)
+made-behind NumberReadings f pre s i =
+    let e : length pre + i + 2 ≡ length pre + (i + 2) = omega arith in
+    λ j. f (word-behind pre s i j) ((ap (readingAt (pre ++ s)) e ∙ reading-behind pre s (i + 2)) j)
 
 module _ (pre : List ℕ) (t : List ℕ) where
   -- a mark and its operands, whatever their shape
@@ -134,17 +195,49 @@ module _ (pre : List ℕ) (t : List ℕ) where
       ≡ Whole (f l) (length pre + formBytes (form m TwoPositions f))
   two-positions-behind m f e l h = behind m (legBytes l) (form m TwoPositions f) e refl (f l) (ap f (leg-back m l t (h .0) (h .1)))
 
+  number-readings-behind : (m : ℕ) (f : Maker NumberReadings) → formOf m ≡ some (form m NumberReadings f)
+      → (n : ℕ) (r : Reading) → (n < 65536) × ReadingFits r
+      → parseAt (pre ++ (m ∷ bytes2 n ++ readingBytes r ++ t)) (length pre)
+      ≡ Whole (f n r) (length pre + formBytes (form m NumberReadings f))
+  number-readings-behind m f e n r h =
+      behind m (bytes2 n ++ readingBytes r) (form m NumberReadings f) e refl (f n r)
+      (λ j. f (number-back m n (readingBytes r ++ t) (h .0) j) (reading-back m (n % 256) (n / 256 % 256) r t (h .1) j))
+
   -- A COMMAND IS READ BACK, with whatever bytes before it and behind it
   pub read-back : (c : Command) → Encodable c → parseAt (pre ++ (commandBytes c ++ t)) (length pre) ≡ Whole c (length pre + length (commandBytes c))
   unfolding formOf
-  read-back (Add n p) h = number-position-behind 0x41 Add refl n p h
+  read-back (Add n (InSteps p)) h = number-position-behind 0x41 addAt refl n p h
+  read-back (Add n (InMetres r)) h = number-readings-behind 0x61 addSurveyed refl n r h
   read-back (Remove n) h = number-behind 0x44 Remove refl n h
-  read-back (Move n p) h = number-position-behind 0x4D Move refl n p h
+  read-back (Move n (InSteps p)) h = number-position-behind 0x4D moveTo refl n p h
+  read-back (Move n (InMetres r)) h = number-readings-behind 0x6D moveSurveyed refl n r h
   read-back (ListOf l) h = two-positions-behind 0x4C ListOf refl l h
   read-back (Stand l) h = two-positions-behind 0x53 Stand refl l h
   read-back Print h = behind 0x50 [] (form 0x50 Nothing Print) refl refl Print refl
   read-back (Begin p) h = one-position-behind 0x42 Begin refl p h
   read-back (Corner p) h = one-position-behind 0x43 Corner refl p h
+
+-- what 61 and 6D are in bytes: site 1 at 150 m and negative zero, site 258 moved to what is no number and -250 m
+pub surveyed-bytes : commandBytes (addSurveyed 1 (record { easting = numberOf 0x43160000; northing = numberOf 0x80000000 }))
+    ≡ 0x61 ∷ 1 ∷ 0 ∷ 0 ∷ 0 ∷ 0x16 ∷ 0x43 ∷ 0 ∷ 0 ∷ 0 ∷ 0x80 ∷ []
+unfolding numberOf ofBits toBits
+surveyed-bytes = refl
+
+pub resurveyed-bytes : commandBytes (moveSurveyed 258 (record { easting = numberOf 0xFFC00001; northing = numberOf 0xC37A0000 }))
+    ≡ 0x6D ∷ 2 ∷ 1 ∷ 0 ∷ 0 ∷ 0xC0 ∷ 0x7F ∷ 0 ∷ 0 ∷ 0x7A ∷ 0xC3 ∷ []
+unfolding numberOf ofBits toBits
+resurveyed-bytes = refl
+
+-- and they can be read back
+pub surveyed-encodable : Encodable (addSurveyed 1 (record { easting = numberOf 0x43160000; northing = numberOf 0x80000000 }))
+unfolding numberOf ofBits fits
+surveyed-encodable = (
+  omega arith,
+  record {
+    easting = record { fit = tt; no-infinity = λ s e. let z : _≡_ {A = ℕ} 0 1 = cc in omega arith };
+    northing = record { fit = tt; no-infinity = λ s e. let z : _≡_ {A = ℕ} 0 1 = cc in omega arith };
+  },
+)
 
 -- a command alone
 pub read-one : (c : Command) → Encodable c → parseAt (commandBytes c) 0 ≡ Whole c (length (commandBytes c))

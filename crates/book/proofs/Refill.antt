@@ -11,6 +11,7 @@ use borrow.Author.Tests.{ne-eqb}
 use Rattle.limits.specs.Limits.{maxSites}
 use Rattle.grid.specs.declared.Site.{Site}
 use Rattle.split.specs.SplitList.{SitesOnGrid}
+use Rattle.readings.specs.declared.Location.the-variants.{InSteps}
 use Rattle.book.specs.declared.Command.{Command}
 use Rattle.book.specs.declared.Command.the-variants.{Add}
 use Rattle.book.specs.declared.Reason.the-variants.{AllUsed}
@@ -44,7 +45,7 @@ Roomy (x ∷ xs) = (length (x .sites) ≤ x .room) × Roomy xs
 
 -- an addition that is accepted
 abbrev pub doneTurn : Site → Turn
-doneTurn p = record { command = Add (p .number) (p .position); reply = done }
+doneTurn p = record { command = Add (p .number) (InSteps (p .position)); reply = done }
 
 -- all of a call's additions are accepted
 pub record AllDone (x : Batch) (o : Outcome) : Type 0 where
@@ -69,7 +70,7 @@ legFree s = record { lines = s; leg = none; tour = none }
 -- ---- one call
 
 abbrev addOf : Site → Command
-addOf p = Add (p .number) (p .position)
+addOf p = Add (p .number) (InSteps (p .position))
 
 -- the sites s may be added to the lines a, one after the other
 record Fillable (a s : List Site) : Type 0 where
@@ -89,10 +90,10 @@ fillable-next a p s h =
       few = rw write-length (omega (arith, h .few));
     }
 
-add-done : (a : List Site) (p : Site) (s : List Site) → Fillable a (p ∷ s) → answer (legFree a) (Add (p .number) (p .position)) ≡ done
+add-done : (a : List Site) (p : Site) (s : List Site) → Fillable a (p ∷ s) → answer (legFree a) (Add (p .number) (InSteps (p .position))) ≡ done
 add-done a p s h =
     let m : List·Memᴰ p (p ∷ s) = List·Memᴰ·head refl in
-    answer-add-done (legFree a) (p .number) (p .position) (omega (arith, h .numbers p m .least)) (h .onGrid p m) (h .new p m) (omega (arith, h .few))
+    answer-add-done (legFree a) (p .number) (InSteps (p .position)) (omega (arith, h .numbers p m .least)) refl (h .onGrid p m) (h .new p m) (omega (arith, h .few))
 
 -- the sites x were added, and the rest still may be
 record Filled (a x rest : List Site) : Type 0 where
@@ -116,7 +117,7 @@ fill (p ∷ x) rest a h =
 
 bytes-of : (x : List Site) → allBytes (map addOf x) ≡ additions x
 bytes-of [] = refl
-bytes-of (p ∷ x) = ap (λ (y : List ℕ). commandBytes (Add (p .number) (p .position)) ++ y) (bytes-of x)
+bytes-of (p ∷ x) = ap (λ (y : List ℕ). commandBytes (Add (p .number) (InSteps (p .position))) ++ y) (bytes-of x)
 
 encodable : (x : List Site) → ((p : Site) → List·Memᴰ p x → NumberOk p) → SitesOnGrid x → AllEncodable (map addOf x)
 encodable [] h g = tt

@@ -8,8 +8,6 @@ use Prim.Native.Nat.{ℕ}
 use native.Mathlib.Omega.{arith}
 use lib.ListN.{length}
 use Rattle.grid.specs.declared.Position.{Position}
-use Rattle.grid.specs.declared.Fraction.{Fraction}
-use Rattle.grid.specs.Fraction.{IsFraction}
 use Rattle.split.specs.SplitList.{Entry, IsSplitList, nameFrom}
 use Rattle.split.specs.SplitOf.{splitOf}
 use Rattle.split.proofs.Exists.{split-is}
@@ -22,7 +20,7 @@ use Rattle.book.specs.Proper.{TourFits, TourOk, Proper}
 use Rattle.book.specs.Reply.{Reply, done, refused, listed}
 use Rattle.book.specs.Answer.{answer, after}
 use Rattle.book.specs.Run.{Turn, afterAll}
-use Rattle.book.specs.Listener.{Told, saidList, Exchange, Trip, onward, hear, hearAll, afterTold, afterHeard, lastHeard, saidAt, ToldAt, LegTold, heardLeg}
+use Rattle.book.specs.Listener.{saidList, Exchange, Trip, onward, hear, hearAll, afterTold, afterHeard, lastHeard, saidAt, LegTold, heardLeg}
 use Rattle.book.proofs.Answers.{answer-list-done, done-not-listed, accepted-listed, CornerFits, corner-accepted, corner-not-done}
 use Rattle.book.proofs.ProperBooks.{proper-numbered}
 use Rattle.book.proofs.LegRecords.{last-read, last-append, left-last, left-said, opens-some}
@@ -65,9 +63,9 @@ module _ (b : Book) (ok : Proper b) where
 
     done-heard : (c : Command) → answer b c ≡ done → change c b .tour ≡ asTour (hear h c (toldOf done))
     unfolding change
-    done-heard (Add n p) a = refl
+    done-heard (Add n l) a = refl
     done-heard (Remove n) a = refl
-    done-heard (Move n p) a = refl
+    done-heard (Move n l) a = refl
     done-heard (ListOf l) a = e
     done-heard (Stand l) a = e
     done-heard Print a = e
@@ -76,9 +74,9 @@ module _ (b : Book) (ok : Proper b) where
 
     listed-heard : (c : Command) (es : List Entry) → answer b c ≡ listed es → change c b .tour ≡ asTour (hear h c (toldOf (listed es)))
     unfolding change
-    listed-heard (Add n p) es a = absurd (done-not-listed es (accepted-listed b (Add n p) es a))
+    listed-heard (Add n l) es a = absurd (done-not-listed es (accepted-listed b (Add n l) es a))
     listed-heard (Remove n) es a = absurd (done-not-listed es (accepted-listed b (Remove n) es a))
-    listed-heard (Move n p) es a = absurd (done-not-listed es (accepted-listed b (Move n p) es a))
+    listed-heard (Move n l) es a = absurd (done-not-listed es (accepted-listed b (Move n l) es a))
     listed-heard (ListOf l) es a = e
     listed-heard (Stand l) es a = absurd (done-not-listed es (accepted-listed b (Stand l) es a))
     listed-heard Print es a = e

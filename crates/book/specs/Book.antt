@@ -10,6 +10,7 @@ use lib.Dec.{eqb, ltb}
 use Rattle.grid.specs.declared.Position.{Position}
 use Rattle.grid.specs.declared.Site.{Site}
 use Rattle.grid.specs.declared.Leg.{Leg}
+use Rattle.readings.specs.Location.{placed}
 use Rattle.split.specs.SplitList.{Entry}
 use Rattle.split.specs.SplitOf.{splitOf}
 use Rattle.book.specs.declared.Command.{Command}
@@ -27,7 +28,7 @@ pub record Book : Type 0 where
 abbrev pub emptyBook : Book
 emptyBook = record { lines = []; leg = none; tour = none }
 
--- the book with other lines: "An accepted 41, 44 or 4D ends the tour."
+-- the book with other lines: "An accepted 41, 44 or 4D ends the tour.", and so do 61 and 6D
 abbrev pub withLines : List Site → Book → Book
 withLines s b = record { lines = s; leg = b .leg; tour = none }
 
@@ -69,11 +70,11 @@ listOf none s = []
 listOf (some l) s = splitOf l s
 
 -- "41 writes a line, 44 strikes it, 4D gives it the new position, 53 sets the leg"; document 02, C-13: 42 "begins a
--- tour", and with 43 it goes on
+-- tour", and with 43 it goes on; C-15: "61 and 6D do what 41 and 4D do", with the step that each reading goes to
 unfoldable pub change : Command → Book → Book
-change (Add n p) b = withLines (writeLine (record { number = n; position = p }) (b .lines)) b
+change (Add n l) b = withLines (writeLine (record { number = n; position = placed l }) (b .lines)) b
 change (Remove n) b = withLines (strikeLine n (b .lines)) b
-change (Move n p) b = withLines (moveLine n p (b .lines)) b
+change (Move n l) b = withLines (moveLine n (placed l) (b .lines)) b
 change (ListOf l) b = b
 change (Stand l) b = withLeg l b
 change Print b = b

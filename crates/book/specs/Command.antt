@@ -1,5 +1,6 @@
 -- Command bytes. Document 01, "Buffers and batches": the table of commands, and "Multi-byte numbers stand lowest byte
--- first; positions are two signed 16-bit numbers, site numbers unsigned 16-bit".
+-- first; positions are two signed 16-bit numbers, site numbers unsigned 16-bit". Document 02, C-15: 61 and 6D have "the
+-- position as two 32-bit IEEE 754 numbers in metres from the grid's origin".
 -- Assumes nothing.
 use mathlib.Core.List.{List, [], _∷_}
 use mathlib.Core.Option.{Option, none, some}
@@ -11,11 +12,15 @@ use Rattle.words.specs.Words.{wordAt}
 use Rattle.grid.specs.declared.Position.{Position}
 use Rattle.grid.specs.declared.Leg.{Leg}
 use Rattle.grid.specs.Coordinate.{wordPosition}
+use Rattle.readings.specs.declared.Reading.{Reading}
+use Rattle.readings.specs.declared.Location.the-variants.{InSteps, InMetres}
+use Rattle.readings.specs.Location.{readingAt}
 use Rattle.book.specs.declared.Command.{Command}
 use Rattle.book.specs.declared.Command.the-variants.{Add, Remove, Move, List as ListOf, Stand, Print}
 use Rattle.book.specs.declared.Command.the-variants.{Begin, Corner}
 use Rattle.book.specs.declared.Shape.{Shape}
 use Rattle.book.specs.declared.Shape.the-variants.{Nothing, Number, OnePosition, NumberPosition, TwoPositions}
+use Rattle.book.specs.declared.Shape.the-variants.{NumberReadings}
 use Rattle.book.specs.declared.Parsed.{Parsed}
 use Rattle.book.specs.declared.Parsed.the-variants.{End, Unknown, Cut, Whole}
 
@@ -28,14 +33,16 @@ Maker Number = ℕ → Command
 Maker OnePosition = Position → Command
 Maker NumberPosition = ℕ → Position → Command
 Maker TwoPositions = Leg → Command
+Maker NumberReadings = ℕ → Reading → Command
 
--- the bytes that they take: a number 2, a position 4
+-- the bytes that they take: a number 2, a position 4, two readings 8
 abbrev pub operandBytes : Shape → ℕ
 operandBytes Nothing = 0
 operandBytes Number = 2
 operandBytes OnePosition = 4
 operandBytes NumberPosition = 6
 operandBytes TwoPositions = 8
+operandBytes NumberReadings = 10
 
 -- the position at byte i
 abbrev pub positionAt : List ℕ → ℕ → Position
@@ -52,6 +59,7 @@ madeAt Number f s i = f (wordAt s i)
 madeAt OnePosition f s i = f (positionAt s i)
 madeAt NumberPosition f s i = f (wordAt s i) (positionAt s (i + 2))
 madeAt TwoPositions f s i = f (legAt s i)
+madeAt NumberReadings f s i = f (wordAt s i) (readingAt s (i + 2))
 
 -- ---- the table of commands
 
@@ -65,17 +73,34 @@ pub record Form : Type 0 where
 abbrev pub form : ℕ → (x : Shape) → Maker x → Form
 form m x f = record { mark = m; shape = x; maker = f }
 
--- document 01's table: "Command", "Operands", "Meaning"; behind it the commands of document 02: C-13's 42 and 43
+-- "A position is from then on either steps or a pair of receiver readings" (C-15): 41 and 4D have steps
+abbrev pub addAt : ℕ → Position → Command
+addAt n p = Add n (InSteps p)
+
+abbrev pub moveTo : ℕ → Position → Command
+moveTo n p = Move n (InSteps p)
+
+-- 61 and 6D have readings
+abbrev pub addSurveyed : ℕ → Reading → Command
+addSurveyed n r = Add n (InMetres r)
+
+abbrev pub moveSurveyed : ℕ → Reading → Command
+moveSurveyed n r = Move n (InMetres r)
+
+-- document 01's table: "Command", "Operands", "Meaning"; behind it the commands of document 02: C-13's 42 and 43, and
+-- C-15's 61 and 6D
 abbrev pub commandTable : List Form
 commandTable =
-    form 0x41 NumberPosition Add
+    form 0x41 NumberPosition addAt
     ∷ form 0x44 Number Remove
-    ∷ form 0x4D NumberPosition Move
+    ∷ form 0x4D NumberPosition moveTo
     ∷ form 0x4C TwoPositions ListOf
     ∷ form 0x53 TwoPositions Stand
     ∷ form 0x50 Nothing Print
     ∷ form 0x42 OnePosition Begin
     ∷ form 0x43 OnePosition Corner
+    ∷ form 0x61 NumberReadings addSurveyed
+    ∷ form 0x6D NumberReadings moveSurveyed
     ∷ []
 
 -- the bytes of a command of this form: its mark and its operands

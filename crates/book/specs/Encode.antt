@@ -6,7 +6,10 @@ use Rattle.grid.specs.declared.Position.{Position}
 use Rattle.grid.specs.declared.Site.{Site}
 use Rattle.grid.specs.declared.Leg.{Leg}
 use Rattle.grid.specs.Coordinate.{toWord}
-use Rattle.records.specs.Bytes.{bytes2}
+use lib.Ieee.{binary32, toBits}
+use Rattle.readings.specs.declared.Reading.{Reading}
+use Rattle.readings.specs.declared.Location.the-variants.{InSteps, InMetres}
+use Rattle.records.specs.Bytes.{bytes2, bytes4}
 use Rattle.book.specs.declared.Command.{Command}
 use Rattle.book.specs.declared.Command.the-variants.{Add, Remove, Move, List as ListOf, Stand, Print}
 use Rattle.book.specs.declared.Command.the-variants.{Begin, Corner}
@@ -15,15 +18,21 @@ use Rattle.book.specs.declared.Command.the-variants.{Begin, Corner}
 abbrev pub positionBytes : Position → List ℕ
 positionBytes p = bytes2 (toWord (p .east)) ++ bytes2 (toWord (p .north))
 
+-- two readings, each as the pattern of its number
+abbrev pub readingBytes : Reading → List ℕ
+readingBytes r = bytes4 (toBits binary32 (r .easting)) ++ bytes4 (toBits binary32 (r .northing))
+
 -- "S, E"
 abbrev pub legBytes : Leg → List ℕ
 legBytes l = positionBytes (l .s) ++ positionBytes (l .e)
 
 -- a command and its operands
 abbrev pub commandBytes : Command → List ℕ
-commandBytes (Add n p) = 0x41 ∷ bytes2 n ++ positionBytes p
+commandBytes (Add n (InSteps p)) = 0x41 ∷ bytes2 n ++ positionBytes p
+commandBytes (Add n (InMetres r)) = 0x61 ∷ bytes2 n ++ readingBytes r
 commandBytes (Remove n) = 0x44 ∷ bytes2 n
-commandBytes (Move n p) = 0x4D ∷ bytes2 n ++ positionBytes p
+commandBytes (Move n (InSteps p)) = 0x4D ∷ bytes2 n ++ positionBytes p
+commandBytes (Move n (InMetres r)) = 0x6D ∷ bytes2 n ++ readingBytes r
 commandBytes (ListOf l) = 0x4C ∷ legBytes l
 commandBytes (Stand l) = 0x53 ∷ legBytes l
 commandBytes Print = 0x50 ∷ []
@@ -33,4 +42,4 @@ commandBytes (Corner p) = 0x43 ∷ positionBytes p
 -- an addition for each site
 abbrev pub additions : List Site → List ℕ
 additions [] = []
-additions (p ∷ s) = commandBytes (Add (p .number) (p .position)) ++ additions s
+additions (p ∷ s) = commandBytes (Add (p .number) (InSteps (p .position))) ++ additions s

@@ -8,3 +8,4 @@ pub mod Reply
 pub mod Answer
 pub mod Run
 pub mod Listener
+pub mod WrittenOut

@@ -89,11 +89,12 @@ abbrev pub onward : Option Trip → Position → List Listed → Option Trip
 onward none p es = none
 onward (some k) p es = some (record { corner = p; entries = k .entries ++ es })
 
--- after a command that got 2B: "Command 42 .. begins a tour"; "An accepted 41, 44 or 4D ends the tour."
+-- after a command that got 2B: "Command 42 .. begins a tour"; "An accepted 41, 44 or 4D ends the tour.", and so do 61
+-- and 6D
 abbrev pub hearDone : Option Trip → Command → Option Trip
-hearDone o (Add n p) = none
+hearDone o (Add n l) = none
 hearDone o (Remove n) = none
-hearDone o (Move n p) = none
+hearDone o (Move n l) = none
 hearDone o (ListOf l) = o
 hearDone o (Stand l) = o
 hearDone o Print = o
@@ -103,9 +104,9 @@ hearDone o (Corner p) = o
 -- after one that got a list: that of a 43 is the next leg's. (No command but 4C, 50 and 43 gets a list, and a 43 no 2B;
 -- what these cases say is never asked.)
 abbrev pub hearList : Option Trip → Command → List Listed → Option Trip
-hearList o (Add n p) es = o
+hearList o (Add n l) es = o
 hearList o (Remove n) es = o
-hearList o (Move n p) es = o
+hearList o (Move n l) es = o
 hearList o (ListOf l) es = o
 hearList o (Stand l) es = o
 hearList o Print es = o

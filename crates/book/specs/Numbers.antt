@@ -1,10 +1,11 @@
--- The numbers of causes and reasons. Document 01, "Causes and numbers"; document 02 has 8 (C-13) and 69 (C-17).
+-- The numbers of causes and reasons. Document 01, "Causes and numbers"; document 02 has 8 (C-13), 11 (C-15)
+-- and 69 (C-17).
 -- `Cause` and `Reason` are the code's own enums (src/lib.rt).
 -- Assumes nothing.
 use Prim.Native.Nat.{ℕ}
 use Rattle.book.specs.declared.Cause.{Cause}
 use Rattle.book.specs.declared.Cause.the-variants.{NumberZero, OffGrid, Held, NotHeld, Full}
-use Rattle.book.specs.declared.Cause.the-variants.{NoSite, NoLeg, NoTour}
+use Rattle.book.specs.declared.Cause.the-variants.{NoSite, NoLeg, NoTour, NotFinite}
 use Rattle.book.specs.declared.Reason.{Reason}
 use Rattle.book.specs.declared.Reason.the-variants.{AllUsed, WrongLength, Broken, UnknownCommand}
 use Rattle.book.specs.declared.Reason.the-variants.{CutShort, NoRoom, BrokenStanding}
@@ -19,6 +20,7 @@ causeNumber Full = 5
 causeNumber NoSite = 6
 causeNumber NoLeg = 7
 causeNumber NoTour = 8
+causeNumber NotFinite = 11
 
 -- a reason's number
 abbrev pub reasonNumber : Reason → ℕ

@@ -2,12 +2,14 @@
 // stands in specs/.
 use grid::Leg;
 use grid::Position;
+use readings::Location;
 
-// A command with its operands. Document 01, "Buffers and batches"; the last two are those of document 02, C-13.
+// A command with its operands. Document 01, "Buffers and batches"; the last two are those of document 02, C-13. Added
+// and moved is to steps or to receiver readings: document 02, C-15, "Commands 61 and 6D do what 41 and 4D do".
 pub enum Command {
-    Add(u16, Position),
+    Add(u16, Location),
     Remove(u16),
-    Move(u16, Position),
+    Move(u16, Location),
     List(Leg),
     Stand(Leg),
     Print,
@@ -16,13 +18,14 @@ pub enum Command {
 }
 
 // The operands of a command. Document 01, the column "Operands": none; number; position; number,
-// position; S, E.
+// position; S, E; and a number with two receiver readings (document 02, C-15).
 pub enum Shape {
     Nothing,
     Number,
     OnePosition,
     NumberPosition,
     TwoPositions,
+    NumberReadings,
 }
 
 // What stands at a byte of the commands: their end, no command, a command that is cut short, or a whole one and where
@@ -34,7 +37,7 @@ pub enum Parsed {
     Whole(Command, usize),
 }
 
-// Why a command is refused. Document 01, "Causes and numbers", 1 to 7; document 02, C-13, 8.
+// Why a command is refused. Document 01, "Causes and numbers", 1 to 7; document 02, 8 (C-13) and 11 (C-15).
 pub enum Cause {
     NumberZero,
     OffGrid,
@@ -44,6 +47,7 @@ pub enum Cause {
     NoSite,
     NoLeg,
     NoTour,
+    NotFinite,
 }
 
 // How a call ends: 0, and 64 to 69.
@@ -80,6 +84,7 @@ pub fn cause_number(c: Cause) -> u8
         Cause::NoSite => 6,
         Cause::NoLeg => 7,
         Cause::NoTour => 8,
+        Cause::NotFinite => 11,
     }
 }
 

@@ -2,7 +2,7 @@
 -- Assumes nothing.
 use mathlib.Core.Path.{_≡_, refl, sym, ap, subst, subst⁻¹, _∙_}
 use mathlib.Core.Logic.{_≢_}
-use mathlib.Core.Bool.{Bool, true, false}
+use mathlib.Core.Bool.{Bool, true, false, cond}
 use mathlib.Core.List.{List}
 use mathlib.Core.Option.{some}
 use Prim.Native.Nat.{ℕ, _<_, _≤_}
@@ -14,15 +14,19 @@ use Rattle.grid.specs.declared.Leg.{Leg}
 use Rattle.grid.specs.Position.{OnGrid, LegOnGrid}
 use Rattle.grid.specs.Says.{Says}
 use Rattle.grid.proofs.Says.{says-yes, says-no}
+use Rattle.readings.specs.declared.Location.{Location}
+use Rattle.readings.specs.declared.Location.the-variants.{InSteps}
+use Rattle.readings.specs.declared.Located.{Located}
+use Rattle.readings.specs.Location.{finiteIn, placed, locatedAt}
 use Rattle.book.specs.declared.Cause.{Cause}
-use Rattle.book.specs.declared.Cause.the-variants.{NumberZero, OffGrid, Held, NotHeld, Full, NoSite, NoLeg, NoTour}
+use Rattle.book.specs.declared.Cause.the-variants.{NumberZero, OffGrid, Held, NotHeld, Full, NoSite, NoLeg, NoTour, NotFinite}
 use Rattle.book.specs.declared.Command.{Command}
 use Rattle.book.specs.declared.Command.the-variants.{Add, Remove, Move, List as ListOf, Stand, Print}
 use Rattle.book.specs.Book.{sitesOf}
 use Rattle.book.specs.Proper.{LegOk, NumberOk}
 use Rattle.book.specs.Reply.{refused, listed}
 use Rattle.book.specs.Answer.{answer}
-use Rattle.book.proofs.Answers.{answer-add-zero, answer-add-off, answer-add-held, answer-add-full, answer-add-done, answer-remove-zero, answer-remove-absent, answer-remove-done, answer-move-zero, answer-move-off, answer-move-absent, answer-move-done, answer-list-off, answer-list-empty, answer-list-done, answer-stand-off, answer-stand-done, answer-print-legless, answer-print-empty, answer-print-done}
+use Rattle.book.proofs.Answers.{answer-add-zero, answer-add-not-finite, answer-add-off, answer-add-held, answer-add-full, answer-add-done, answer-remove-zero, answer-remove-absent, answer-remove-done, answer-move-zero, answer-move-not-finite, answer-move-off, answer-move-absent, answer-move-done, answer-list-off, answer-list-empty, answer-list-done, answer-stand-off, answer-stand-done, answer-print-legless, answer-print-empty, answer-print-done, same-add, same-move}
 use Rattle.split.specs.SplitOf.{splitOf}
 use Rattle.table_header.specs.declared.Standing.{Standing}
 use Rattle.table_header.specs.Header.{countIn, legIn, asOption}
@@ -35,7 +39,7 @@ use Rattle.table_rules.specs.Listing.{ListsTable}
 use Rattle.call_judge.specs.declared.Answer.{Answer}
 use Rattle.call_judge.specs.declared.Verdict.{Verdict}
 use Rattle.call_judge.specs.declared.change.Tested.{Tested}
-use Rattle.call_judge.specs.Verdict.{answerOf, IsOn, Decided, Settled, BadFor, TestedAs}
+use Rattle.call_judge.specs.Verdict.{answerOf, IsOn, Decided, Settled, BadFor, GoodFor, TestedAs}
 
 -- ---- a refusal
 
@@ -48,40 +52,112 @@ module _ (b : List ℕ) (c : Command) where
 
 -- ---- the tests of a number and a position
 
-module _ (n : ℕ) (p : Position) (z : n ≢ 0) (q : Bool) (s : Says q (OnGrid p)) where
-  pub test-off : q ≡ false → TestedAs (Tested.Bad OffGrid) n p
-  test-off e = (z, says-no q s e)
+-- where a location is
+abbrev WhereIs : Located → Location → Type 0
+WhereIs Located.NotFinite l = finiteIn l ≡ false
+WhereIs (Located.At p) l = (finiteIn l ≡ true) × (p ≡ placed l)
 
-  pub test-good : n < 65536 → q ≡ true → TestedAs (Tested.Good (record { number = n; position = p })) n p
-  test-good small e = (refl, record { least = omega arith; most = omega arith }, says-yes q s e)
+located-where : (l : Location) → WhereIs (locatedAt l) l
+unfolding locatedAt
+located-where l = go (finiteIn l) refl
+  where
+    go : (q : Bool) → finiteIn l ≡ q → WhereIs (cond q (Located.At (placed l)) Located.NotFinite) l
+    go true e = (e, refl)
+    go false e = e
 
-module _ (n : ℕ) (p : Position) (r : Tested) (h : TestedAs r n p) where
-  bad : (x : Cause) → r ≡ Tested.Bad x → BadFor x n p
-  bad x e = subst (λ (y : Tested). TestedAs y n p) e h
+module _ (n : ℕ) (l : Location) (d : Located) (is : d ≡ locatedAt l) (z : n ≢ 0) where
+  where-is : WhereIs d l
+  where-is = subst⁻¹ (λ (y : Located). WhereIs y l) is (located-where l)
+
+  pub test-not-finite : d ≡ Located.NotFinite → TestedAs (Tested.Bad NotFinite) n l
+  test-not-finite e = (z, subst (λ (y : Located). WhereIs y l) e where-is)
+
+  module _ (p : Position) (e : d ≡ Located.At p) (q : Bool) (s : Says q (OnGrid p)) where
+    at : (finiteIn l ≡ true) × (p ≡ placed l)
+    at = subst (λ (y : Located). WhereIs y l) e where-is
+
+    pub test-off : q ≡ false → TestedAs (Tested.Bad OffGrid) n l
+    test-off g = (z, at .0, subst (λ (y : Position). ¬ OnGrid y) (at .1) (says-no q s g))
+
+    pub test-good : n < 65536 → q ≡ true → TestedAs (Tested.Good (record { number = n; position = p })) n l
+    test-good small g =
+        record {
+          site = λ i. record { number = n; position = at .1 i };
+          number = record { least = omega arith; most = omega arith };
+          onGrid = says-yes q s g;
+          is-finite = at .0;
+        }
+
+-- what the site's verdict is, the command's is
+module _ (n : ℕ) (l : Location) (f : finiteIn l ≡ true) (b : List ℕ) where
+  on-add : (v : Verdict) → IsOn v (Add n (InSteps (placed l))) → IsOn v (Add n l)
+  on-add (Verdict.Refuse x) h = tt
+  on-add (Verdict.Show m k) h = h
+  on-add (Verdict.Insert k p) h = h
+  on-add (Verdict.Delete k m) h = absurd (let y : _≡_ {A = ℕ} 0 1 = cc in omega arith)
+  on-add (Verdict.Place k p) h = absurd (let y : _≡_ {A = ℕ} 0 1 = cc in omega arith)
+  on-add (Verdict.Stand m) h = absurd (let y : _≡_ {A = ℕ} 0 1 = cc in omega arith)
+  on-add (Verdict.Begin p) h = absurd (let y : _≡_ {A = ℕ} 0 1 = cc in omega arith)
+  on-add (Verdict.Follow m j k i) h = absurd (let y : _≡_ {A = ℕ} 0 1 = cc in omega arith)
+
+  on-move : (v : Verdict) → IsOn v (Move n (InSteps (placed l))) → IsOn v (Move n l)
+  on-move (Verdict.Refuse x) h = tt
+  on-move (Verdict.Show m k) h = h
+  on-move (Verdict.Insert k p) h = absurd (let y : _≡_ {A = ℕ} 0 1 = cc in omega arith)
+  on-move (Verdict.Delete k m) h = absurd (let y : _≡_ {A = ℕ} 0 1 = cc in omega arith)
+  on-move (Verdict.Place k p) h = h
+  on-move (Verdict.Stand m) h = absurd (let y : _≡_ {A = ℕ} 0 1 = cc in omega arith)
+  on-move (Verdict.Begin p) h = absurd (let y : _≡_ {A = ℕ} 0 1 = cc in omega arith)
+  on-move (Verdict.Follow m j k i) h = absurd (let y : _≡_ {A = ℕ} 0 1 = cc in omega arith)
+
+  settled-add : (v : Verdict) → Settled v (Add n (InSteps (placed l))) b → Settled v (Add n l) b
+  settled-add v h =
+      record {
+        decided = λ w. record {
+          judged = record { said = h .decided w .judged .said ∙ sym (same-add (bookOf b) n l f (placed l) refl); row = h .decided w .judged .row };
+          found = h .decided w .found;
+          command = on-add v (h .decided w .command);
+        };
+      }
+
+  settled-move : (v : Verdict) → Settled v (Move n (InSteps (placed l))) b → Settled v (Move n l) b
+  settled-move v h =
+      record {
+        decided = λ w. record {
+          judged = record { said = h .decided w .judged .said ∙ sym (same-move (bookOf b) n l f (placed l) refl); row = h .decided w .judged .row };
+          found = h .decided w .found;
+          command = on-move v (h .decided w .command);
+        };
+      }
+
+module _ (n : ℕ) (l : Location) (r : Tested) (h : TestedAs r n l) where
+  bad : (x : Cause) → r ≡ Tested.Bad x → BadFor x n l
+  bad x e = subst (λ (y : Tested). TestedAs y n l) e h
 
   module _ (s : Site) (e : r ≡ Tested.Good s) where
-    good : TestedAs (Tested.Good s) n p
-    good = subst (λ (y : Tested). TestedAs y n p) e h
+    good : GoodFor s n l
+    good = subst (λ (y : Tested). TestedAs y n l) e h
 
     pub good-number : NumberOk s
-    good-number = good .1
+    good-number = good .number
 
     pub good-grid : OnGrid (s .position)
-    good-grid = good .2
+    good-grid = good .onGrid
 
-    pub good-add : (b : List ℕ) (v : Verdict) → Settled v (Add (s .number) (s .position)) b → Settled v (Add n p) b
-    good-add b v x = subst (λ (y : Site). Settled v (Add (y .number) (y .position)) b) (good .0) x
+    pub good-add : (b : List ℕ) (v : Verdict) → Settled v (Add (s .number) (InSteps (s .position))) b → Settled v (Add n l) b
+    good-add b v x = settled-add n l (good .is-finite) b v (subst (λ (y : Site). Settled v (Add (y .number) (InSteps (y .position))) b) (good .site) x)
 
-    pub good-move : (b : List ℕ) (v : Verdict) → Settled v (Move (s .number) (s .position)) b → Settled v (Move n p) b
-    good-move b v x = subst (λ (y : Site). Settled v (Move (y .number) (y .position)) b) (good .0) x
+    pub good-move : (b : List ℕ) (v : Verdict) → Settled v (Move (s .number) (InSteps (s .position))) b → Settled v (Move n l) b
+    good-move b v x = settled-move n l (good .is-finite) b v (subst (λ (y : Site). Settled v (Move (y .number) (InSteps (y .position))) b) (good .site) x)
 
   module _ (b : List ℕ) where
-    pub bad-add : (x : Cause) → r ≡ Tested.Bad x → Settled (Verdict.Refuse x) (Add n p) b
-    bad-add x e = refused-so b (Add n p) x (go x (bad x e))
+    pub bad-add : (x : Cause) → r ≡ Tested.Bad x → Settled (Verdict.Refuse x) (Add n l) b
+    bad-add x e = refused-so b (Add n l) x (go x (bad x e))
       where
-        go : (y : Cause) → BadFor y n p → answer (bookOf b) (Add n p) ≡ refused y
-        go NumberZero k = answer-add-zero (bookOf b) n p k
-        go OffGrid k = answer-add-off (bookOf b) n p (k .0) (k .1)
+        go : (y : Cause) → BadFor y n l → answer (bookOf b) (Add n l) ≡ refused y
+        go NumberZero k = answer-add-zero (bookOf b) n l k
+        go NotFinite k = answer-add-not-finite (bookOf b) n l (k .0) (k .1)
+        go OffGrid k = answer-add-off (bookOf b) n l (k .0) (k .1) (k .2)
         go Held k = absurd k
         go NotHeld k = absurd k
         go Full k = absurd k
@@ -89,12 +165,13 @@ module _ (n : ℕ) (p : Position) (r : Tested) (h : TestedAs r n p) where
         go NoLeg k = absurd k
         go NoTour k = absurd k
 
-    pub bad-move : (x : Cause) → r ≡ Tested.Bad x → Settled (Verdict.Refuse x) (Move n p) b
-    bad-move x e = refused-so b (Move n p) x (go x (bad x e))
+    pub bad-move : (x : Cause) → r ≡ Tested.Bad x → Settled (Verdict.Refuse x) (Move n l) b
+    bad-move x e = refused-so b (Move n l) x (go x (bad x e))
       where
-        go : (y : Cause) → BadFor y n p → answer (bookOf b) (Move n p) ≡ refused y
-        go NumberZero k = answer-move-zero (bookOf b) n p k
-        go OffGrid k = answer-move-off (bookOf b) n p (k .0) (k .1)
+        go : (y : Cause) → BadFor y n l → answer (bookOf b) (Move n l) ≡ refused y
+        go NumberZero k = answer-move-zero (bookOf b) n l k
+        go NotFinite k = answer-move-not-finite (bookOf b) n l (k .0) (k .1)
+        go OffGrid k = answer-move-off (bookOf b) n l (k .0) (k .1) (k .2)
         go Held k = absurd k
         go NotHeld k = absurd k
         go Full k = absurd k
@@ -135,21 +212,21 @@ module _ (b : List ℕ) (s : Site) (ok : NumberOk s) (on : OnGrid (s .position))
   positive : s .number ≢ 0
   positive z = omega (arith, ok .least)
 
-  pub add-held : f ≡ Found.At k → Settled (Verdict.Refuse Held) (Add (s .number) (s .position)) b
-  add-held e = refused-so b (Add (s .number) (s .position)) Held (answer-add-held (bookOf b) (s .number) (s .position) positive on (at-held (found-at e a)))
+  pub add-held : f ≡ Found.At k → Settled (Verdict.Refuse Held) (Add (s .number) (InSteps (s .position))) b
+  add-held e = refused-so b (Add (s .number) (InSteps (s .position))) Held (answer-add-held (bookOf b) (s .number) (InSteps (s .position)) positive refl on (at-held (found-at e a)))
 
-  pub add-full : (m : ℕ) → f ≡ Found.Absent k → m ≡ countIn b → m ≡ maxSites → Settled (Verdict.Refuse Full) (Add (s .number) (s .position)) b
+  pub add-full : (m : ℕ) → f ≡ Found.Absent k → m ≡ countIn b → m ≡ maxSites → Settled (Verdict.Refuse Full) (Add (s .number) (InSteps (s .position))) b
   add-full m e c x =
-      refused-so b (Add (s .number) (s .position)) Full
-      (answer-add-full (bookOf b) (s .number) (s .position) positive on (absent-held (found-absent e a)) (lines-length b ∙ sym c ∙ x))
+      refused-so b (Add (s .number) (InSteps (s .position))) Full
+      (answer-add-full (bookOf b) (s .number) (InSteps (s .position)) positive refl on (absent-held (found-absent e a)) (lines-length b ∙ sym c ∙ x))
 
-  pub add-done : (m r : ℕ) → Sound b → f ≡ Found.Absent k → m ≡ countIn b → m ≢ maxSites → r ≡ k → Settled (Verdict.Insert r s) (Add (s .number) (s .position)) b
+  pub add-done : (m r : ℕ) → Sound b → f ≡ Found.Absent k → m ≡ countIn b → m ≢ maxSites → r ≡ k → Settled (Verdict.Insert r s) (Add (s .number) (InSteps (s .position))) b
   add-done m r t e c x q =
-      subst⁻¹ (λ (y : ℕ). Settled (Verdict.Insert y s) (Add (s .number) (s .position)) b) q
+      subst⁻¹ (λ (y : ℕ). Settled (Verdict.Insert y s) (Add (s .number) (InSteps (s .position))) b) q
       (record {
         decided = λ w. record {
           judged = record {
-            said = sym (answer-add-done (bookOf b) (s .number) (s .position) positive on (absent-held (found-absent e a)) (λ l. x (c ∙ sym (lines-length b) ∙ l)));
+            said = sym (answer-add-done (bookOf b) (s .number) (InSteps (s .position)) positive refl on (absent-held (found-absent e a)) (λ l. x (c ∙ sym (lines-length b) ∙ l)));
             row = tt;
           };
           found = record { nowhere = found-absent e a; room = omega (arith, lines-length b, t .whole .sites .few); number = ok; onGrid = on };
@@ -157,16 +234,16 @@ module _ (b : List ℕ) (s : Site) (ok : NumberOk s) (on : OnGrid (s .position))
         };
       })
 
-  pub move-absent : f ≡ Found.Absent k → Settled (Verdict.Refuse NotHeld) (Move (s .number) (s .position)) b
+  pub move-absent : f ≡ Found.Absent k → Settled (Verdict.Refuse NotHeld) (Move (s .number) (InSteps (s .position))) b
   move-absent e =
-      refused-so b (Move (s .number) (s .position)) NotHeld (answer-move-absent (bookOf b) (s .number) (s .position) positive on (absent-held (found-absent e a)))
+      refused-so b (Move (s .number) (InSteps (s .position))) NotHeld (answer-move-absent (bookOf b) (s .number) (InSteps (s .position)) positive refl on (absent-held (found-absent e a)))
 
-  pub move-done : (r : ℕ) → f ≡ Found.At k → r ≡ k → Settled (Verdict.Place r s) (Move (s .number) (s .position)) b
+  pub move-done : (r : ℕ) → f ≡ Found.At k → r ≡ k → Settled (Verdict.Place r s) (Move (s .number) (InSteps (s .position))) b
   move-done r e q =
-      subst⁻¹ (λ (y : ℕ). Settled (Verdict.Place y s) (Move (s .number) (s .position)) b) q
+      subst⁻¹ (λ (y : ℕ). Settled (Verdict.Place y s) (Move (s .number) (InSteps (s .position))) b) q
       (record {
         decided = λ w. record {
-          judged = record { said = sym (answer-move-done (bookOf b) (s .number) (s .position) positive on (at-held (found-at e a))); row = tt };
+          judged = record { said = sym (answer-move-done (bookOf b) (s .number) (InSteps (s .position)) positive refl on (at-held (found-at e a))); row = tt };
           found = (found-at e a, on);
           command = refl;
         };

@@ -3,21 +3,25 @@
 -- Assumes nothing.
 use mathlib.Core.Path.{_≡_}
 use mathlib.Core.Logic.{_≢_}
-use mathlib.Core.Bool.{true, cond}
+use mathlib.Core.Bool.{true, false, cond}
 use mathlib.Core.List.{List}
 use Prim.Native.Nat.{ℕ, _<_}
 use lib.ListN.{length}
 use lib.Dec.{eqb}
 use Rattle.limits.specs.Limits.{maxSites}
-use Rattle.grid.specs.declared.Position.{Position}
 use Rattle.grid.specs.declared.Site.{Site}
 use Rattle.grid.specs.Position.{OnGrid, LegOnGrid}
+use Rattle.readings.specs.declared.Location.{Location}
+use Rattle.readings.specs.declared.Location.the-variants.{InSteps}
+use Rattle.readings.specs.Location.{finiteIn, placed}
 use Rattle.book.specs.declared.Command.{Command}
 use Rattle.book.specs.declared.Command.the-variants.{Add, Remove, Move, Stand, Begin, Corner}
 use Rattle.book.specs.declared.Cause.{Cause}
 use Rattle.book.specs.declared.Cause.the-variants.{NumberZero, OffGrid, Held, NotHeld, Full, NoSite, NoLeg, NoTour}
+use Rattle.book.specs.declared.Cause.the-variants.{NotFinite}
 use Rattle.book.specs.Proper.{NumberOk}
 use Rattle.book.specs.Answer.{reads}
+use Rattle.book.specs.WrittenOut.{writtenOut}
 use Rattle.table_sites.specs.Lines.{linesIn, StandsAt, StandsNowhere}
 use Rattle.table_rules.specs.Following.{Follows}
 use Rattle.call_judge.specs.declared.Answer.{Answer}
@@ -54,14 +58,14 @@ Findings (Verdict.Stand l) t = LegOnGrid l
 Findings (Verdict.Begin p) t = OnGrid p
 Findings (Verdict.Follow l j n k) t = Follows l n t
 
--- the command that a verdict is on: any that is refused; one that changes nothing, where a list is shown; else the
--- command itself
+-- the command that a verdict is on: any that is refused; one that changes nothing, where a list is shown; an addition
+-- or a move to readings has its steps written out; else the command itself
 abbrev pub IsOn : Verdict → Command → Type 0
 IsOn (Verdict.Refuse x) c = Unit {0}
 IsOn (Verdict.Show l k) c = reads c ≡ true
-IsOn (Verdict.Insert k p) c = c ≡ Add (p .number) (p .position)
+IsOn (Verdict.Insert k p) c = writtenOut c ≡ Add (p .number) (InSteps (p .position))
 IsOn (Verdict.Delete k n) c = c ≡ Remove n
-IsOn (Verdict.Place k p) c = c ≡ Move (p .number) (p .position)
+IsOn (Verdict.Place k p) c = writtenOut c ≡ Move (p .number) (InSteps (p .position))
 IsOn (Verdict.Stand l) c = c ≡ Stand l
 IsOn (Verdict.Begin p) c = c ≡ Begin p
 IsOn (Verdict.Follow l j n k) c = c ≡ Corner (l .e)
@@ -76,21 +80,30 @@ pub record Decided (v : Verdict) (c : Command) (t w : List ℕ) : Type 0 where
 pub record Settled (v : Verdict) (c : Command) (t : List ℕ) : Type 0 where
   pub decided : (w : List ℕ) → Decided v c t w
 
--- "site number 0", then a coordinate off the grid: what the first tests of an addition and a move refuse
-abbrev pub BadFor : Cause → ℕ → Position → Type 0
-BadFor NumberZero n p = n ≡ 0
-BadFor OffGrid n p = (n ≢ 0) × ¬ OnGrid p
-BadFor Held n p = ⊥
-BadFor NotHeld n p = ⊥
-BadFor Full n p = ⊥
-BadFor NoSite n p = ⊥
-BadFor NoLeg n p = ⊥
-BadFor NoTour n p = ⊥
+-- "site number 0", then readings that are not finite, then a step off the grid: what the first tests of an addition
+-- and a move refuse
+abbrev pub BadFor : Cause → ℕ → Location → Type 0
+BadFor NumberZero n l = n ≡ 0
+BadFor NotFinite n l = (n ≢ 0) × (finiteIn l ≡ false)
+BadFor OffGrid n l = (n ≢ 0) × (finiteIn l ≡ true) × ¬ OnGrid (placed l)
+BadFor Held n l = ⊥
+BadFor NotHeld n l = ⊥
+BadFor Full n l = ⊥
+BadFor NoSite n l = ⊥
+BadFor NoLeg n l = ⊥
+BadFor NoTour n l = ⊥
+
+-- the site of an addition or a move that passes them
+pub record GoodFor (s : Site) (n : ℕ) (l : Location) : Type 0 where
+  pub site : s ≡ record { number = n; position = placed l }
+  pub number : NumberOk s
+  pub onGrid : OnGrid (s .position)
+  pub is-finite : finiteIn l ≡ true
 
 -- and what they find
-abbrev pub TestedAs : Tested → ℕ → Position → Type 0
-TestedAs (Tested.Bad x) n p = BadFor x n p
-TestedAs (Tested.Good s) n p = (s ≡ record { number = n; position = p }) × NumberOk s × OnGrid (s .position)
+abbrev pub TestedAs : Tested → ℕ → Location → Type 0
+TestedAs (Tested.Bad x) n l = BadFor x n l
+TestedAs (Tested.Good s) n l = GoodFor s n l
 
 -- how many entries are left out at the beginning of a list whose first entry names `first`, where `last` is remembered
 abbrev pub passedBy : ℕ → ℕ → ℕ

@@ -1,13 +1,15 @@
 // The changes of sites: added, removed, moved.
 use crate::Verdict;
 use book::Cause;
-use grid::Position;
 use grid::Site;
+use readings::Located;
+use readings::Location;
 use table_sites::Found;
 ghost use mathlib.Core.Path.{_≡_};
 ghost use Prim.Native.Nat.{_≤_};
 ghost use Rattle.limits.specs.Limits.{maxSites};
 ghost use Rattle.grid.specs.Position.{OnGrid};
+ghost use Rattle.readings.specs.declared.Location.{Location};
 ghost use Rattle.book.specs.declared.Command.{Command};
 ghost use Rattle.book.specs.Proper.{NumberOk};
 ghost use Rattle.table_rules.specs.Table.{Sound};
@@ -19,13 +21,17 @@ pub enum Tested {
     Good(Site),
 }
 
-// The tests that an addition and a move begin with: number, position.
-fn test(n: u16, p: Position) -> Tested
-    ensures { λ r. ⌜ TestedAs r n p ⌝ }
+// The tests that an addition and a move begin with: number, readings, position. The grid limit is tested on the step.
+fn test(n: u16, l: Location) -> Tested
+    ensures { λ r. ⌜ TestedAs r n l ⌝ }
 {
     if n == 0 {
         return Tested::Bad(Cause::NumberZero);
     }
+    let located = readings::locate(l);
+    let Located::At(p) = located else {
+        return Tested::Bad(Cause::NotFinite);
+    };
     if grid::coordinate::on_grid(p) {
         return Tested::Good(Site {
             number: n,
@@ -46,7 +52,7 @@ fn narrow(k: usize) -> u16
 // An addition of this site: held, full.
 fn add_site(t: &[u8], site: Site) -> Verdict
     requires { ⌜ Sound (now t) × NumberOk site × OnGrid (site .position) ⌝ }
-    ensures { λ r. ⌜ Settled r (Command.Add (site .number) (site .position)) (now (t .entry)) ⌝ }
+    ensures { λ r. ⌜ Settled r (Command.Add (site .number) (Location.InSteps (site .position))) (now (t .entry)) ⌝ }
 {
     let n = site.number;
     let found = table_sites::find(t, n);
@@ -66,7 +72,7 @@ fn add_site(t: &[u8], site: Site) -> Verdict
 // A move of this site: held.
 fn place_site(t: &[u8], site: Site) -> Verdict
     requires { ⌜ Sound (now t) × NumberOk site × OnGrid (site .position) ⌝ }
-    ensures { λ r. ⌜ Settled r (Command.Move (site .number) (site .position)) (now (t .entry)) ⌝ }
+    ensures { λ r. ⌜ Settled r (Command.Move (site .number) (Location.InSteps (site .position))) (now (t .entry)) ⌝ }
 {
     let n = site.number;
     let found = table_sites::find(t, n);
@@ -79,12 +85,12 @@ fn place_site(t: &[u8], site: Site) -> Verdict
     }
 }
 
-// An addition: number, position, held, full.
-pub fn add(t: &[u8], n: u16, p: Position) -> Verdict
+// An addition: number, readings, position, held, full.
+pub fn add(t: &[u8], n: u16, l: Location) -> Verdict
     requires { ⌜ Sound (now t) ⌝ }
-    ensures { λ r. ⌜ Settled r (Command.Add n p) (now (t .entry)) ⌝ }
+    ensures { λ r. ⌜ Settled r (Command.Add n l) (now (t .entry)) ⌝ }
 {
-    let tested = test(n, p);
+    let tested = test(n, l);
     match tested {
         Tested::Bad(cause) => Verdict::Refuse(cause),
         Tested::Good(site) => add_site(t, site),
@@ -109,12 +115,12 @@ pub fn remove(t: &[u8], n: u16) -> Verdict
     }
 }
 
-// A move: number, position, held.
-pub fn place(t: &[u8], n: u16, p: Position) -> Verdict
+// A move: number, readings, position, held.
+pub fn place(t: &[u8], n: u16, l: Location) -> Verdict
     requires { ⌜ Sound (now t) ⌝ }
-    ensures { λ r. ⌜ Settled r (Command.Move n p) (now (t .entry)) ⌝ }
+    ensures { λ r. ⌜ Settled r (Command.Move n l) (now (t .entry)) ⌝ }
 {
-    let tested = test(n, p);
+    let tested = test(n, l);
     match tested {
         Tested::Bad(cause) => Verdict::Refuse(cause),
         Tested::Good(site) => place_site(t, site),

@@ -60,9 +60,9 @@ pub fn judge(t: &[u8], work: &mut [u8], c: Command) -> Verdict
     ensures { λ r. ⌜ Decided r c (now (t .entry)) (now (work .exit)) ⌝ }
 {
     match c {
-        Command::Add(n, p) => change::add(t, n, p),
+        Command::Add(n, l) => change::add(t, n, l),
         Command::Remove(n) => change::remove(t, n),
-        Command::Move(n, p) => change::place(t, n, p),
+        Command::Move(n, l) => change::place(t, n, l),
         Command::List(leg) => list::list(t, work, leg),
         Command::Stand(leg) => list::stand(t, leg),
         Command::Print => list::print(t, work),

@@ -14,12 +14,13 @@ use Rattle.words.specs.Words.{wordAt}
 use Rattle.grid.specs.declared.Position.{Position}
 use Rattle.grid.specs.declared.Leg.{Leg}
 use Rattle.grid.specs.Coordinate.{fromWord}
+use Rattle.readings.specs.declared.Reading.{Reading}
+use Rattle.readings.specs.Location.{readingAt}
 use Rattle.book.specs.declared.Command.{Command}
-use Rattle.book.specs.declared.Command.the-variants.{Corner}
 use Rattle.book.specs.declared.Shape.{Shape}
-use Rattle.book.specs.declared.Shape.the-variants.{OnePosition, Nothing, Number, NumberPosition, TwoPositions}
+use Rattle.book.specs.declared.Shape.the-variants.{OnePosition, Nothing, Number, NumberPosition, TwoPositions, NumberReadings}
 use Rattle.book.specs.declared.Parsed.the-variants.{End, Unknown, Cut, Whole}
-use Rattle.book.specs.Command.{operandBytes, positionAt, legAt, Form, form, formOf, parseAt}
+use Rattle.book.specs.Command.{operandBytes, positionAt, legAt, moveSurveyed, Form, form, formOf, parseAt}
 use Rattle.book.proofs.Parsing.{parse-end, parse-unknown, parse-cut, parse-whole}
 use Rattle.call_parse.specs.declared.Mark.{Mark}
 use Rattle.call_parse.specs.declared.Mark.the-variants.{Unknown as NoMark, Takes}
@@ -39,9 +40,9 @@ pub leg-is : (s : List ℕ) (i : ℕ) (p q : Position) → p ≡ positionAt s i 
 leg-is s i p q hp hq = λ j. record { s = hp j; e = hq j }
 
 -- those of each shape
-module _ (x : Shape) (s : List ℕ) (i n : ℕ) (p : Position) (l : Leg) where
+module _ (x : Shape) (s : List ℕ) (i n : ℕ) (p : Position) (l : Leg) (r : Reading) where
   abbrev o : Operands
-  o = (n, p, l)
+  o = (n, p, l, r)
 
   pub nothing-read : x ≡ Nothing → Reads x s i o
   nothing-read e = subst⁻¹ (λ (y : Shape). Reads y s i o) e (λ f. refl)
@@ -58,22 +59,25 @@ module _ (x : Shape) (s : List ℕ) (i n : ℕ) (p : Position) (l : Leg) where
   pub two-positions-read : x ≡ TwoPositions → l ≡ legAt s i → Reads x s i o
   two-positions-read e h = subst⁻¹ (λ (y : Shape). Reads y s i o) e (λ f. ap f h)
 
+  pub number-readings-read : x ≡ NumberReadings → n ≡ wordAt s i → r ≡ readingAt s (i + 2) → Reads x s i o
+  number-readings-read e h k = subst⁻¹ (λ (y : Shape). Reads y s i o) e (λ f j. f (h j) (k j))
+
 -- ---- the table of commands
 
-module _ (m : ℕ) (a : m ≢ 0x41) (b : m ≢ 0x44) (c : m ≢ 0x4D) (d : m ≢ 0x4C) (e : m ≢ 0x53) (f : m ≢ 0x50) (g : m ≢ 0x42) where
+module _ (m : ℕ) (a : m ≢ 0x41) (b : m ≢ 0x44) (c : m ≢ 0x4D) (d : m ≢ 0x4C) (e : m ≢ 0x53) (f : m ≢ 0x50) (g : m ≢ 0x42) (h : m ≢ 0x43) (i : m ≢ 0x61) where
   -- no other mark is a command's
-  last-row : formOf m ≡ cond (eqb m 0x43) (some (form 0x43 OnePosition Corner)) none
+  last-row : formOf m ≡ cond (eqb m 0x6D) (some (form 0x6D NumberReadings moveSurveyed)) none
   unfolding formOf
   last-row =
-      rw (ne-eqb m 0x41 a, ne-eqb m 0x44 b, ne-eqb m 0x4D c, ne-eqb m 0x4C d, ne-eqb m 0x53 e, ne-eqb m 0x50 f, ne-eqb m 0x42 g) refl
+      rw (ne-eqb m 0x41 a, ne-eqb m 0x44 b, ne-eqb m 0x4D c, ne-eqb m 0x4C d, ne-eqb m 0x53 e, ne-eqb m 0x50 f, ne-eqb m 0x42 g, ne-eqb m 0x43 h, ne-eqb m 0x61 i) refl
 
-  pub unlisted : m ≢ 0x43 → NoMark ≡ markOf (formOf m)
-  unlisted h = rw (last-row, ne-eqb m 0x43 h) refl
+  pub unlisted : m ≢ 0x6D → NoMark ≡ markOf (formOf m)
+  unlisted j = rw (last-row, ne-eqb m 0x6D j) refl
 
-  pub corner-made : (o : Operands) → Makes (formOf m) o (Corner (o .1))
-  corner-made o = subst⁻¹ (λ (r : Option Form). Makes r o (Corner (o .1))) last-row (go (eqb m 0x43))
+  pub last-made : (o : Operands) → Makes (formOf m) o (moveSurveyed (o .0) (o .3))
+  last-made o = subst⁻¹ (λ (r : Option Form). Makes r o (moveSurveyed (o .0) (o .3))) last-row (go (eqb m 0x6D))
     where
-      go : (t : Bool) → Makes (cond t (some (form 0x43 OnePosition Corner)) none) o (Corner (o .1))
+      go : (t : Bool) → Makes (cond t (some (form 0x6D NumberReadings moveSurveyed)) none) o (moveSurveyed (o .0) (o .3))
       go true = refl
       go false = tt
 

@@ -7,6 +7,7 @@ use Prim.Native.Nat.{ℕ}
 use Rattle.book.specs.declared.Command.{Command}
 use Rattle.book.specs.declared.Shape.{Shape}
 use Rattle.book.specs.declared.Shape.the-variants.{Nothing, Number, OnePosition, NumberPosition, TwoPositions}
+use Rattle.book.specs.declared.Shape.the-variants.{NumberReadings}
 use Rattle.book.specs.Command.{Maker, madeAt, Form}
 use Rattle.call_parse.specs.declared.Mark.{Mark}
 use Rattle.call_parse.specs.declared.Mark.the-variants.{Unknown, Takes}
@@ -24,6 +25,7 @@ made Number f o = f (o .0)
 made OnePosition f o = f (o .1)
 made NumberPosition f o = f (o .0) (o .1)
 made TwoPositions f o = f (o .2)
+made NumberReadings f o = f (o .0) (o .3)
 
 -- o are the operands at byte i: each command that they make is that of the bytes
 abbrev pub Reads : Shape → List ℕ → ℕ → Operands → Type 0

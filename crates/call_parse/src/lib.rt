@@ -4,6 +4,8 @@ use book::Parsed;
 use book::Shape;
 use grid::Leg;
 use grid::Position;
+use readings::Location;
+use readings::Reading;
 ghost use mathlib.Core.Path.{_≡_};
 ghost use Prim.Native.Nat.{_+_, _≤_};
 ghost use lib.ListN.{length};
@@ -16,8 +18,8 @@ enum Mark {
     Takes(Shape),
 }
 
-// The operands of a command: number, position and leg. Those that its shape does not have are 0.
-struct Operands(u16, Position, Leg);
+// The operands of a command: number, position, leg and receiver readings. Those that its shape does not have are 0.
+struct Operands(u16, Position, Leg, Reading);
 
 // The table of commands: the operands of each.
 fn mark_of(byte: u8) -> Mark
@@ -32,26 +34,31 @@ fn mark_of(byte: u8) -> Mark
         0x50 => Mark::Takes(Shape::Nothing),
         0x42 => Mark::Takes(Shape::OnePosition),
         0x43 => Mark::Takes(Shape::OnePosition),
+        0x61 => Mark::Takes(Shape::NumberReadings),
+        0x6D => Mark::Takes(Shape::NumberReadings),
         _ => Mark::Unknown,
     }
 }
 
-// The table of commands: what each is, with its operands. The last arm is 43, and what no caller asks.
+// The table of commands: what each is, with its operands. The last arm is 6D, and what no caller asks.
 fn command(byte: u8, o: Operands) -> Command
     ensures { λ r. ⌜ Makes (formOf byte) o r ⌝ }
 {
     let number = o.0;
     let position = o.1;
     let leg = o.2;
+    let reading = o.3;
     match byte {
-        0x41 => Command::Add(number, position),
+        0x41 => Command::Add(number, Location::InSteps(position)),
         0x44 => Command::Remove(number),
-        0x4D => Command::Move(number, position),
+        0x4D => Command::Move(number, Location::InSteps(position)),
         0x4C => Command::List(leg),
         0x53 => Command::Stand(leg),
         0x50 => Command::Print,
         0x42 => Command::Begin(position),
-        _ => Command::Corner(position),
+        0x43 => Command::Corner(position),
+        0x61 => Command::Add(number, Location::InMetres(reading)),
+        _ => Command::Move(number, Location::InMetres(reading)),
     }
 }
 
@@ -65,6 +72,7 @@ fn size_of(x: Shape) -> usize
         Shape::OnePosition => 4,
         Shape::NumberPosition => 6,
         Shape::TwoPositions => 8,
+        Shape::NumberReadings => 10,
     }
 }
 
@@ -101,24 +109,33 @@ fn operands_at(s: &[u8], i: usize, x: Shape) -> Operands
         s: corner,
         e: corner,
     };
+    let middle = Reading {
+        easting: 0.0,
+        northing: 0.0,
+    };
     match x {
-        Shape::Nothing => Operands(0, corner, point),
+        Shape::Nothing => Operands(0, corner, point, middle),
         Shape::Number => {
             let number = words::word(s, i);
-            Operands(number, corner, point)
+            Operands(number, corner, point, middle)
         }
         Shape::OnePosition => {
             let position = position_at(s, i);
-            Operands(0, position, point)
+            Operands(0, position, point, middle)
         }
         Shape::NumberPosition => {
             let number = words::word(s, i);
             let position = position_at(s, i + 2);
-            Operands(number, position, point)
+            Operands(number, position, point, middle)
         }
         Shape::TwoPositions => {
             let leg = leg_at(s, i);
-            Operands(0, corner, leg)
+            Operands(0, corner, leg, middle)
+        }
+        Shape::NumberReadings => {
+            let number = words::word(s, i);
+            let reading = readings::reading_at(s, i + 2);
+            Operands(number, corner, point, reading)
         }
     }
 }

@@ -16,9 +16,11 @@ use Rattle.grid.specs.Position.{OnGrid, LegOnGrid}
 use Rattle.split.specs.SplitList.{Entry}
 use Rattle.records.specs.Bytes.{write}
 use Rattle.list_row.specs.Entries.{entriesFrom}
+use Rattle.readings.specs.declared.Location.the-variants.{InSteps}
+use Rattle.book.specs.WrittenOut.{writtenOut}
 use Rattle.book.specs.declared.Cause.{Cause}
 use Rattle.book.specs.declared.Command.{Command}
-use Rattle.book.specs.declared.Command.the-variants.{Add, Remove, Move, Stand, Begin, Corner}
+use Rattle.book.specs.declared.Command.the-variants.{Add, Remove, Move, List as ListOf, Stand, Print, Begin, Corner}
 use Rattle.book.specs.Book.{change}
 use Rattle.book.specs.Proper.{NumberOk}
 use Rattle.book.specs.Reply.{Reply, done, listed, recordOf, recordSize}
@@ -78,7 +80,7 @@ module _ (t t′ : List ℕ) (v : Verdict) where
     pub insert-grid : Findings v t → OnGrid (p .position)
     insert-grid f = insertable f .onGrid
 
-    pub inserted : Holds t′ (change (Add (p .number) (p .position)) (bookOf t)) → Carried v t t′
+    pub inserted : Holds t′ (change (Add (p .number) (InSteps (p .position))) (bookOf t)) → Carried v t t′
     inserted h = subst⁻¹ (λ (y : Verdict). Carried y t t′) e h
 
   module _ (k n : ℕ) (e : v ≡ Verdict.Delete k n) where
@@ -95,7 +97,7 @@ module _ (t t′ : List ℕ) (v : Verdict) where
     pub place-grid : Findings v t → OnGrid (p .position)
     place-grid f = subst (λ (y : Verdict). Findings y t) e f .1
 
-    pub placed : Holds t′ (change (Move (p .number) (p .position)) (bookOf t)) → Carried v t t′
+    pub placed : Holds t′ (change (Move (p .number) (InSteps (p .position))) (bookOf t)) → Carried v t t′
     placed h = subst⁻¹ (λ (y : Verdict). Carried y t t′) e h
 
   module _ (l : Leg) (e : v ≡ Verdict.Stand l) where
@@ -126,6 +128,21 @@ module _ (c : Command) (t w t′ : List ℕ) where
   accepted-step : (d : Command) → c ≡ d → done ≡ answer (bookOf t) c → Step t d done t′ → Step t c (answer (bookOf t) c) t′
   accepted-step d e a s = subst (λ (y : Reply). Step t c y t′) a (subst⁻¹ (λ (x : Command). Step t x done t′) e s)
 
+  -- one to receiver readings, which does what it does with the steps written out
+  written-kept : (x : Command) → Step t (writtenOut x) done t′ → Step t x done t′
+  unfolding change
+  written-kept (Add n l) h = h
+  written-kept (Remove n) h = h
+  written-kept (Move n l) h = h
+  written-kept (ListOf l) h = h
+  written-kept (Stand l) h = h
+  written-kept Print h = h
+  written-kept (Begin p) h = h
+  written-kept (Corner p) h = h
+
+  written-step : (d : Command) → writtenOut c ≡ d → done ≡ answer (bookOf t) c → Step t d done t′ → Step t c (answer (bookOf t) c) t′
+  written-step d e a s = subst (λ (y : Reply). Step t c y t′) a (written-kept c (subst⁻¹ (λ (x : Command). Step t x done t′) e s))
+
   -- a 43 that is answered by a list, and goes on with the tour
   listed-step : (p : Position) → c ≡ Corner p → (es : List Entry) → listed es ≡ answer (bookOf t) c
       → Holds t′ (change (Corner p) (bookOf t)) × Only tourStart tourEnd t t′ → Step t c (answer (bookOf t) c) t′
@@ -144,9 +161,9 @@ module _ (c : Command) (t w t′ : List ℕ) where
   carried-step (Verdict.Refuse x) d h = subst (λ (y : Reply). Step t c y t′) (d .judged .said) (h, left-alone h)
   carried-step (Verdict.Show l k) d h =
       subst (λ (y : Reply). Step t c y t′) (d .judged .said) (subst⁻¹ (λ (q : Bool). Left q t (change c (bookOf t)) t′) (d .command) h, left-alone h)
-  carried-step (Verdict.Insert k p) d h = accepted-step (Add (p .number) (p .position)) (d .command) (d .judged .said) (h, tt)
+  carried-step (Verdict.Insert k p) d h = written-step (Add (p .number) (InSteps (p .position))) (d .command) (d .judged .said) (h, tt)
   carried-step (Verdict.Delete k n) d h = accepted-step (Remove n) (d .command) (d .judged .said) (h, tt)
-  carried-step (Verdict.Place k p) d h = accepted-step (Move (p .number) (p .position)) (d .command) (d .judged .said) (h, tt)
+  carried-step (Verdict.Place k p) d h = written-step (Move (p .number) (InSteps (p .position))) (d .command) (d .judged .said) (h, tt)
   carried-step (Verdict.Stand l) d h = accepted-step (Stand l) (d .command) (d .judged .said) (h, tt)
   carried-step (Verdict.Begin p) d h = accepted-step (Begin p) (d .command) (d .judged .said) h
   carried-step (Verdict.Follow l j n k) d h = listed-step (l .e) (d .command) (entriesFrom l t w j k) (d .judged .said) h

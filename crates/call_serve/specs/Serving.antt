@@ -7,6 +7,7 @@ use lib.ListN.{length, drop}
 use Rattle.limits.specs.Limits.{maxSites}
 use Rattle.words.specs.Words.{Only}
 use Rattle.records.specs.Bytes.{write}
+use Rattle.readings.specs.declared.Location.the-variants.{InSteps}
 use Rattle.book.specs.declared.Command.the-variants.{Add, Remove, Move, Stand, Begin, Corner}
 use Rattle.book.specs.declared.BatchResult.{BatchResult}
 use Rattle.book.specs.Numbers.{reasonNumber}
@@ -36,9 +37,9 @@ Few (Answer.Listed l j k) = (j ≤ k) × (k ≤ maxSites)
 abbrev pub Carried : Verdict → List ℕ → List ℕ → Type 0
 Carried (Verdict.Refuse x) t t′ = t′ ≡ t
 Carried (Verdict.Show l k) t t′ = t′ ≡ t
-Carried (Verdict.Insert k p) t t′ = Holds t′ (change (Add (p .number) (p .position)) (bookOf t))
+Carried (Verdict.Insert k p) t t′ = Holds t′ (change (Add (p .number) (InSteps (p .position))) (bookOf t))
 Carried (Verdict.Delete k n) t t′ = Holds t′ (change (Remove n) (bookOf t))
-Carried (Verdict.Place k p) t t′ = Holds t′ (change (Move (p .number) (p .position)) (bookOf t))
+Carried (Verdict.Place k p) t t′ = Holds t′ (change (Move (p .number) (InSteps (p .position))) (bookOf t))
 Carried (Verdict.Stand l) t t′ = Holds t′ (change (Stand l) (bookOf t))
 Carried (Verdict.Begin p) t t′ = Holds t′ (change (Begin p) (bookOf t)) × Only tourStart tourEnd t t′
 Carried (Verdict.Follow l j n k) t t′ = Holds t′ (change (Corner (l .e)) (bookOf t)) × Only tourStart tourEnd t t′

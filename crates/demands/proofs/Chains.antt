@@ -21,9 +21,9 @@ use Rattle.demands.specs.Demands.{AllKeep, AllTour}
 -- what changes nothing changes nothing
 reads-same : (c : Command) (b : Book) → reads c ≡ true → change c b ≡ b
 unfolding change
-reads-same (Add n p) b e = absurd (true≢false (sym e))
+reads-same (Add n l) b e = absurd (true≢false (sym e))
 reads-same (Remove n) b e = absurd (true≢false (sym e))
-reads-same (Move n p) b e = absurd (true≢false (sym e))
+reads-same (Move n l) b e = absurd (true≢false (sym e))
 reads-same (ListOf l) b e = refl
 reads-same (Stand l) b e = absurd (true≢false (sym e))
 reads-same Print b e = refl

@@ -20,6 +20,7 @@ use Rattle.split.specs.SplitOf.{splitOf}
 use Rattle.split.proofs.Dealing.{no-site}
 use Rattle.records.specs.ListRecord.{recordBytes}
 use Rattle.records.specs.Decode.{Listed, listedOf}
+use Rattle.readings.specs.declared.Location.the-variants.{InSteps}
 use Rattle.book.specs.declared.Command.{Command}
 use Rattle.book.specs.declared.Command.the-variants.{Add, Remove, List as ListOf, Print}
 use Rattle.book.specs.declared.Cause.the-variants.{NoSite, NoLeg}
@@ -156,12 +157,12 @@ module _ (b : Book) (t′ : List ℕ) (h : Holds t′ b) (ok : Proper b) where
     new-is : new ≡ map listedOf (standingList (change k b))
     new-is = prints-list (g .table) (change k b) holds-then new (g .behind)
 
-  added-is : (p : Site) → NumberOk p → OnGrid (p .position) → (old new : List Listed) → Changed t′ (Add (p .number) (p .position)) old new
+  added-is : (p : Site) → NumberOk p → OnGrid (p .position) → (old new : List Listed) → Changed t′ (Add (p .number) (InSteps (p .position))) old new
       → (t : Fraction) → IsFraction t → (numberAt t new ≡ numberAt t old) ⊎ (numberAt t new ≡ some (p .number))
   unfolding change
   added-is p np on old new g t f =
-      let k = Add (p .number) (p .position) in
-      let enc : Encodable (Add (p .number) (p .position)) = (omega (arith, np .most), small (p .position) on) in
+      let k = Add (p .number) (InSteps (p .position)) in
+      let enc : Encodable (Add (p .number) (InSteps (p .position))) = (omega (arith, np .most), small (p .position) on) in
       rw (old-is k enc old new g, new-is k enc old new g)
       (numbers-more (b .lines) (writeLine p (b .lines)) p (numbered-then k enc old new g) (write-sites p (b .lines)) t f (b .leg))
 

@@ -23,6 +23,7 @@ use Rattle.split.specs.Ties.{FirstOfTies}
 use Rattle.split.specs.SplitOf.{splitOf}
 use Rattle.records.specs.ListRecord.{recordBytes}
 use Rattle.records.specs.Decode.{Listed, listedOf, readRecord}
+use Rattle.readings.specs.declared.Location.the-variants.{InSteps}
 use Rattle.book.specs.declared.Command.{Command}
 use Rattle.book.specs.declared.Command.the-variants.{Add, Remove, List as ListOf, Print, Corner}
 use Rattle.book.specs.declared.Reason.{Reason}
@@ -301,7 +302,7 @@ pub record Demand3On (cs : List Call) (b : Book) (t′ : List ℕ) : Type 0 wher
       → (c : Call) (t″ : List ℕ) → Asks t′ print50 c t″ → 2 ≤ length (c .report) → WroteReport c (0x21 ∷ 7 ∷ [])
   -- one accepted 41: at every fraction the standing list names what it named before, or the new site
   pub added : (p : Site) → NumberOk p → OnGrid (p .position)
-      → (old new : List Listed) → Changed t′ (Add (p .number) (p .position)) old new
+      → (old new : List Listed) → Changed t′ (Add (p .number) (InSteps (p .position))) old new
       → (t : Fraction) → IsFraction t → (numberAt t new ≡ numberAt t old) ⊎ (numberAt t new ≡ some (p .number))
   -- one accepted 44: at every fraction it names what it named before, or it named the site that is gone
   pub removed : (n : ℕ) → n ≤ maxNumber → (old new : List Listed) → Changed t′ (Remove n) old new

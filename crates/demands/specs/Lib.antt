@@ -9,3 +9,4 @@ pub mod TourLines
 pub mod ByNumber
 pub mod TourRules
 pub mod Faults
+pub mod InSteps

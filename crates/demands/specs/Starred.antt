@@ -11,7 +11,8 @@ use Rattle.grid.specs.Side.{wayBack}
 use Rattle.records.specs.Bytes.{bytes2, bytes4}
 use Rattle.records.specs.Decode.{Listed}
 use Rattle.book.specs.declared.Command.{Command}
-use Rattle.book.specs.declared.Command.the-variants.{Add, Remove, Move, List as ListOf, Stand, Print}
+use Rattle.book.specs.declared.Command.the-variants.{Remove, List as ListOf, Stand, Print}
+use Rattle.book.specs.Command.{addAt, moveTo}
 use Rattle.book.specs.Book.{emptyBook}
 use Rattle.book.specs.Encode.{commandBytes}
 use Rattle.book.specs.Run.{records, run}
@@ -46,7 +47,7 @@ twoEntries e f = 0x3D ∷ bytes2 2 ++ e ++ f
 
 -- two additions and the list of a leg
 abbrev pub pair : ℕ → Position → ℕ → Position → Leg → List Command
-pair k p j q l = Add k p ∷ Add j q ∷ ListOf l ∷ []
+pair k p j q l = addAt k p ∷ addAt j q ∷ ListOf l ∷ []
 
 -- the list of the longest leg
 abbrev pub longestRecord : List ℕ
@@ -70,12 +71,12 @@ longestList =
 abbrev pub starredLines : List Line
 starredLines =
     line
-    (pair 1 (at 2 3) 2 (at 7 1) ten ++ (Add 3 (atSouth 9 4) ∷ ListOf ten ∷ Remove 2 ∷ Remove 3 ∷ ListOf ten ∷ []))
+    (pair 1 (at 2 3) 2 (at 7 1) ten ++ (addAt 3 (atSouth 9 4) ∷ ListOf ten ∷ Remove 2 ∷ Remove 3 ∷ ListOf ten ∷ []))
     (0x2B ∷ 0x2B ∷ twoEntries (sinceBytes 1 0 1) (sinceBytes 2 37 100)
     ++ (0x2B ∷ twoEntries (sinceBytes 1 0 1) (sinceBytes 2 37 100))
     ++ (0x2B ∷ 0x2B ∷ oneEntry (sinceBytes 1 0 1)))
     ∷ line (pair 2 (at 3 4) 5 (atSouth 3 4) ten) (0x2B ∷ 0x2B ∷ oneEntry (sinceBytes 5 0 1))
-    ∷ line (Add 1 (at 0 0) ∷ pair 2 (at 10 0) 3 (at 5 5) ten) (0x2B ∷ 0x2B ∷ 0x2B ∷ twoEntries (sinceBytes 1 0 1) (sinceBytes 2 1 2))
+    ∷ line (addAt 1 (at 0 0) ∷ pair 2 (at 10 0) 3 (at 5 5) ten) (0x2B ∷ 0x2B ∷ 0x2B ∷ twoEntries (sinceBytes 1 0 1) (sinceBytes 2 1 2))
     ∷ line (pair 1 (atWest 2 0) 2 (at 2 0) ten) (0x2B ∷ 0x2B ∷ oneEntry (sinceBytes 2 0 1))
     ∷ line (pair 1 (at 8 0) 2 (at 12 0) ten) (0x2B ∷ 0x2B ∷ oneEntry (sinceBytes 1 0 1))
     ∷ line (pair 7 (at 4 5) 3 (at 5 4) (leg (at 4 4) (at 4 4))) (0x2B ∷ 0x2B ∷ oneEntry (sinceBytes 3 0 1))
@@ -106,13 +107,13 @@ given (x ∷ xs) = records (run (bytesOf (x .commands)) 1000 emptyBook .turns) �
 abbrev pub standingLines : List Line
 standingLines =
     line
-    (Stand ten ∷ Add 1 (at 2 3) ∷ Add 2 (at 7 1) ∷ Print ∷ Remove 2 ∷ Print ∷ Remove 1 ∷ Print ∷ [])
+    (Stand ten ∷ addAt 1 (at 2 3) ∷ addAt 2 (at 7 1) ∷ Print ∷ Remove 2 ∷ Print ∷ Remove 1 ∷ Print ∷ [])
     (0x2B ∷ 0x2B ∷ 0x2B ∷ twoEntries (sinceBytes 1 0 1) (sinceBytes 2 37 100) ++ (0x2B ∷ oneEntry (sinceBytes 1 0 1)) ++ (0x2B ∷ 0x21 ∷ 6 ∷ []))
     ∷ line
-    (Stand ten ∷ Add 1 (at 2 3) ∷ Add 2 (at 7 1) ∷ Move 1 (at 7 1) ∷ Move 2 (at 2 3) ∷ Print ∷ [])
+    (Stand ten ∷ addAt 1 (at 2 3) ∷ addAt 2 (at 7 1) ∷ moveTo 1 (at 7 1) ∷ moveTo 2 (at 2 3) ∷ Print ∷ [])
     (0x2B ∷ 0x2B ∷ 0x2B ∷ 0x2B ∷ 0x2B ∷ twoEntries (sinceBytes 2 0 1) (sinceBytes 1 37 100))
     ∷ line
-    (Stand ten ∷ Add 2 (at 3 4) ∷ Print ∷ Add 5 (atSouth 3 4) ∷ Print
+    (Stand ten ∷ addAt 2 (at 3 4) ∷ Print ∷ addAt 5 (atSouth 3 4) ∷ Print
     ∷ Stand (wayBack ten) ∷ Print ∷ Remove 2 ∷ Print ∷ [])
     (0x2B ∷ 0x2B ∷ oneEntry (sinceBytes 2 0 1) ++ (0x2B ∷ oneEntry (sinceBytes 5 0 1))
     ++ (0x2B ∷ oneEntry (sinceBytes 2 0 1)) ++ (0x2B ∷ oneEntry (sinceBytes 5 0 1)))

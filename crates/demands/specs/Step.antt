@@ -36,9 +36,9 @@ Left false t b t′ = Holds t′ b
 
 -- a command of a tour, 42 or 43
 abbrev pub tours : Command → Bool
-tours (Add n p) = false
+tours (Add n l) = false
 tours (Remove n) = false
-tours (Move n p) = false
+tours (Move n l) = false
 tours (ListOf l) = false
 tours (Stand l) = false
 tours Print = false

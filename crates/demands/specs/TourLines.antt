@@ -17,7 +17,8 @@ use Rattle.split.specs.Legs.{at, site, leg, ten}
 use Rattle.records.specs.Bytes.{bytes2}
 use Rattle.records.specs.Decode.{Listed, listedOf}
 use Rattle.book.specs.declared.Command.{Command}
-use Rattle.book.specs.declared.Command.the-variants.{Add, Remove, Move, List as ListOf, Stand, Print, Begin, Corner}
+use Rattle.book.specs.declared.Command.the-variants.{Remove, List as ListOf, Stand, Print, Begin, Corner}
+use Rattle.book.specs.Command.{addAt, moveTo}
 use Rattle.book.specs.Tour.{leftOut}
 use Rattle.book.specs.Listener.{saidDone, saidRefused, saidList, Exchange, hearRecords, commandsIn, saidAt, heardLeg}
 use Rattle.demands.specs.Whole.{Said, Ask}
@@ -34,20 +35,20 @@ noEntry = 0x3D ∷ bytes2 0
 abbrev pub tourLines : List Line
 tourLines =
     line
-    (Corner (at 20000 0) ∷ Begin (at 20000 0) ∷ Begin (at 0 0) ∷ Corner (at 20000 0) ∷ Corner (at 10 0) ∷ Add 1 (at 2 3)
+    (Corner (at 20000 0) ∷ Begin (at 20000 0) ∷ Begin (at 0 0) ∷ Corner (at 20000 0) ∷ Corner (at 10 0) ∷ addAt 1 (at 2 3)
     ∷ Corner (at 10 0) ∷ [])
     (0x21 ∷ 8 ∷ 0x21 ∷ 2 ∷ 0x2B ∷ 0x21 ∷ 2 ∷ 0x21 ∷ 6 ∷ 0x2B ∷ 0x21 ∷ 8 ∷ [])
     ∷ line
-    (Add 1 (at 2 3) ∷ Add 2 (at 7 1) ∷ Begin (at 0 0) ∷ Corner (at 10 0) ∷ Corner (at 20000 0) ∷ Begin (at 20000 0)
-    ∷ Stand ten ∷ ListOf ten ∷ Print ∷ Remove 9 ∷ Add 1 (at 5 5) ∷ Corner (at 10 0) ∷ Corner (at 9 0) ∷ Corner (at 0 0)
+    (addAt 1 (at 2 3) ∷ addAt 2 (at 7 1) ∷ Begin (at 0 0) ∷ Corner (at 10 0) ∷ Corner (at 20000 0) ∷ Begin (at 20000 0)
+    ∷ Stand ten ∷ ListOf ten ∷ Print ∷ Remove 9 ∷ addAt 1 (at 5 5) ∷ Corner (at 10 0) ∷ Corner (at 9 0) ∷ Corner (at 0 0)
     ∷ Begin (at 0 0) ∷ Corner (at 10 0) ∷ [])
     (0x2B ∷ 0x2B ∷ 0x2B ∷ twoEntries (sinceBytes 1 0 1) (sinceBytes 2 37 100) ++ (0x21 ∷ 2 ∷ 0x21 ∷ 2 ∷ 0x2B ∷ [])
     ++ twoEntries (sinceBytes 1 0 1) (sinceBytes 2 37 100) ++ twoEntries (sinceBytes 1 0 1) (sinceBytes 2 37 100)
     ++ (0x21 ∷ 4 ∷ 0x21 ∷ 3 ∷ []) ++ noEntry ++ noEntry ++ oneEntry (sinceBytes 1 53 90)
     ++ (0x2B ∷ twoEntries (sinceBytes 1 0 1) (sinceBytes 2 37 100)))
     ∷ line
-    (Add 1 (at 2 3) ∷ Add 2 (at 7 1) ∷ Begin (at 0 0) ∷ Corner (at 10 0) ∷ Add 3 (at 50 50) ∷ Corner (at 0 0)
-    ∷ Begin (at 0 0) ∷ Remove 3 ∷ Corner (at 0 0) ∷ Begin (at 0 0) ∷ Move 2 (at 7 1) ∷ Corner (at 0 0) ∷ [])
+    (addAt 1 (at 2 3) ∷ addAt 2 (at 7 1) ∷ Begin (at 0 0) ∷ Corner (at 10 0) ∷ addAt 3 (at 50 50) ∷ Corner (at 0 0)
+    ∷ Begin (at 0 0) ∷ Remove 3 ∷ Corner (at 0 0) ∷ Begin (at 0 0) ∷ moveTo 2 (at 7 1) ∷ Corner (at 0 0) ∷ [])
     (0x2B ∷ 0x2B ∷ 0x2B ∷ twoEntries (sinceBytes 1 0 1) (sinceBytes 2 37 100)
     ++ (0x2B ∷ 0x21 ∷ 8 ∷ 0x2B ∷ 0x2B ∷ 0x21 ∷ 8 ∷ 0x2B ∷ 0x2B ∷ 0x21 ∷ 8 ∷ []))
     ∷ []
@@ -65,10 +66,10 @@ saying reason used bytes = record { reason = reason; used = used; written = leng
 -- addition, which ends the tour, another one begun, and its first leg
 abbrev pub tourAsks : List Ask
 tourAsks =
-    asking (Add 1 (at 2 3) ∷ Add 2 (at 7 1) ∷ Begin (at 0 0) ∷ Corner (at 10 0) ∷ []) 25
+    asking (addAt 1 (at 2 3) ∷ addAt 2 (at 7 1) ∷ Begin (at 0 0) ∷ Corner (at 10 0) ∷ []) 25
     ∷ asking (Corner (at 10 0) ∷ []) 23
     ∷ asking (Corner (at 20000 0) ∷ Stand ten ∷ ListOf ten ∷ Corner (at 9 0) ∷ Corner (at 0 0) ∷ []) 100
-    ∷ asking (Add 3 (at 50 50) ∷ Corner (at 0 0) ∷ Begin (at 0 0) ∷ Corner (at 10 0) ∷ []) 27
+    ∷ asking (addAt 3 (at 50 50) ∷ Corner (at 0 0) ∷ Begin (at 0 0) ∷ Corner (at 10 0) ∷ []) 27
     ∷ []
 
 -- "A refused command leaves corner and tour", and so does 68: the tour goes on from (0,0), and then from (10,0)
@@ -101,7 +102,7 @@ tenListed = since 1 0 1 ∷ since 2 37 100 ∷ []
 
 -- what is heard before the first leg, before the second, before the way back, and before the leg of the other tour
 abbrev pub beforeFirst : List Exchange
-beforeFirst = granted (Add 1 (at 2 3)) ∷ granted (Add 2 (at 7 1)) ∷ granted (Begin (at 0 0)) ∷ []
+beforeFirst = granted (addAt 1 (at 2 3)) ∷ granted (addAt 2 (at 7 1)) ∷ granted (Begin (at 0 0)) ∷ []
 
 -- a refused 43, a 53 and a 4C stand between the first leg and the second
 abbrev pub beforeSecond : List Exchange
@@ -122,7 +123,7 @@ abbrev pub beforeOther : List Exchange
 beforeOther =
     beforeBack
     ++ (heardLeg (at 0 0) (since 1 53 90 ∷ [])
-    ∷ granted (Add 3 (at 50 50))
+    ∷ granted (addAt 3 (at 50 50))
     ∷ record { command = Corner (at 0 0); told = saidRefused 8 }
     ∷ granted (Begin (at 0 0))
     ∷ [])

@@ -59,7 +59,7 @@ pub short-made : (t w cs rep t′ w′ rep′ : List ℕ) (r : BatchResult) → 
 short-made t w cs rep t′ w′ rep′ r e f b = small-made 1 cs rep r t t′ rep′ f (called 1 t w cs rep t′ w′ rep′ r e b)
 
 -- what it said
-called-said : (a : Ask) (r : Heard) (t t′ : List ℕ) (h : Called a (r .result) t t′ (r .report)) → said (h .call) ≡ saidIn r
+pub called-said : (a : Ask) (r : Heard) (t t′ : List ℕ) (h : Called a (r .result) t t′ (r .report)) → said (h .call) ≡ saidIn r
 called-said a r t t′ h = λ i.
     record { reason = h .result i .reason; used = h .result i .used; written = h .result i .written; bytes = take (h .result i .written) (h .report i) }
 

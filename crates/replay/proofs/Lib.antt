@@ -1,3 +1,4 @@
 pub mod Computed
 pub mod Citing
 pub mod Faults
+pub mod Surveying

@@ -17,6 +17,7 @@ use Rattle.grid.specs.declared.Leg.{Leg}
 use Rattle.grid.specs.Position.{OnGrid, LegOnGrid}
 use Rattle.split.specs.SplitOf.{splitOf}
 use Rattle.split.proofs.Exists.{split-is}
+use Rattle.readings.specs.declared.Location.the-variants.{InSteps}
 use Rattle.book.specs.declared.Command.the-variants.{Add, Remove, Move, Stand, Begin, Corner}
 use Rattle.book.specs.Tour.{Tour, tourLeg, cornered, goesOn}
 use Rattle.book.specs.Book.{withLines, withTour, writeLine, strikeLine, moveLine, holds, listOf, change}
@@ -138,7 +139,7 @@ module _ (b b₀ b₁ : List ℕ) (p : Site) (s : Sound b) (st : TourStored none
   add-stands k h = subst (StandsAt k (p .number)) (sym (added .lines)) (written-at k p (linesIn b) h)
 
   -- ADDED
-  pub add-done : (b₂ : List ℕ) → Holds b₂ (bookOf b₁) → Holds b₂ (change (Add (p .number) (p .position)) (bookOf b))
+  pub add-done : (b₂ : List ℕ) → Holds b₂ (bookOf b₁) → Holds b₂ (change (Add (p .number) (InSteps (p .position))) (bookOf b))
   unfolding change
   add-done b₂ h = relined-holds b b₁ (writeLine p (linesIn b)) s added b₂ h
 
@@ -168,7 +169,7 @@ module _ (b b₀ b₁ : List ℕ) (q : Site) (s : Sound b) (st : TourStored none
   move-stands k h = subst (StandsAt k (q .number)) (sym (moved .lines)) (moved-at k (q .number) (q .position) (linesIn b) h)
 
   -- MOVED
-  pub move-done : (b₂ : List ℕ) → Holds b₂ (bookOf b₁) → Holds b₂ (change (Move (q .number) (q .position)) (bookOf b))
+  pub move-done : (b₂ : List ℕ) → Holds b₂ (bookOf b₁) → Holds b₂ (change (Move (q .number) (InSteps (q .position))) (bookOf b))
   unfolding change
   move-done b₂ h = relined-holds b b₁ (moveLine (q .number) (q .position) (linesIn b)) s moved b₂ h
 

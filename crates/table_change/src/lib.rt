@@ -9,6 +9,7 @@ ghost use lib.ListN.{length};
 ghost use Rattle.limits.specs.Limits.{maxSites};
 ghost use Rattle.grid.specs.Position.{OnGrid, LegOnGrid};
 ghost use Rattle.list_row.specs.Vertices.{rowBytes};
+ghost use Rattle.readings.specs.declared.Location.{Location};
 ghost use Rattle.book.specs.declared.Command.{Command};
 ghost use Rattle.book.specs.Book.{writeLine, strikeLine, moveLine, change};
 ghost use Rattle.book.specs.Proper.{NumberOk};
@@ -78,7 +79,7 @@ pub fn insert(t: &mut [u8], work: &mut [u8], k: usize, site: Site)
         × (length (linesIn (now t)) < maxSites) ⌝ }
     requires { ⌜ NumberOk site × OnGrid (site .position) × (rowBytes ≤ length (now work)) ⌝ }
     ensures { λ _. ⌜ Holds (now (t .exit))
-        (change (Command.Add (site .number) (site .position)) (bookOf (now (t .entry)))) ⌝ }
+        (change (Command.Add (site .number) (Location.InSteps (site .position))) (bookOf (now (t .entry)))) ⌝ }
 {
     table_header::end_tour(t);
     grow(t, k, site);
@@ -101,7 +102,7 @@ pub fn place(t: &mut [u8], work: &mut [u8], k: usize, site: Site)
     requires { ⌜ Sound (now t) × StandsAt k (site .number) (linesIn (now t)) × OnGrid (site .position)
         × (rowBytes ≤ length (now work)) ⌝ }
     ensures { λ _. ⌜ Holds (now (t .exit))
-        (change (Command.Move (site .number) (site .position)) (bookOf (now (t .entry)))) ⌝ }
+        (change (Command.Move (site .number) (Location.InSteps (site .position))) (bookOf (now (t .entry)))) ⌝ }
 {
     table_header::end_tour(t);
     relocate(t, k, site);

@@ -1,10 +1,8 @@
-use Rattle.call_parse.proofs.Finding.{corner-made}
+use Rattle.call_parse.proofs.Finding.{last-made}
 use borrow.Author.Needs.{needs}
 use Rattle.book.specs.Command.{formOf}
 use Rattle.call_parse.proofs.command.Statement.{statement}
 use Rattle.call_parse.proofs.command.Tie as tie
-use Rattle.call_parse.proofs.command.Reads as reads
-use Rattle.call_parse.proofs.command.Lts as lts
 
 returns : tie.Need-returns
 unfolding formOf
@@ -35,9 +33,27 @@ unfolding formOf
 returns-7 c = rw (c .match .keys7)
 
 returns-8 : tie.Need-returns-8
-returns-8 c = search (needs, corner-made)
+unfolding formOf
+returns-8 c = rw (c .match .keys8)
+
+returns-9 : tie.Need-returns-9
+unfolding formOf
+returns-9 c = rw (c .match .keys9)
+
+returns-10 : tie.Need-returns-10
+returns-10 c = search (needs, last-made)
 
 pub command-spec : {M : Type 1} → statement M
 command-spec =
     tie.close
-    (tie.spec returns returns-2 returns-3 returns-4 returns-5 returns-6 returns-7 returns-8)
+    (tie.spec
+    returns
+    returns-2
+    returns-3
+    returns-4
+    returns-5
+    returns-6
+    returns-7
+    returns-8
+    returns-9
+    returns-10)

@@ -3,8 +3,6 @@ use borrow.Author.Needs.{needs}
 use Rattle.book.specs.Command.{formOf}
 use Rattle.call_parse.proofs.mark_of.Statement.{statement}
 use Rattle.call_parse.proofs.mark_of.Tie as tie
-use Rattle.call_parse.proofs.mark_of.Reads as reads
-use Rattle.call_parse.proofs.mark_of.Lts as lts
 
 returns : tie.Need-returns
 unfolding formOf
@@ -39,7 +37,15 @@ unfolding formOf
 returns-8 c = rw (c .match .keys8)
 
 returns-9 : tie.Need-returns-9
-returns-9 c = search (needs, unlisted)
+unfolding formOf
+returns-9 c = rw (c .match .keys9)
+
+returns-10 : tie.Need-returns-10
+unfolding formOf
+returns-10 c = rw (c .match .keys10)
+
+returns-11 : tie.Need-returns-11
+returns-11 c = search (needs, unlisted)
 
 pub mark-of-spec : {M : Type 1} → statement M
 mark-of-spec =
@@ -53,4 +59,6 @@ mark-of-spec =
     returns-6
     returns-7
     returns-8
-    returns-9)
+    returns-9
+    returns-10
+    returns-11)

@@ -1,15 +1,10 @@
-use Rattle.call_parse.proofs.Finding.{nothing-read, number-read, one-position-read, number-position-read, two-positions-read}
+use Rattle.call_parse.proofs.Finding.{nothing-read, number-read, one-position-read, number-position-read, two-positions-read, number-readings-read}
 use mathlib.Core.Path.{ap}
 use native.Mathlib.Omega.{arith}
 use Rattle.book.specs.Command.{operandBytes}
 use borrow.Author.Needs.{needs}
 use Rattle.call_parse.proofs.operands_at.Statement.{statement}
 use Rattle.call_parse.proofs.operands_at.Tie as tie
-use Rattle.call_parse.proofs.operands_at.Reads as reads
-use Rattle.call_parse.proofs.operands_at.Lts as lts
-use Rattle.call_parse.proofs.leg_at.Reads as leg-at-reads
-use Rattle.call_parse.proofs.position_at.Reads as position-at-reads
-use Rattle.words.proofs.word.Reads as word-reads
 
 enum-told : tie.Need-enum-told
 enum-told c = search needs
@@ -44,6 +39,18 @@ enum-told-5 c = search needs
 leg-at-requires : tie.Need-leg-at-requires
 leg-at-requires c κs = omega (arith, ap operandBytes (c .enum-told5 .given .1))
 
+enum-told-6 : tie.Need-enum-told-6
+enum-told-6 c = search needs
+
+word-requires-3 : tie.Need-word-requires-3
+word-requires-3 c κs = omega (arith, ap operandBytes (c .enum-told6 .given .1))
+
+add-reading-at : tie.Need-add-reading-at
+add-reading-at c = search needs
+
+reading-at-requires : tie.Need-reading-at-requires
+reading-at-requires c κs = omega (arith, ap operandBytes (c .before .enum-told6 .given .1))
+
 returns : tie.Need-returns
 returns c = search (needs, nothing-read)
 
@@ -58,6 +65,9 @@ returns-4 c = search (needs, number-position-read)
 
 returns-5 : tie.Need-returns-5
 returns-5 c = search (needs, two-positions-read)
+
+returns-6 : tie.Need-returns-6
+returns-6 c = search (needs, number-readings-read)
 
 pub operands-at-spec : {M : Type 1} → statement M
 operands-at-spec =
@@ -74,8 +84,13 @@ operands-at-spec =
     position-at-requires-2
     enum-told-5
     leg-at-requires
+    enum-told-6
+    word-requires-3
+    add-reading-at
+    reading-at-requires
     returns
     returns-2
     returns-3
     returns-4
-    returns-5)
+    returns-5
+    returns-6)

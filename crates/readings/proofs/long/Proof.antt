@@ -1,0 +1,42 @@
+use Rattle.readings.specs.Location.{longAt}
+use borrow.Author.Needs.{needs}
+use Rattle.readings.proofs.long.Statement.{statement}
+use Rattle.readings.proofs.long.Tie as tie
+
+word-requires : tie.Need-word-requires
+word-requires c κs = search needs
+
+wide-requires : tie.Need-wide-requires
+wide-requires c κs = search needs
+
+add-word : tie.Need-add-word
+add-word c = search needs
+
+word-requires-2 : tie.Need-word-requires-2
+word-requires-2 c κs = search needs
+
+wide-requires-2 : tie.Need-wide-requires-2
+wide-requires-2 c κs = search needs
+
+mul-result : tie.Need-mul-result
+mul-result c = search needs
+
+add-result : tie.Need-add-result
+add-result c = search needs
+
+returns : tie.Need-returns
+unfolding longAt
+returns c = search needs
+
+pub long-spec : {M : Type 1} → statement M
+long-spec =
+    tie.close
+    (tie.spec
+    word-requires
+    wide-requires
+    add-word
+    word-requires-2
+    wide-requires-2
+    mul-result
+    add-result
+    returns)
