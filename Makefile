@@ -1,6 +1,6 @@
 # `make` prints the targets. What is built goes to standard error, so that standard output is the
 # demonstration alone.
-.PHONY: help test text demo bench soak lib install uninstall clean
+.PHONY: help test text demo bench soak readings lib install uninstall clean
 .DEFAULT_GOAL := help
 
 PREFIX ?= /usr/local
@@ -10,7 +10,9 @@ VERSION := $(shell sed -n 's/^\#define STOPS_VERSION "\(.*\)"/\1/p' include/stop
 SOURCES := crates.txt $(shell find crates -type f \( -name '*.rt' -o -name '*.antt' \))
 HOST = target/staticlib/libhost.a
 PROBE = target/staticlib/liblist_probe.a
-STOPS = target/bin/stops
+READING_PROBE = target/staticlib/libreading_probe.a
+PROGRAM = target/bin/stops
+STOPS = target/package/stops
 STOPS_TEXT = text/target/release/stops-text
 EXAMPLE = crates/stops/stdin
 ANSWERS = target/demo.answers
@@ -28,13 +30,19 @@ help:
 test:
 	bash .ci/run
 
-$(HOST) $(PROBE): target/staticlib/lib%.a: $(SOURCES)
+$(HOST) $(PROBE) $(READING_PROBE): target/staticlib/lib%.a: $(SOURCES)
 	@rt staticlib $* >&2
 	@touch $@
 
-$(STOPS): $(SOURCES)
+$(PROGRAM): $(SOURCES)
 	@rt check stops >&2
 	@touch $@
+
+# rt links the program against the C library of its kit, whose remainder of two floats (fmodf) asks for
+# glibc 2.38. This is the same proved object, linked against the C library of this machine.
+$(STOPS): $(PROGRAM)
+	@mkdir -p $(PACKAGE)
+	@cc target/obj/stops.o $(dir $(realpath $(shell command -v rt)))../lib/libos_c.a -lm -o $@
 
 text: $(HOST)
 	@cargo build --offline --release --manifest-path text/Cargo.toml >&2
@@ -57,6 +65,14 @@ bench: $(HOST) $(PROBE)
 soak: $(HOST)
 	cargo run --offline --release --manifest-path tests/Cargo.toml -p soak --features proved -- $(MINUTES) $(SEED)
 
+# All 2^32 patterns of a receiver's reading: the proved rounding beside the second program's, with the
+# remainder of Rust's own library, and beside the rule in C, with that of the C library.
+readings: $(READING_PROBE)
+	cargo run --offline --release --manifest-path tests/Cargo.toml -p readings
+	@mkdir -p $(PACKAGE)
+	cc -O2 tests/readings/c/readings.c $< -lm -pthread -o $(PACKAGE)/readings
+	$(PACKAGE)/readings all
+
 lib: $(PACKAGE)/libstops.a $(SHARED)
 
 $(PACKAGE)/stops.o: $(HOST)
@@ -69,7 +85,7 @@ $(PACKAGE)/libstops.a: $(PACKAGE)/stops.o
 	ar rcs $@ $<
 
 $(SHARED): $(PACKAGE)/stops.o package/stops.map
-	cc -shared -Wl,-soname,$(SONAME) -Wl,--version-script=package/stops.map -Wl,--no-undefined $< -o $@
+	cc -shared -Wl,-soname,$(SONAME) -Wl,--version-script=package/stops.map -Wl,--no-undefined $< -lm -o $@
 
 include package/install.mk
 

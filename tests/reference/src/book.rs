@@ -1,5 +1,5 @@
 //! The site book of document 01 ("The site book", "Causes and numbers"), with the tour of document
-//! 02, C-13.
+//! 02, C-13, and the readings of C-15.
 //!
 //! The book has no table, so it never answers 65 or 69; a table of wrong length is not its matter.
 
@@ -7,7 +7,7 @@ use crate::command::{Command, Unread};
 use crate::grid::{Leg, MOST_SITES, Position, REPORT_LEN, Site, WORK_LEN};
 use crate::record::Record;
 use crate::split::Entry;
-use crate::{hull, split};
+use crate::{grid, hull, split};
 use std::collections::BTreeMap;
 
 pub const ALL_USED: u8 = 0;
@@ -30,7 +30,12 @@ pub enum Cause {
     NoSite = 6,
     NoStandingLeg = 7,
     NoTour = 8,
+    /// Document 02, C-15.
+    NotFinite = 11,
 }
+
+/// Every number that a refusal has.
+pub const REFUSALS: [u8; 9] = [1, 2, 3, 4, 5, 6, 7, 8, 11];
 
 #[derive(Clone, Debug, PartialEq, Eq)]
 pub struct Reply {
@@ -165,13 +170,14 @@ impl Book {
         let held = |number: u16| self.lines.contains_key(&number);
         match cause {
             Cause::NumberZero => command.number() == Some(0),
-            Cause::OffGrid => command.positions().iter().any(|p| !p.on_grid()),
+            Cause::OffGrid => !command.coordinates().into_iter().all(grid::on_axis),
             Cause::NumberHeld => command.number().is_some_and(held),
             Cause::NumberNotHeld => !command.number().is_some_and(held),
             Cause::TableFull => self.lines.len() >= MOST_SITES,
             Cause::NoSite => self.lines.is_empty(),
             Cause::NoStandingLeg => self.leg.is_none(),
             Cause::NoTour => self.tour.is_none(),
+            Cause::NotFinite => command.readings().is_some_and(|r| !r.are_finite()),
         }
     }
 
@@ -179,6 +185,7 @@ impl Book {
     fn record(&self, command: &Command) -> Record {
         match *command {
             Command::Add(_) | Command::Remove(_) | Command::Move(_) => Record::Accepted,
+            Command::AddReadings(..) | Command::MoveReadings(..) => Record::Accepted,
             Command::Stand(_) | Command::Begin(_) => Record::Accepted,
             Command::List(leg) => Record::List(self.split_list(&leg)),
             Command::Print => {
@@ -200,9 +207,9 @@ impl Book {
 
     fn carry_out(&mut self, command: &Command) {
         match *command {
-            Command::Add(site) | Command::Move(site) => {
-                self.lines.insert(site.number, site.position);
-                self.tour = None;
+            Command::Add(site) | Command::Move(site) => self.put(site),
+            Command::AddReadings(..) | Command::MoveReadings(..) => {
+                self.put(command.site().expect("test 11 asks for finite readings"));
             }
             Command::Remove(number) => {
                 self.lines.remove(&number);
@@ -213,6 +220,12 @@ impl Book {
             Command::Begin(corner) => self.tour = Some(Tour::begun(corner)),
             Command::Corner(corner) => self.tour = self.tour.map(|tour| self.went_on(tour, corner)),
         }
+    }
+
+    /// Writes a line, or gives it another position.
+    fn put(&mut self, site: Site) {
+        self.lines.insert(site.number, site.position);
+        self.tour = None;
     }
 
     /// The tour with this as its last corner.
@@ -235,7 +248,8 @@ impl Book {
     }
 }
 
-/// The last column of document 01's table of commands; of 42 and 43 what document 02, C-13, says.
+/// The last column of document 01's table of commands; of 42 and 43 what document 02, C-13, says, and
+/// of 61 and 6D what C-15 says: "tested after 1 and before 2".
 fn tests_in_order(command: &Command) -> &'static [Cause] {
     use Cause::*;
     match command {
@@ -247,5 +261,7 @@ fn tests_in_order(command: &Command) -> &'static [Cause] {
         Command::Print => &[NoStandingLeg, NoSite],
         Command::Begin(_) => &[OffGrid],
         Command::Corner(_) => &[NoTour, OffGrid, NoSite],
+        Command::AddReadings(..) => &[NumberZero, NotFinite, OffGrid, NumberHeld, TableFull],
+        Command::MoveReadings(..) => &[NumberZero, NotFinite, OffGrid, NumberNotHeld],
     }
 }

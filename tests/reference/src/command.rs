@@ -1,7 +1,8 @@
-//! The six commands of document 01 ("Buffers and batches"), the two of document 02, C-13, and their
-//! bytes.
+//! The six commands of document 01 ("Buffers and batches"), those of document 02, C-13 and C-15, and
+//! their bytes.
 
 use crate::grid::{Leg, Position, Site};
+use crate::reading::{Reading, Readings};
 
 pub const ADD: u8 = 0x41;
 pub const REMOVE: u8 = 0x44;
@@ -12,6 +13,23 @@ pub const PRINT: u8 = 0x50;
 /// Document 02, C-13.
 pub const BEGIN: u8 = 0x42;
 pub const CORNER: u8 = 0x43;
+/// Document 02, C-15.
+pub const ADD_READINGS: u8 = 0x61;
+pub const MOVE_READINGS: u8 = 0x6D;
+
+/// Every mark.
+pub const MARKS: [u8; 10] = [
+    ADD,
+    REMOVE,
+    MOVE,
+    LIST,
+    STAND,
+    PRINT,
+    BEGIN,
+    CORNER,
+    ADD_READINGS,
+    MOVE_READINGS,
+];
 
 #[derive(Clone, Copy, Debug, PartialEq, Eq)]
 pub enum Command {
@@ -25,6 +43,9 @@ pub enum Command {
     Begin(Position),
     /// Lists the tour's leg from its last corner to there.
     Corner(Position),
+    /// "Commands 61 and 6D do what 41 and 4D do", with readings for the position.
+    AddReadings(u16, Readings),
+    MoveReadings(u16, Readings),
 }
 
 /// Why no command can be read.
@@ -39,18 +60,46 @@ impl Command {
     pub fn number(&self) -> Option<u16> {
         match *self {
             Command::Add(site) | Command::Move(site) => Some(site.number),
+            Command::AddReadings(number, _) | Command::MoveReadings(number, _) => Some(number),
             Command::Remove(number) => Some(number),
             Command::List(_) | Command::Stand(_) | Command::Print => None,
             Command::Begin(_) | Command::Corner(_) => None,
         }
     }
 
-    /// The positions among the operands.
-    pub fn positions(&self) -> Vec<Position> {
+    /// The readings among the operands.
+    pub fn readings(&self) -> Option<Readings> {
         match *self {
-            Command::Add(site) | Command::Move(site) => vec![site.position],
-            Command::List(leg) | Command::Stand(leg) => vec![leg.s, leg.e],
-            Command::Begin(position) | Command::Corner(position) => vec![position],
+            Command::AddReadings(_, readings) | Command::MoveReadings(_, readings) => {
+                Some(readings)
+            }
+            _ => None,
+        }
+    }
+
+    /// The site that is added or moved, there where it will stand; none where a reading is not finite.
+    pub fn site(&self) -> Option<Site> {
+        match *self {
+            Command::Add(site) | Command::Move(site) => Some(site),
+            Command::AddReadings(number, readings) | Command::MoveReadings(number, readings) => {
+                let position = readings.position()?;
+                Some(Site { number, position })
+            }
+            _ => None,
+        }
+    }
+
+    /// The coordinates among the operands; of readings the steps of those that are finite.
+    pub fn coordinates(&self) -> Vec<i64> {
+        let of = |position: Position| [position.east, position.north];
+        match *self {
+            Command::Add(site) | Command::Move(site) => of(site.position).to_vec(),
+            Command::AddReadings(_, readings) | Command::MoveReadings(_, readings) => {
+                let steps = [readings.east, readings.north].map(Reading::coordinate);
+                steps.into_iter().flatten().collect()
+            }
+            Command::List(leg) | Command::Stand(leg) => [of(leg.s), of(leg.e)].concat(),
+            Command::Begin(position) | Command::Corner(position) => of(position).to_vec(),
             Command::Remove(_) | Command::Print => vec![],
         }
     }
@@ -70,6 +119,7 @@ fn operand_length(mark: u8) -> Option<usize> {
         REMOVE => Some(2),
         LIST | STAND => Some(8),
         BEGIN | CORNER => Some(4),
+        ADD_READINGS | MOVE_READINGS => Some(10),
         PRINT => Some(0),
         _ => None,
     }
@@ -80,6 +130,11 @@ fn from_operands(mark: u8, operands: &[u8]) -> Command {
     let number = || u16::from_le_bytes(word(0));
     let coordinate = |at: usize| i64::from(i16::from_le_bytes(word(at)));
     let position = |at: usize| Position::new(coordinate(at), coordinate(at + 2));
+    let reading = |at: usize| {
+        let ([a, b], [c, d]) = (word(at), word(at + 2));
+        Reading(u32::from_le_bytes([a, b, c, d]))
+    };
+    let readings = || Readings::new(reading(2), reading(6));
     let site = || Site {
         number: number(),
         position: position(2),
@@ -97,6 +152,8 @@ fn from_operands(mark: u8, operands: &[u8]) -> Command {
         PRINT => Command::Print,
         BEGIN => Command::Begin(position(0)),
         CORNER => Command::Corner(position(0)),
+        ADD_READINGS => Command::AddReadings(number(), readings()),
+        MOVE_READINGS => Command::MoveReadings(number(), readings()),
         _ => unreachable!("a mark with an operand length is a command"),
     }
 }
@@ -133,6 +190,22 @@ pub fn begin(position: Position) -> Vec<u8> {
 
 pub fn corner(position: Position) -> Vec<u8> {
     [vec![CORNER], position_bytes(position)].concat()
+}
+
+pub fn add_readings(number: u16, readings: Readings) -> Vec<u8> {
+    reading_operands(ADD_READINGS, number, readings)
+}
+
+pub fn move_readings(number: u16, readings: Readings) -> Vec<u8> {
+    reading_operands(MOVE_READINGS, number, readings)
+}
+
+fn reading_operands(mark: u8, number: u16, readings: Readings) -> Vec<u8> {
+    let mut bytes = vec![mark];
+    bytes.extend(number.to_le_bytes());
+    bytes.extend(readings.east.0.to_le_bytes());
+    bytes.extend(readings.north.0.to_le_bytes());
+    bytes
 }
 
 fn site_operands(mark: u8, site: Site) -> Vec<u8> {

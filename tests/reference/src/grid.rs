@@ -29,6 +29,11 @@ pub fn spread(k: i64) -> i64 {
     2 * HALF_WIDTH / 512 * k + 50 - HALF_WIDTH
 }
 
+/// Whether a coordinate is on the grid.
+pub fn on_axis(coordinate: i64) -> bool {
+    (-HALF_WIDTH..=HALF_WIDTH).contains(&coordinate)
+}
+
 #[derive(Clone, Copy, Debug, PartialEq, Eq, PartialOrd, Ord)]
 pub struct Position {
     pub east: i64,
@@ -41,7 +46,6 @@ impl Position {
     }
 
     pub fn on_grid(self) -> bool {
-        let on_axis = |coordinate: i64| (-HALF_WIDTH..=HALF_WIDTH).contains(&coordinate);
         on_axis(self.east) && on_axis(self.north)
     }
 }

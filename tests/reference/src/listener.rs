@@ -88,7 +88,7 @@ impl Heard {
 
 #[derive(Clone, Debug, Default)]
 pub struct Listener {
-    /// What the accepted 41, 44 and 4D leave.
+    /// What the accepted 41, 44 and 4D, 61 and 6D leave.
     lines: BTreeMap<u16, Position>,
     tour: Option<Heard>,
     calls: usize,
@@ -172,8 +172,10 @@ impl Listener {
             }
             (_, Record::Refused(_)) => {}
             (Command::Add(site) | Command::Move(site), Record::Accepted) => {
-                self.lines.insert(site.number, site.position);
-                self.tour = None;
+                self.hear_site(site);
+            }
+            (Command::AddReadings(..) | Command::MoveReadings(..), Record::Accepted) => {
+                self.hear_site(command.site().ok_or(Fault::OtherRecord)?);
             }
             (Command::Remove(number), Record::Accepted) => {
                 self.lines.remove(&number);
@@ -188,6 +190,12 @@ impl Listener {
             _ => return Err(Fault::OtherRecord),
         }
         Ok(())
+    }
+
+    /// A site that stands there from now on.
+    fn hear_site(&mut self, site: Site) {
+        self.lines.insert(site.number, site.position);
+        self.tour = None;
     }
 
     fn hear_beginning(&mut self, corner: Position) {

@@ -1,7 +1,9 @@
-//! A repeatable source of random numbers, positions and commands.
+//! A repeatable source of random numbers, positions, readings and commands.
 
 use crate::command;
-use crate::grid::{HALF_WIDTH, Leg, Position, Site};
+use crate::grid::{HALF_WIDTH, Leg, Position, Site, on_axis};
+use crate::reading::{Reading, Readings};
+use crate::readings::ODD;
 
 /// SplitMix64; the slight bias of taking remainders does not matter here.
 pub struct Random(u64);
@@ -54,7 +56,74 @@ impl Random {
     }
 }
 
-/// Commands of all eight kinds, whole and known; every refusal but 5 comes up, and tours go on over
+/// A reading near this step: on it, on the half to either side, some patterns beside one of them, or
+/// anywhere between. Now and then an odd one, or any pattern.
+pub fn reading(random: &mut Random, step: i64) -> Reading {
+    if random.once_in(16) {
+        return odd_reading(random);
+    }
+    let metres = match random.between(1, 8) {
+        1 | 2 => 0,
+        3 | 4 => 50,
+        5 | 6 => -50,
+        _ => random.between(-50, 50),
+    };
+    let beside = match random.between(1, 6) {
+        1 | 2 => 0,
+        3 => -1,
+        4 => 1,
+        _ => random.between(-9, 9),
+    };
+    Reading::of_metres(100 * step + metres).beside(beside)
+}
+
+fn odd_reading(random: &mut Random) -> Reading {
+    if random.once_in(4) {
+        let pattern = random.between(0, u32::MAX.into());
+        return Reading(u32::try_from(pattern).expect("32 bits"));
+    }
+    random.pick(&ODD)
+}
+
+/// Of both axes.
+pub fn readings(random: &mut Random, position: Position) -> Readings {
+    Readings {
+        east: reading(random, position.east),
+        north: reading(random, position.north),
+    }
+}
+
+/// Readings that go to this position.
+pub fn readings_of(random: &mut Random, position: Position) -> Readings {
+    let mut of = |step: i64| loop {
+        let reading = reading(random, step);
+        if reading.step() == Some(step.into()) {
+            return reading;
+        }
+    };
+    Readings {
+        east: of(position.east),
+        north: of(position.north),
+    }
+}
+
+/// Adds this site, once in three by readings that go to its position.
+pub fn add(random: &mut Random, site: Site) -> Vec<u8> {
+    match random.once_in(3) {
+        true => command::add_readings(site.number, readings_of(random, site.position)),
+        false => command::add(site),
+    }
+}
+
+/// Moves it there, likewise.
+pub fn move_site(random: &mut Random, site: Site) -> Vec<u8> {
+    match random.once_in(3) {
+        true => command::move_readings(site.number, readings_of(random, site.position)),
+        false => command::move_site(site),
+    }
+}
+
+/// Commands of all ten kinds, whole and known; every refusal but 5 comes up, and tours go on over
 /// several legs.
 pub fn commands(random: &mut Random, count: usize) -> Vec<Vec<u8>> {
     let mut commands = Vec::new();
@@ -74,7 +143,7 @@ fn command(random: &mut Random) -> Vec<u8> {
     let number = u16::try_from(random.between(0, 40)).expect("a number has 16 bits");
     let position = near_or_off(random);
     let site = Site { number, position };
-    match random.between(1, 14) {
+    match random.between(1, 18) {
         1..=4 => command::add(site),
         5 | 6 => command::remove(number),
         7 | 8 => command::move_site(site),
@@ -82,7 +151,9 @@ fn command(random: &mut Random) -> Vec<u8> {
         10 => command::stand(leg(random)),
         11 | 12 => command::print(),
         13 => command::begin(position),
-        _ => command::corner(position),
+        14 => command::corner(position),
+        15 | 16 => command::add_readings(number, readings(random, position)),
+        _ => command::move_readings(number, readings(random, position)),
     }
 }
 
@@ -106,7 +177,7 @@ fn tour(random: &mut Random) -> Vec<Vec<u8>> {
 /// A command that changes no site: it asks, sets the standing leg, or is refused.
 fn leaving_a_tour(random: &mut Random) -> Vec<u8> {
     let position = near_or_off(random);
-    match random.between(1, 7) {
+    match random.between(1, 9) {
         1 => command::list(leg(random)),
         2 => command::stand(leg(random)),
         3 => command::print(),
@@ -116,8 +187,26 @@ fn leaving_a_tour(random: &mut Random) -> Vec<u8> {
             position,
         }),
         6 => command::move_site(Site::new(1, HALF_WIDTH + 1, 0)),
-        _ => command::begin(Position::new(0, -HALF_WIDTH - 1)),
+        7 => command::begin(Position::new(0, -HALF_WIDTH - 1)),
+        8 => command::add_readings(0, readings(random, position)),
+        _ => command::move_readings(1, refused_readings(random, position)),
     }
+}
+
+/// Readings of which one is not finite or its step is off the grid.
+pub fn refused_readings(random: &mut Random, position: Position) -> Readings {
+    let odd = loop {
+        let odd = odd_reading(random);
+        if !odd.coordinate().is_some_and(on_axis) {
+            break odd;
+        }
+    };
+    let mut refused = readings(random, position);
+    match random.once_in(2) {
+        true => refused.east = odd,
+        false => refused.north = odd,
+    }
+    refused
 }
 
 fn leg(random: &mut Random) -> Leg {

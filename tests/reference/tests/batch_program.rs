@@ -3,9 +3,10 @@
 
 use reference::batch_program::{run, run_in_reads};
 use reference::book::{Book, CUT_COMMAND, UNKNOWN_COMMAND};
-use reference::command::{add, begin, corner, print, remove, stand};
+use reference::command::{add, add_readings, begin, corner, move_readings, print, remove, stand};
 use reference::grid::{HALF_WIDTH, INPUT_LEN, Leg, MOST_SITES, REPORT_LEN, Site, WORK_LEN, spread};
 use reference::random::{self, Random};
+use reference::readings::metres;
 use reference::tours::at;
 
 /// The report of one call with room for everything, then 2E and the reason.
@@ -67,6 +68,36 @@ fn a_command_across_the_end_of_the_input_buffer_is_joined() {
     }
 }
 
+/// The same with readings, whose commands are the longest.
+#[test]
+fn a_command_with_readings_across_the_end_of_the_input_buffer_is_joined() {
+    for prints in 0..11 {
+        let mut input = print().repeat(prints);
+        let nth = |number: u16| add_readings(number, metres(100 * i64::from(number), 50));
+        input.extend((1..=600).flat_map(nth));
+        assert!(input.len() > INPUT_LEN);
+        let mut expected = [0x21, 0x07].repeat(prints);
+        expected.extend([0x2B; MOST_SITES]);
+        expected.extend([0x21, 0x05].repeat(600 - MOST_SITES));
+        expected.extend([0x2E, 0x00]);
+        assert_eq!(run(&input), expected);
+    }
+}
+
+/// Every cut of a 61 and a 6D ends with 67.
+#[test]
+fn readings_that_are_cut_end_with_67() {
+    for command in [
+        add_readings(1, metres(0, 0)),
+        move_readings(1, metres(0, 0)),
+    ] {
+        for length in 1..command.len() {
+            assert_eq!(run(&command[..length]), [0x2E, CUT_COMMAND]);
+        }
+    }
+    assert_eq!(run(&add_readings(1, metres(0, 0))), [0x2B, 0x2E, 0x00]);
+}
+
 /// 512 sites, all on the standing list, then this many prints.
 fn long_lists(prints: usize) -> Vec<u8> {
     let mut input = stand(Leg::new((-HALF_WIDTH, 0), (HALF_WIDTH, 0)));
@@ -111,11 +142,23 @@ fn the_output_does_not_depend_on_the_reads() {
         input.extend(ending);
         assert!(input.len() > 2 * INPUT_LEN);
         let expected = in_one_call(&input);
-        for read_len in [1, 2, 5, 8, 9, 1000, INPUT_LEN - 1, INPUT_LEN, usize::MAX] {
+        for read_len in [
+            1,
+            2,
+            5,
+            8,
+            9,
+            10,
+            11,
+            1000,
+            INPUT_LEN - 1,
+            INPUT_LEN,
+            usize::MAX,
+        ] {
             assert_eq!(run_in_reads(&input, read_len), expected, "{read_len}");
             compared += 1;
         }
     }
     println!("outputs compared: {compared}");
-    assert_eq!(compared, 540);
+    assert_eq!(compared, 660);
 }

@@ -1,8 +1,12 @@
 //! How a call ends: reasons 0, 64, 66, 67 and 68, and the counts that go with them.
 
 use reference::book::{ALL_USED, Book, CUT_COMMAND, NO_ROOM, Reply, UNKNOWN_COMMAND, WRONG_LENGTH};
-use reference::command::{add, begin, corner, list, move_site, print, remove, stand};
+use reference::command::{
+    MARKS, add, add_readings, begin, corner, list, move_readings, move_site, print, remove, stand,
+};
 use reference::grid::{HALF_WIDTH, Leg, Position, REPORT_LEN, Site, WORK_LEN, WRONG_WORK};
+use reference::reading::Readings;
+use reference::readings::{FIRST_OFF_GRID, INFINITY, ZERO, metres};
 
 const LEG: Leg = Leg::new((0, 0), (10, 0));
 const OTHER_LEG: Leg = Leg::new((5, 5), (6, 6));
@@ -55,10 +59,11 @@ fn a_work_buffer_of_wrong_length_gives_64_before_all_else() {
 }
 
 #[test]
-fn each_of_the_other_248_bytes_is_unknown() {
-    let known = [0x41, 0x44, 0x4D, 0x4C, 0x53, 0x50, 0x42, 0x43];
+fn each_of_the_other_246_bytes_is_unknown() {
+    let known = [0x41, 0x44, 0x4D, 0x4C, 0x53, 0x50, 0x42, 0x43, 0x61, 0x6D];
+    assert_eq!(MARKS, known);
     let unknown: Vec<u8> = (0..=255).filter(|byte| !known.contains(byte)).collect();
-    assert_eq!(unknown.len(), 248);
+    assert_eq!(unknown.len(), 246);
     for byte in unknown {
         // Long enough for any command, and alone.
         let expected = reply(UNKNOWN_COMMAND, 0, &[]);
@@ -87,8 +92,11 @@ fn operands_cut_short_at_any_byte_give_67() {
         stand(OTHER_LEG),
         begin(LEG.s),
         corner(LEG.e),
+        add_readings(2, metres(100, 100)),
+        move_readings(1, metres(200, 300)),
     ];
-    assert_eq!(commands.each_ref().map(Vec::len), [7, 3, 7, 9, 9, 5, 5]);
+    let lengths = commands.each_ref().map(Vec::len);
+    assert_eq!(lengths, [7, 3, 7, 9, 9, 5, 5, 11, 11]);
     for command in commands {
         for length in 1..command.len() {
             let cut = &command[..length];
@@ -109,6 +117,9 @@ fn a_cut_command_gives_67_before_its_tests_and_before_68() {
         list(Leg::new((HALF_WIDTH + 1, 0), (0, 0))),
         begin(Position::new(0, HALF_WIDTH + 1)),
         corner(LEG.s),
+        add_readings(0, metres(0, 0)),
+        add_readings(2, Readings::new(INFINITY, ZERO)),
+        move_readings(1, Readings::new(ZERO, FIRST_OFF_GRID)),
     ];
     for command in refused_when_whole {
         let cut = &command[..command.len() - 1];
@@ -124,6 +135,8 @@ fn without_room_for_2b_a_change_is_not_done() {
         move_site(Site::new(1, 9, 9)),
         stand(OTHER_LEG),
         begin(LEG.s),
+        add_readings(2, metres(100, 100)),
+        move_readings(1, metres(900, 900)),
     ];
     for change in changes {
         assert_left(&one_site(), &change, 0, reply(NO_ROOM, 0, &[]));
@@ -144,6 +157,12 @@ fn refusal_records_need_room_for_two_bytes() {
         (remove(2), 4),
         (begin(off_grid.e), 2),
         (corner(LEG.s), 8),
+        (add_readings(0, metres(0, 0)), 1),
+        (add_readings(2, Readings::new(ZERO, INFINITY)), 11),
+        (move_readings(1, Readings::new(INFINITY, ZERO)), 11),
+        (move_readings(1, Readings::new(FIRST_OFF_GRID, ZERO)), 2),
+        (add_readings(1, metres(0, 0)), 3),
+        (move_readings(2, metres(0, 0)), 4),
     ];
     for (command, number) in refused {
         for room in [0, 1] {

@@ -1,8 +1,12 @@
 //! The book command by command: the order of the tests, every refusal, and what it leaves.
 
 use reference::book::Book;
-use reference::command::{Command, add, begin, corner, list, move_site, print, remove, stand};
+use reference::command::{
+    Command, add, add_readings, begin, corner, list, move_readings, move_site, print, remove, stand,
+};
 use reference::grid::{HALF_WIDTH, LARGEST_DENOMINATOR, Leg, Position, Site};
+use reference::reading::{Reading, Readings};
+use reference::readings::{FIRST_OFF_GRID, INFINITY, LAST_ON_GRID, NO_NUMBER, ZERO, metres};
 use reference::record::Record::{self, Accepted, List, Refused};
 use reference::split::{Entry, split_list};
 
@@ -46,6 +50,31 @@ fn addition_tests_1_then_2_then_3_then_5() {
     assert_refused(&full, add(Site::new(600, 0, 0)), 5);
 }
 
+/// Readings that are finite and on the grid, off it, not finite, and both of the last two.
+const OFF: Readings = Readings::new(ZERO, FIRST_OFF_GRID);
+const NOT_FINITE: Readings = Readings::new(INFINITY, ZERO);
+const BOTH: Readings = Readings::new(FIRST_OFF_GRID, NO_NUMBER[0]);
+
+#[test]
+fn addition_by_readings_tests_1_then_11_then_2_then_3_then_5() {
+    let (book, full) = (two_sites(), full_table());
+    let here = metres(0, 0);
+    for readings in [here, OFF, NOT_FINITE, BOTH] {
+        assert_refused(&full, add_readings(0, readings), 1);
+        assert_refused(&book, add_readings(0, readings), 1);
+    }
+    for readings in [NOT_FINITE, BOTH] {
+        assert_refused(&full, add_readings(1, readings), 11);
+        assert_refused(&full, add_readings(600, readings), 11);
+        assert_refused(&book, add_readings(600, readings), 11);
+    }
+    assert_refused(&full, add_readings(1, OFF), 2);
+    assert_refused(&full, add_readings(600, OFF), 2);
+    assert_refused(&full, add_readings(1, here), 3);
+    assert_refused(&book, add_readings(1, here), 3);
+    assert_refused(&full, add_readings(600, here), 5);
+}
+
 #[test]
 fn removal_tests_1_then_4() {
     assert_refused(&two_sites(), remove(0), 1);
@@ -61,6 +90,21 @@ fn move_tests_1_then_2_then_4() {
     assert_refused(&book, move_site(Site::new(3, HALF_WIDTH + 1, 0)), 2);
     assert_refused(&book, move_site(Site::new(1, HALF_WIDTH + 1, 0)), 2);
     assert_refused(&book, move_site(Site::new(3, 0, 0)), 4);
+}
+
+#[test]
+fn move_by_readings_tests_1_then_11_then_2_then_4() {
+    let book = two_sites();
+    for readings in [metres(0, 0), OFF, NOT_FINITE, BOTH] {
+        assert_refused(&book, move_readings(0, readings), 1);
+    }
+    for readings in [NOT_FINITE, BOTH] {
+        assert_refused(&book, move_readings(3, readings), 11);
+        assert_refused(&book, move_readings(1, readings), 11);
+    }
+    assert_refused(&book, move_readings(3, OFF), 2);
+    assert_refused(&book, move_readings(1, OFF), 2);
+    assert_refused(&book, move_readings(3, metres(0, 0)), 4);
 }
 
 #[test]
@@ -102,6 +146,44 @@ fn each_coordinate_of_a_site_is_tested() {
             assert_eq!(answers, expected, "added at ({east},{north})");
             let answers = two_sites().records(&[move_site(Site::new(1, east, north))]);
             assert_eq!(answers, expected, "moved to ({east},{north})");
+        }
+    }
+}
+
+/// The grid's edge and beyond it, not a number, and the step that a site gets.
+#[test]
+fn each_reading_of_a_site_is_tested() {
+    let cases = [
+        (LAST_ON_GRID, Ok(HALF_WIDTH)),
+        (LAST_ON_GRID.opposite(), Ok(-HALF_WIDTH)),
+        (FIRST_OFF_GRID, Err(2)),
+        (FIRST_OFF_GRID.opposite(), Err(2)),
+        (Reading::of_metres(-150), Ok(-2)),
+        (INFINITY, Err(11)),
+        (INFINITY.opposite(), Err(11)),
+        (NO_NUMBER[2], Err(11)),
+    ];
+    for (reading, expected) in cases {
+        let at = |east_axis: bool, c: i64| match east_axis {
+            true => Position::new(c, 3),
+            false => Position::new(3, c),
+        };
+        for east_axis in [true, false] {
+            let readings = match east_axis {
+                true => Readings::new(reading, Reading::of_metres(250)),
+                false => Readings::new(Reading::of_metres(250), reading),
+            };
+            let (mut added, mut moved) = (Book::new(), two_sites());
+            let answers = [
+                added.records(&[add_readings(7, readings)]),
+                moved.records(&[move_readings(1, readings)]),
+            ];
+            let record = expected.map_or_else(Refused, |_| Accepted);
+            assert_eq!(answers, [[record.clone()], [record]], "{readings:?}");
+            let stands = expected.ok().map(|c| at(east_axis, c));
+            assert_eq!(added.lines.get(&7), stands.as_ref());
+            let stayed = Position::new(0, 0);
+            assert_eq!(moved.lines[&1], stands.unwrap_or(stayed));
         }
     }
 }

@@ -2,8 +2,12 @@
 
 use reference::batch_program;
 use reference::book::Book;
-use reference::command::{Command, add, begin, corner, list, move_site, print, remove, stand};
+use reference::command::{
+    Command, add, add_readings, begin, corner, list, move_readings, move_site, print, remove, stand,
+};
 use reference::grid::{HALF_WIDTH, Leg, Position, Site};
+use reference::reading::Readings;
+use reference::readings::{FIRST_OFF_GRID, INFINITY, ZERO, metres};
 use reference::record::Record;
 use std::path::Path;
 
@@ -48,6 +52,9 @@ fn each_example_is_the_batch_programs() {
 fn refused(mark: u8, book: &mut Book) -> Vec<(u8, Vec<u8>)> {
     let off = Leg::new((0, 0), (0, HALF_WIDTH + 1));
     let on = Leg::new((0, 0), (0, 1));
+    let here = metres(0, 0);
+    let beyond = Readings::new(FIRST_OFF_GRID, ZERO);
+    let not_finite = Readings::new(FIRST_OFF_GRID, INFINITY);
     let full = |book: &mut Book| {
         let nth = |number| add(Site::new(number, 0, 0));
         book.records(&(1..=512).map(nth).collect::<Vec<_>>());
@@ -62,6 +69,22 @@ fn refused(mark: u8, book: &mut Book) -> Vec<(u8, Vec<u8>)> {
                 (1, add(Site::new(0, HALF_WIDTH + 1, 0))),
             ]
         }
+        0x61 => {
+            full(book);
+            vec![
+                (5, add_readings(600, here)),
+                (3, add_readings(1, here)),
+                (2, add_readings(1, beyond)),
+                (11, add_readings(1, not_finite)),
+                (1, add_readings(0, not_finite)),
+            ]
+        }
+        0x6D => vec![
+            (4, move_readings(9, here)),
+            (2, move_readings(9, beyond)),
+            (11, move_readings(9, not_finite)),
+            (1, move_readings(0, not_finite)),
+        ],
         0x44 => vec![(4, remove(9)), (1, remove(0))],
         0x4D => vec![
             (4, move_site(Site::new(9, 0, 0))),
@@ -118,14 +141,16 @@ fn commands_have_these_lengths_and_refusals_in_this_order() {
         assert_eq!(row[6], given.join(", "), "{letter}");
         marks.push(mark);
     }
-    assert_eq!(marks, [0x41, 0x44, 0x4D, 0x4C, 0x53, 0x50, 0x42, 0x43]);
+    marks.sort();
+    let known = [0x41, 0x42, 0x43, 0x44, 0x4C, 0x4D, 0x50, 0x53, 0x61, 0x6D];
+    assert_eq!(marks, known);
 }
 
 #[test]
 fn every_refusal_and_reason_is_told() {
     let first: Vec<String> = rows().iter().map(|row| row[1].clone()).collect();
     for number in [
-        "1", "2", "3", "4", "5", "6", "7", "8", "64", "65", "66", "67", "68", "69",
+        "1", "2", "3", "4", "5", "6", "7", "8", "11", "64", "65", "66", "67", "68", "69",
     ] {
         assert!(first.iter().any(|cell| cell == number), "{number}");
     }

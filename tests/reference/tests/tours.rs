@@ -2,13 +2,14 @@
 //! it.
 
 use reference::book::{ALL_USED, Book, CUT_COMMAND, NO_ROOM, Tour, UNKNOWN_COMMAND, WRONG_LENGTH};
-use reference::command::{Command, add, begin, corner, list};
+use reference::command::{Command, add, add_readings, begin, corner, list, move_readings};
 use reference::fraction::Fraction;
 use reference::grid::{HALF_WIDTH, Leg, MOST_SITES, Position, Site, WORK_LEN, spread};
 use reference::hull;
 use reference::layout::{Case, LAYOUTS, case, small_cases};
 use reference::listener::{Fault, Listener, Told};
 use reference::random::{self, Random};
+use reference::readings::metres;
 use reference::record::Record::{self, Accepted, List, Refused};
 use reference::split::{Entry, name_at, split_list};
 use reference::ties::{mirror_image, tie};
@@ -108,6 +109,13 @@ fn calls_that_end_early_leave_a_tour() {
     left(&corner(at(0, HALF_WIDTH + 1)), WORK_LEN, 1, NO_ROOM);
     left(&corner(at(0, 0)), WORK_LEN - 1, 99, WRONG_LENGTH);
     left(&[0x45], WORK_LEN, 99, UNKNOWN_COMMAND);
+    for command in [
+        add_readings(3, metres(300, 300)),
+        move_readings(1, metres(0, 0)),
+    ] {
+        left(&command, WORK_LEN, 0, NO_ROOM);
+        left(&command[..10], WORK_LEN, 99, CUT_COMMAND);
+    }
     for command in [begin(at(3, 3)), corner(at(0, 0))] {
         assert_eq!(command.len(), 5);
         for length in 1..5 {

@@ -1,5 +1,5 @@
 /* The inline functions of include/stops.h, for tests/header.rs: "write" turns lines into command
-   bytes, "read" turns record bytes into lines; "reasons" prints the numbers of the reasons. */
+   bytes, "read" turns record bytes into lines; "reasons" and "refusals" print their numbers. */
 #include "stops.h"
 
 #include <stdio.h>
@@ -7,6 +7,15 @@
 #include <string.h>
 
 #define SENTINEL 0xA5
+
+/* Of this pattern. */
+static float reading(long bits)
+{
+    uint32_t pattern = (uint32_t)bits;
+    float number;
+    memcpy(&number, &pattern, sizeof number);
+    return number;
+}
 
 static size_t put(uint8_t *to, size_t room, char mark, const long v[4])
 {
@@ -18,6 +27,8 @@ static size_t put(uint8_t *to, size_t room, char mark, const long v[4])
     case 'S': return stops_put_stand(to, room, v[0], v[1], v[2], v[3]);
     case 'B': return stops_put_begin(to, room, v[0], v[1]);
     case 'C': return stops_put_corner(to, room, v[0], v[1]);
+    case 'a': return stops_put_add_readings(to, room, v[0], reading(v[1]), reading(v[2]));
+    case 'm': return stops_put_move_readings(to, room, v[0], reading(v[1]), reading(v[2]));
     default: return stops_put_print(to, room);
     }
 }
@@ -76,6 +87,14 @@ static int print_reasons(void)
     return EXIT_SUCCESS;
 }
 
+static int print_refusals(void)
+{
+    printf("%d %d %d %d %d %d %d %d %d\n", STOPS_NUMBER_ZERO, STOPS_OFF_GRID, STOPS_NUMBER_HELD,
+           STOPS_NUMBER_NOT_HELD, STOPS_TABLE_FULL, STOPS_NO_SITE, STOPS_NO_STANDING_LEG,
+           STOPS_NO_TOUR, STOPS_NOT_FINITE);
+    return EXIT_SUCCESS;
+}
+
 int main(int argc, char **argv)
 {
     const char *mode = argc == 2 ? argv[1] : "version";
@@ -85,6 +104,8 @@ int main(int argc, char **argv)
         return read_records();
     if (strcmp(mode, "reasons") == 0)
         return print_reasons();
+    if (strcmp(mode, "refusals") == 0)
+        return print_refusals();
     printf("%s %d\n", STOPS_VERSION, STOPS_VERSION_NUMBER);
     return EXIT_SUCCESS;
 }

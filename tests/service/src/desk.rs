@@ -42,7 +42,8 @@ pub struct Tally {
     pub accepted: usize,
     pub lists: usize,
     pub longest_list: usize,
-    pub by_refusal: [usize; 9],
+    /// Each refusal's number is an index; `REFUSALS` has them.
+    pub by_refusal: [usize; 12],
     pub most_levels: usize,
     pub most_nodes: usize,
     pub tours: Told,

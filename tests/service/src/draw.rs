@@ -1,24 +1,14 @@
 //! Random commands over a pool of numbers, positions and legs, small enough that many meet.
 
-use reference::command;
+use reference::command::{self, Command};
 use reference::grid::{HALF_WIDTH, Leg, MOST_SITES, Position, Site};
 use reference::layout::{LAYOUTS, Layout, case};
-use reference::random::Random;
+use reference::random::{self, Random};
+use reference::reading::Readings;
 use reference::ties::{mirror_image, way_back};
 
 /// Coordinates off the grid: the nearest and the farthest.
 const OFF_GRID: [i64; 4] = [-32_768, -HALF_WIDTH - 1, HALF_WIDTH + 1, 32_767];
-const KNOWN: [u8; 8] = [
-    command::ADD,
-    command::REMOVE,
-    command::MOVE,
-    command::LIST,
-    command::STAND,
-    command::PRINT,
-    command::BEGIN,
-    command::CORNER,
-];
-
 pub struct Pool {
     numbers: Vec<u16>,
     positions: Vec<Position>,
@@ -54,19 +44,19 @@ impl Pool {
         random.pick(&self.legs)
     }
 
-    /// One addition for each number, up to a full table, in any order.
+    /// One addition for each number, up to a full table, in any order, by steps or by readings.
     pub fn additions(&self, random: &mut Random) -> Vec<Vec<u8>> {
         let mut numbers = self.numbers.clone();
         random.shuffle(&mut numbers);
         numbers.truncate(MOST_SITES);
-        let site = |number| Site {
-            number,
-            position: random.pick(&self.positions),
+        let addition = |number| {
+            let position = random.pick(&self.positions);
+            random::add(random, Site { number, position })
         };
-        numbers.into_iter().map(site).map(command::add).collect()
+        numbers.into_iter().map(addition).collect()
     }
 
-    /// Whole and known commands of all eight kinds; tours go on over several legs.
+    /// Whole and known commands of all ten kinds; tours go on over several legs.
     pub fn commands(&self, random: &mut Random, count: usize) -> Vec<Vec<u8>> {
         let mut commands = Vec::new();
         while commands.len() < count {
@@ -80,13 +70,23 @@ impl Pool {
         commands
     }
 
+    /// The same without readings that are not finite, so that their steps can be written out.
+    pub fn finite_commands(&self, random: &mut Random, count: usize) -> Vec<Vec<u8>> {
+        let finite = |bytes: &Vec<u8>| {
+            let (command, _) = Command::read(bytes).expect("whole and known");
+            command.readings().is_none_or(Readings::are_finite)
+        };
+        let commands = self.commands(random, count);
+        commands.into_iter().filter(finite).collect()
+    }
+
     fn command(&self, random: &mut Random) -> Vec<u8> {
         let number = self.number(random);
         let site = Site {
             number,
             position: self.position(random),
         };
-        match random.between(1, 16) {
+        match random.between(1, 20) {
             1..=5 => command::add(site),
             6 | 7 => command::remove(number),
             8 | 9 => command::move_site(site),
@@ -94,7 +94,9 @@ impl Pool {
             12 => command::stand(self.any_leg(random)),
             13 | 14 => command::print(),
             15 => command::begin(self.any_leg(random).s),
-            _ => command::corner(self.any_leg(random).e),
+            16 => command::corner(self.any_leg(random).e),
+            17 | 18 => command::add_readings(number, random::readings(random, site.position)),
+            _ => command::move_readings(number, random::readings(random, site.position)),
         }
     }
 
@@ -128,15 +130,22 @@ impl Pool {
             number: self.number(random),
             position: off_grid,
         };
-        match random.between(1, 7) {
+        match random.between(1, 9) {
             1 => command::list(self.any_leg(random)),
             2 => command::stand(self.any_leg(random)),
             3 => command::print(),
             4 => command::remove(0),
             5 => command::add(site),
             6 => command::move_site(site),
-            _ => command::begin(off_grid),
+            7 => command::begin(off_grid),
+            8 => command::add_readings(site.number, self.refused_readings(random)),
+            _ => command::move_readings(site.number, self.refused_readings(random)),
         }
+    }
+
+    fn refused_readings(&self, random: &mut Random) -> Readings {
+        let position = random.pick(&self.positions);
+        random::refused_readings(random, position)
     }
 
     fn number(&self, random: &mut Random) -> u16 {
@@ -175,7 +184,7 @@ fn now_and_then_off_grid(random: &mut Random, mut position: Position) -> Positio
 pub fn unknown_byte(random: &mut Random) -> u8 {
     loop {
         let byte = u8::try_from(random.between(0, 255)).expect("a byte");
-        if !KNOWN.contains(&byte) {
+        if !command::MARKS.contains(&byte) {
             return byte;
         }
     }

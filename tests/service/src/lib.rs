@@ -13,6 +13,7 @@ pub mod model;
 pub mod proved;
 pub mod shape;
 pub mod table;
+pub mod written_out;
 pub mod wrong;
 
 pub use model::Model;

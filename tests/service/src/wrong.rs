@@ -66,6 +66,30 @@ pub fn slipping(
     }
 }
 
+/// As the model, but command by command: another one stands in the place of each where this says so,
+/// which may depend on the table before it.
+pub fn replacing(
+    replace: impl Fn(&[u8], &Command) -> Option<Vec<u8>>,
+    (t, w, c, r): (&mut [u8], &mut [u8], &[u8], &mut [u8]),
+) -> Answer {
+    let (mut used, mut written) = (0, 0);
+    loop {
+        let next = Command::read(&c[used..]);
+        let length = next.map_or(c.len() - used, |(_, length)| length);
+        let own = &c[used..used + length];
+        let other = next.ok().and_then(|(command, _)| replace(t, &command));
+        let done = other.as_deref().unwrap_or(own);
+        let (reason, taken, more) = Model.batch(t, w, done, &mut r[written..]);
+        if taken > 0 {
+            used += length;
+        }
+        written += more;
+        if reason != 0 || used == c.len() {
+            return (reason, used, written);
+        }
+    }
+}
+
 /// As the model, but with another tie rule in the lists that 4C and 50 write.
 pub fn listing_by(rule: TieRule, t: &mut [u8], w: &mut [u8], c: &[u8], r: &mut [u8]) -> Answer {
     let before = meaning(t);

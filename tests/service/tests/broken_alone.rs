@@ -2,9 +2,10 @@
 //! that forgets a rule takes just these.
 
 use reference::book::{Book, Tour};
-use reference::command::{add, corner, list, print, remove, stand};
+use reference::command::{add, add_readings, corner, list, move_readings, print, remove, stand};
 use reference::grid::{HALF_WIDTH, Leg, MOST_SITES, Position, Site};
 use reference::random::Random;
+use reference::readings::metres;
 use service::bytes::{
     CORNER_WORDS, ENTRIES_LISTED, Entry, FAR_EDGE, FREE_NODES, HEADER_KEPT, LAYOUT, LAYOUT_NUMBER,
     LEG_FLAG, LEG_WORDS, LEVELS, MOST_LEVELS, REMEMBERED, ROOT, TOUR_FLAG, empty_table, free_at,
@@ -79,6 +80,8 @@ fn questions() -> Vec<u8> {
         print(),
         add(Site::new(65_000, 1, 1)),
         remove(65_000),
+        add_readings(65_000, metres(50, 150)),
+        move_readings(65_000, metres(0, -50)),
     ];
     commands.concat()
 }

@@ -2,11 +2,15 @@
 //! lists, and calls of a million bytes.
 
 use reference::book::{ALL_USED, NO_ROOM};
-use reference::command::{add, begin, corner, list, move_site, print, remove, stand};
+use reference::command::{
+    add, add_readings, begin, corner, list, move_readings, move_site, print, remove, stand,
+};
 use reference::grid::{
     HALF_WIDTH, LARGEST_DENOMINATOR, Leg, MOST_SITES, Position, Site, TABLE_LEN, WORK_LEN,
 };
 use reference::random::Random;
+use reference::reading::Readings;
+use reference::readings::{FIRST_OFF_GRID, INFINITY, ZERO, metres};
 use reference::record::Record;
 use service::bytes::empty_table;
 use service::desk::{Desk, LONGEST_RECORD};
@@ -75,6 +79,14 @@ fn every_record_needs_just_its_own_length(service: &impl Service) {
         (begin(leg.s), 1),
         (begin(Position::new(0, HALF_WIDTH + 1)), 2),
         (corner(leg.e), 2),
+        (add_readings(2, metres(100, 100)), 1),
+        (move_readings(1, metres(900, 900)), 1),
+        (add_readings(0, metres(0, 0)), 2),
+        (add_readings(2, Readings::new(INFINITY, ZERO)), 2),
+        (move_readings(1, Readings::new(ZERO, INFINITY)), 2),
+        (move_readings(1, Readings::new(ZERO, FIRST_OFF_GRID)), 2),
+        (add_readings(1, metres(0, 0)), 2),
+        (move_readings(2, metres(0, 0)), 2),
         (list(leg), 13),
         (print(), 13),
     ];
@@ -96,7 +108,7 @@ fn every_report_length_up_to_all_records(service: &impl Service) {
     let mut random = Random::new(101);
     let pool = Pool::new(&mut random, 12);
     let start = [pool.additions(&mut random).concat(), stand(LONG_LEG)].concat();
-    let commands = pool.commands(&mut random, 40).concat();
+    let commands = pool.commands(&mut random, 60).concat();
     let mut desk = Desk::lay_out(service);
     desk.serve(&start);
     let needed = desk.serve(&commands).written;

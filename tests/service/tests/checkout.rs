@@ -32,6 +32,7 @@ fn the_build_script_reads_where_it_is_at_run_time() {
     let ran = Command::new(&script)
         .env("CARGO_FEATURE_HOST", "1")
         .env_remove("CARGO_FEATURE_LIST_PROBE")
+        .env_remove("CARGO_FEATURE_READING_PROBE")
         .env("CARGO_MANIFEST_DIR", &copy)
         .env("OUT_DIR", &out)
         .output()
@@ -49,5 +50,7 @@ fn the_build_script_reads_where_it_is_at_run_time() {
         assert!(said.lines().any(|line| line == handed_on), "{said}");
     }
     assert!(!said.contains(&first.display().to_string()), "{said}");
-    assert!(!said.contains("list_probe"), "{said}");
+    for other in ["list_probe", "reading_probe"] {
+        assert!(!said.contains(other), "{said}");
+    }
 }

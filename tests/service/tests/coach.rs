@@ -131,7 +131,10 @@ fn the_example_and_the_header_compile_without_a_warning() {
 fn the_example_linked_with_the_proved_service_prints_the_stored_text() {
     let program = Path::new(env!("CARGO_TARGET_TMPDIR")).join("coach");
     let mut compiler = compiler();
-    compiler.arg(at_root("target/staticlib/libhost.a"));
+    // Remainders of readings are the C library's.
+    compiler
+        .arg(at_root("target/staticlib/libhost.a"))
+        .arg("-lm");
     let status = compiler.arg("-o").arg(&program).status().unwrap();
     assert!(status.success());
     let output = Command::new(&program).output().unwrap();

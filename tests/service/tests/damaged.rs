@@ -3,9 +3,12 @@
 //! bytes.
 
 use reference::book::{Book, Tour};
-use reference::command::{add, begin, corner, list, print, remove, stand};
+use reference::command::{
+    add, add_readings, begin, corner, list, move_readings, print, remove, stand,
+};
 use reference::grid::{Leg, MOST_SITES, Site, TABLE_LEN, WRONG_WORK};
 use reference::random::Random;
+use reference::readings::metres;
 use service::bytes::{
     CORNER_WORDS, ENTRY_LEN, FAR_EDGE, FREE_NODES, HALF_WIDTH, LEVELS, NODE_POOL, REMEMBERED, ROOT,
     SITE_ARRAY, SITES_HELD, STACK_END, STANDING_LIST, TOUR, TOUR_FLAG, empty_table, entry_at,
@@ -90,6 +93,8 @@ fn questions(random: &mut Random, pool: &Pool) -> Vec<u8> {
     commands.extend([list(pool.leg(random)), begin(s), corner(e)]);
     commands.extend(pool.commands(random, 4));
     commands.extend([add(Site::new(40_000, 3, 4)), print(), remove(40_000)]);
+    commands.extend([add_readings(40_000, metres(350, -49)), print()]);
+    commands.extend([move_readings(40_000, metres(-50, 0)), remove(40_000)]);
     commands.concat()
 }
 

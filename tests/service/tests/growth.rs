@@ -1,8 +1,8 @@
 //! Tables that grow to 512 sites and shrink to none, again and again, with lists on the way.
 
-use reference::command::{add, list, move_site, print, remove, stand};
+use reference::command::{ADD_READINGS, MOVE_READINGS, list, print, remove, stand};
 use reference::grid::{HALF_WIDTH, Leg, MOST_SITES, Position, Site, spread};
-use reference::random::Random;
+use reference::random::{self, Random};
 use reference::ties::way_back;
 use service::desk::{Desk, Tally};
 use service::{Service, on_each_service};
@@ -116,7 +116,7 @@ impl Growth {
         let (number, position) = (self.number(), self.place());
         let site = Site { number, position };
         self.held.push(site);
-        add(site)
+        random::add(&mut self.random, site)
     }
 
     fn removal(&mut self) -> Vec<u8> {
@@ -137,7 +137,7 @@ impl Growth {
         if !self.random.once_in(8) {
             self.held[i].position = self.place();
         }
-        move_site(self.held[i])
+        random::move_site(&mut self.random, self.held[i])
     }
 
     /// One change that the book accepts, towards this many sites.
@@ -240,6 +240,8 @@ fn grow_and_shrink(service: &impl Service, seed: u64, with_leg: bool) -> Tally {
     );
     assert_eq!(desk.tally.accepted, growth.changes + stands);
     assert!(phases >= 2 * PLACES.len() * LEAVING.len());
+    let by_readings = [ADD_READINGS, MOVE_READINGS].map(|mark| desk.tally.by_command[&mark]);
+    assert!(by_readings.iter().all(|times| *times >= CHANGES / 50));
     assert!(desk.tally.most_levels >= 3 && desk.tally.longest_list >= MOST_SITES / 2);
     desk.tally
 }

@@ -1,10 +1,14 @@
 //! The inline functions of include/stops.h write the second program's commands and read its
-//! records, and its reasons have the second program's numbers.
+//! records, and its reasons and refusals have the second program's numbers.
 
-use reference::book::{ALL_USED, Book, CUT_COMMAND, NO_ROOM, UNKNOWN_COMMAND, WRONG_LENGTH};
+use reference::book::{
+    ALL_USED, Book, CUT_COMMAND, NO_ROOM, REFUSALS, UNKNOWN_COMMAND, WRONG_LENGTH,
+};
 use reference::command::{self, Command as Bytes};
 use reference::grid::{HALF_WIDTH, Leg, Site};
 use reference::random::{self, Random};
+use reference::reading::Readings;
+use reference::readings::{ODD, ZERO};
 use reference::record::Record;
 use service::{BROKEN_STANDING, BROKEN_TABLE};
 use std::io::Write;
@@ -53,7 +57,7 @@ fn run(program: &Path, mode: &str, input: &[u8]) -> Vec<u8> {
     output.stdout
 }
 
-/// The mark and four numbers.
+/// The mark and four numbers; readings by their patterns.
 fn line(command: &[u8]) -> String {
     let mark = char::from(command[0]);
     let [a, b, c, d] = match Bytes::read(command).unwrap().0 {
@@ -65,6 +69,10 @@ fn line(command: &[u8]) -> String {
         Bytes::List(leg) | Bytes::Stand(leg) => [leg.s.east, leg.s.north, leg.e.east, leg.e.north],
         Bytes::Print => [0; 4],
         Bytes::Begin(corner) | Bytes::Corner(corner) => [corner.east, corner.north, 0, 0],
+        Bytes::AddReadings(number, readings) | Bytes::MoveReadings(number, readings) => {
+            let Readings { east, north } = readings;
+            [number.into(), east.0.into(), north.0.into(), 0]
+        }
     };
     format!("{mark} {a} {b} {c} {d}\n")
 }
@@ -82,6 +90,11 @@ fn commands_are_the_second_programs() {
         commands.extend([command::begin(leg.s), command::corner(leg.e)]);
     }
     commands.extend([command::remove(0), command::remove(65_535)]);
+    // What is not finite is sent as it is.
+    for odd in ODD {
+        commands.push(command::add_readings(65_535, Readings::new(odd, ZERO)));
+        commands.push(command::move_readings(0, Readings::new(ZERO, odd)));
+    }
     let lines: String = commands.iter().map(|command| line(command)).collect();
     assert!(run(&program, "write", lines.as_bytes()) == commands.concat());
 }
@@ -92,7 +105,8 @@ fn what_fits_no_word_is_not_written() {
     let misfits = "A 65536 0 0 0\nA -1 0 0 0\nA 1 32768 0 0\nA 1 0 -32769 0\nM 1 0 65536 0\n\
                    D 65536 0 0 0\nD -1 0 0 0\nL 32768 0 0 0\nL 0 -32769 0 0\nL 0 0 99999 0\n\
                    S 0 0 0 32768\nS 0 0 -40000 0\nB 32768 0 0 0\nB 0 -32769 0 0\n\
-                   C -32769 0 0 0\nC 0 65536 0 0\nP 0 0 0 0\n";
+                   C -32769 0 0 0\nC 0 65536 0 0\na 65536 0 0 0\na -1 0 0 0\n\
+                   m 65536 0 0 0\nm -1 0 0 0\nP 0 0 0 0\n";
     assert_eq!(run(&program, "write", misfits.as_bytes()), b"P");
 }
 
@@ -114,14 +128,24 @@ fn reasons_are_the_second_programs() {
     let commands = [UNKNOWN_COMMAND, CUT_COMMAND, NO_ROOM].map(u32::from);
     let tables = [WRONG_LENGTH.into(), BROKEN_TABLE, BROKEN_STANDING];
     let reasons = [&[u32::from(ALL_USED)][..], &tables, &commands].concat();
-    let said = run(&program("header_reasons"), "reasons", b"");
-    let said = String::from_utf8(said).unwrap();
-    let said: Vec<u32> = said
-        .split_whitespace()
-        .map(|word| word.parse().unwrap())
-        .collect();
+    let said = numbers("reasons");
     assert_eq!(said, reasons);
     assert_eq!(said, [0, 64, 65, 69, 66, 67, 68]);
+}
+
+#[test]
+fn refusals_are_the_second_programs() {
+    let said = numbers("refusals");
+    assert_eq!(said, REFUSALS.map(u32::from));
+    assert_eq!(said, [1, 2, 3, 4, 5, 6, 7, 8, 11]);
+}
+
+/// What the program prints in this mode.
+fn numbers(mode: &str) -> Vec<u32> {
+    let said = run(&program(&format!("header_{mode}")), mode, b"");
+    let said = String::from_utf8(said).unwrap();
+    let number = |word: &str| word.parse().unwrap();
+    said.split_whitespace().map(number).collect()
 }
 
 fn in_words(record: &Record) -> String {

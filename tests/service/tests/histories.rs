@@ -1,9 +1,14 @@
 //! Random lists of batch calls: each call against the site book, each run against fresh tables.
 
-use reference::book::Book;
-use reference::command::{CORNER, add, begin, corner, list, move_site, remove, stand};
+use reference::book::{Book, REFUSALS};
+use reference::command::{
+    ADD_READINGS, CORNER, MOVE_READINGS, add, add_readings, begin, corner, list, move_readings,
+    move_site, remove, stand,
+};
 use reference::grid::{HALF_WIDTH, Leg, Site, TABLE_LEN, WORK_LEN, WRONG_WORK};
 use reference::random::Random;
+use reference::reading::Readings;
+use reference::readings::{FIRST_OFF_GRID, INFINITY, ZERO, metres};
 use reference::record::Record::{Accepted, List};
 use service::desk::{Desk, Lent, Tally};
 use service::draw::{Pool, broken_off};
@@ -47,12 +52,15 @@ fn runs(service: &impl Service, seed: u64) {
     for (reason, times) in &tally.by_reason {
         assert!(*times >= RUNS / 5, "reason {reason}");
     }
-    let refusals = &tally.by_refusal[1..];
+    let refusals = REFUSALS.map(|number| tally.by_refusal[usize::from(number)]);
     assert!(
         refusals.iter().all(|times| *times >= RUNS / 50),
         "{refusals:?}"
     );
     assert!(tally.accepted >= 10 * RUNS && tally.lists >= 5 * RUNS);
+    for mark in [ADD_READINGS, MOVE_READINGS] {
+        assert!(tally.by_command[&mark] >= 2 * RUNS, "{mark:02X}");
+    }
     assert!(compared >= 6 * RUNS && tally.sided >= RUNS / 10);
     let tours = &tally.tours;
     assert!(tours.legs >= 3 * RUNS && tours.most_legs >= 8);
@@ -120,6 +128,11 @@ fn a_call_that_accepts_nothing_leaves_every_byte(service: &impl Service) {
             stand(off_grid),
             begin(off_grid.e),
             corner(on_grid.s),
+            add_readings(held, metres(100, 100)),
+            add_readings(0, metres(100, 100)),
+            add_readings(65_535, Readings::new(INFINITY, ZERO)),
+            move_readings(held, Readings::new(ZERO, INFINITY)),
+            move_readings(held, Readings::new(FIRST_OFF_GRID, ZERO)),
         ];
         let mut book: Book = desk.book.clone();
         let before = desk.table.clone();
@@ -130,6 +143,7 @@ fn a_call_that_accepts_nothing_leaves_every_byte(service: &impl Service) {
         desk.call(&remove(held), WORK_LEN, 0);
         desk.call(&stand(on_grid), WORK_LEN, 0);
         desk.call(&begin(on_grid.s), WORK_LEN, 0);
+        desk.call(&move_readings(held, metres(0, 0)), WORK_LEN, 0);
         desk.serve(&idle.concat());
         assert!(desk.table == before);
         assert_eq!(desk.book, book);

@@ -4,9 +4,13 @@
 
 use binding::call::{Answer, batch, lay_out, raw};
 use reference::book::{ALL_USED, CUT_COMMAND, NO_ROOM, UNKNOWN_COMMAND, WRONG_LENGTH};
-use reference::command::{CORNER, add, begin, corner, list, move_site, print, remove, stand};
+use reference::command::{
+    CORNER, add, add_readings, begin, corner, list, move_readings, move_site, print, remove, stand,
+};
 use reference::grid::{HALF_WIDTH, Leg, Site, TABLE_LEN, WORK_LEN, spread};
 use reference::random::{self, Random};
+use reference::reading::Readings;
+use reference::readings::{FIRST_OFF_GRID, INFINITY, NO_NUMBER, ZERO, metres};
 use reference::record::ENTRY_LEN;
 use service::bytes::{ENTRIES_LISTED, LEVELS, empty_table};
 use service::desk::{Desk, LONGEST_RECORD};
@@ -264,6 +268,13 @@ fn only_read(bytes: &[u8], more: &[Vec<u8>]) {
         stand(off_grid),
         begin(off_grid.e),
         corner(off_grid.e),
+        add_readings(0, metres(0, 0)),
+        add_readings(3, Readings::new(ZERO, NO_NUMBER[2])),
+        add_readings(3, Readings::new(FIRST_OFF_GRID, ZERO)),
+        add_readings(1, metres(0, 0)),
+        move_readings(1, Readings::new(INFINITY, ZERO)),
+        move_readings(1, Readings::new(ZERO, FIRST_OFF_GRID)),
+        move_readings(3, metres(0, 0)),
     ];
     let listed = [list(LEG), print(), list(Leg::new((5, 5), (5, 5)))];
     for commands in [
@@ -291,6 +302,13 @@ fn calls_that_end_early_leave_a_table_that_can_only_be_read() {
     assert_eq!(ended(WORK_LEN, b"?", 9), answer(UNKNOWN_COMMAND, 0, 0));
     assert_eq!(ended(WORK_LEN, &change[..6], 9), answer(CUT_COMMAND, 0, 0));
     assert_eq!(ended(WORK_LEN, &change, 0), answer(NO_ROOM, 0, 0));
+    for change in [
+        add_readings(3, metres(400, 400)),
+        move_readings(1, metres(0, 0)),
+    ] {
+        assert_eq!(ended(WORK_LEN, &change[..10], 9), answer(CUT_COMMAND, 0, 0));
+        assert_eq!(ended(WORK_LEN, &change, 0), answer(NO_ROOM, 0, 0));
+    }
     // A leg, the way back, and the beginning of another tour.
     for command in [corner(LEG.e), corner(LEG.s), begin(LEG.s)] {
         assert_eq!(

@@ -122,7 +122,10 @@ fn installed_used_and_taken_away() {
     assert_eq!(installed.pkg_config(&["--modversion"]).concat(), version);
     let stored = std::fs::read_to_string(at_root("examples/coach.expected")).unwrap();
     let linked = installed.pkg_config(&["--libs"]);
-    let archived = [archive.display().to_string()];
+    // What the archive needs is told, too.
+    let mut archived = installed.pkg_config(&["--static", "--libs"]);
+    archived.retain(|word| word != "-lstops");
+    archived.insert(0, archive.display().to_string());
     for (name, compiler) in [
         ("coach99", &["cc", "-std=c99"][..]),
         ("coach11", &["cc", "-std=c11"]),

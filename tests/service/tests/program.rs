@@ -1,11 +1,13 @@
-//! The batch program target/bin/stops, from input to output bytes, beside the second program's; and
+//! The batch program target/package/stops, from input to output bytes, beside the second program's; and
 //! what it does when its streams fail.
 #![cfg(feature = "proved")]
 
 use reference::batch_program;
-use reference::command::{add, begin, corner, print, stand};
+use reference::command::{add, add_readings, begin, corner, move_readings, print, stand};
 use reference::grid::{HALF_WIDTH, INPUT_LEN, Leg, MOST_SITES, Site, spread};
 use reference::random::{self, Random};
+use reference::reading::{Reading, Readings};
+use reference::readings::{self, ODD, metres};
 use reference::record::ENTRY_LEN;
 use reference::tours::at;
 use service::desk::LONGEST_RECORD;
@@ -19,7 +21,7 @@ use std::sync::LazyLock;
 use std::thread;
 use std::time::Duration;
 
-const PROGRAM: &str = concat!(env!("CARGO_MANIFEST_DIR"), "/../../target/bin/stops");
+const PROGRAM: &str = concat!(env!("CARGO_MANIFEST_DIR"), "/../../target/package/stops");
 const MEGABYTES: usize = 3;
 
 /// What the program prints when its input comes in these pieces, a moment apart.
@@ -28,7 +30,7 @@ fn run_in_pieces(pieces: &[&[u8]]) -> Vec<u8> {
         .stdin(Stdio::piped())
         .stdout(Stdio::piped())
         .spawn()
-        .expect("target/bin/stops is built");
+        .expect("target/package/stops is built");
     let mut input = program.stdin.take().unwrap();
     let mut output = Vec::new();
     thread::scope(|scope| {
@@ -89,6 +91,70 @@ fn an_input_in_pieces_cut_at_every_byte_of_its_commands() {
     }
     let crumbs: Vec<&[u8]> = input.chunks(1).collect();
     assert_eq!(run_in_pieces(&crumbs), expected);
+}
+
+/// A 61 and a 6D behind a list, and one more of either behind them.
+fn with_readings() -> Vec<u8> {
+    let here = metres(150, -250);
+    let half = Readings::new(Reading(0x4247_FFFF), Reading(0xC248_0000));
+    let leg = Leg::new((0, 0), (10, 0));
+    [
+        add(Site::new(1, 2, 3)),
+        stand(leg),
+        print(),
+        add_readings(2, here),
+        print(),
+        move_readings(2, half),
+        print(),
+        add_readings(3, half),
+        move_readings(9, here),
+    ]
+    .concat()
+}
+
+/// The input ends there, or comes in two pieces that are joined.
+#[test]
+fn readings_cut_at_every_byte() {
+    let input = with_readings();
+    let whole = assert_prints(&input);
+    assert_eq!(whole[whole.len() - 5..], [0x2B, 0x21, 0x04, 0x2E, 0]);
+    let mut ended_by_67 = 0;
+    for at in 0..=input.len() {
+        let (first, second) = input.split_at(at);
+        let output = assert_prints(first);
+        ended_by_67 += usize::from(output[output.len() - 1] == 67);
+        assert_eq!(run_in_pieces(&[first, second]), whole, "{at}");
+    }
+    // Each command but one that is a mark alone can be cut before each byte but its first.
+    assert_eq!(ended_by_67, 6 + 8 + 4 * 10);
+    let crumbs: Vec<&[u8]> = input.chunks(1).collect();
+    assert_eq!(run_in_pieces(&crumbs), whole);
+}
+
+#[test]
+fn readings_to_try() {
+    for tried in readings::all() {
+        let (commands, records): (Vec<_>, Vec<_>) = tried.steps.into_iter().unzip();
+        let output = assert_prints(&commands.concat());
+        let mut expected: Vec<u8> = records.iter().flat_map(|record| record.bytes()).collect();
+        expected.extend([0x2E, 0]);
+        assert_eq!(output, expected, "{}", tried.what);
+    }
+}
+
+/// The longest commands, so that the buffer's end cuts them everywhere; odd readings among them.
+#[test]
+fn readings_across_the_end_of_the_input_buffer() {
+    for prints in 0..11 {
+        let mut input = print().repeat(prints);
+        for number in 1..=700 {
+            let odd = ODD[usize::from(number) % ODD.len()];
+            input.extend(add_readings(number, metres(100 * i64::from(number), 49)));
+            input.extend(move_readings(number, Readings::new(odd, odd)));
+        }
+        assert!(input.len() > 3 * INPUT_LEN);
+        assert_prints(&input);
+    }
 }
 
 #[test]

@@ -4,12 +4,16 @@
 //! what it should.
 
 use reference::book::{ALL_USED, Book, Tour, WRONG_LENGTH};
-use reference::command::{add, begin, corner, list, print, remove, stand};
+use reference::command::{
+    add, add_readings, begin, corner, list, move_readings, print, remove, stand,
+};
 use reference::grid::{
     HALF_WIDTH, Leg, MOST_SITES, Position, Site, TABLE_LEN, WORK_LEN, WRONG_WORK, spread,
 };
 use reference::layout::{Case, LAYOUTS, Layout, case};
 use reference::random::Random;
+use reference::reading::Readings;
+use reference::readings::{INFINITY, ZERO, metres};
 use reference::record::Record::{self, Accepted, List, Refused};
 use reference::ties::way_back;
 use reference::{hull, split};
@@ -153,6 +157,8 @@ fn questions(case: &Case) -> Vec<u8> {
         corner(s),
         add(Site::new(64_999, 1, 1)),
         remove(64_999),
+        add_readings(64_999, metres(150, 149)),
+        move_readings(64_999, metres(0, 0)),
         stand(way_back(&case.leg)),
         print(),
     ];
@@ -677,6 +683,8 @@ fn lengths_come_before_and_commands_after(service: &impl Service) {
         for (commands, room) in [
             (unknown, 9),
             (add(Site::new(1, 2, 3))[..6].to_vec(), 9),
+            (add_readings(1, metres(200, 300))[..10].to_vec(), 9),
+            (move_readings(1, Readings::new(INFINITY, ZERO)), 9),
             (print(), 0),
             (questions(&case), 99),
             (vec![], 0),

@@ -5,7 +5,7 @@ use reference::book::Book;
 use reference::command::{add, list, move_site, print, remove, stand};
 use reference::grid::{Leg, Position, Site};
 use reference::layout::{Case, MIRRORED, case};
-use reference::random::Random;
+use reference::random::{self, Random};
 use reference::record::Record::{self, Accepted, List};
 use reference::split::Entry;
 use reference::ties::{TIES, mirror_image, number_alone, tie, way_back};
@@ -109,13 +109,13 @@ fn change_at_a_tie(random: &mut Random, book: &Book, leg: &Leg) -> (usize, Vec<u
         2 if !ties.is_empty() => {
             let Site { number, position } = random.pick(&ties);
             let position = image(position);
-            (2, move_site(Site { number, position }))
+            (2, random::move_site(random, Site { number, position }))
         }
         _ => {
             let places = [image(position), image(position), position];
             let position = random.pick(&places);
             let number = free_number(random, book);
-            (0, add(Site { number, position }))
+            (0, random::add(random, Site { number, position }))
         }
     }
 }

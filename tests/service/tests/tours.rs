@@ -3,12 +3,15 @@
 
 use reference::book::{ALL_USED, Book, CUT_COMMAND, NO_ROOM, Tour, UNKNOWN_COMMAND, WRONG_LENGTH};
 use reference::command::{
-    BEGIN, CORNER, add, begin, corner, list, move_site, print, remove, stand,
+    BEGIN, CORNER, add, add_readings, begin, corner, list, move_readings, move_site, print, remove,
+    stand,
 };
 use reference::grid::{HALF_WIDTH, Leg, MOST_SITES, Site, WORK_LEN, spread};
 use reference::layout::MIRRORED;
 use reference::listener::Told;
 use reference::random::Random;
+use reference::reading::Readings;
+use reference::readings::{FIRST_OFF_GRID, INFINITY, ZERO, metres};
 use reference::record::Record;
 use reference::tours::{self, at, listed};
 use service::bytes::{self, TOUR, tour};
@@ -79,6 +82,9 @@ fn nothing_between_calls_ends_a_tour(service: &impl Service) {
         list(Leg::new((3, 3), (0, HALF_WIDTH + 1))),
         list(Leg::new((-9, 4), (12, 1))),
         print(),
+        add_readings(0, metres(0, 0)),
+        add_readings(7, Readings::new(INFINITY, ZERO)),
+        move_readings(1, Readings::new(ZERO, FIRST_OFF_GRID)),
     ];
     for tried in tours::all() {
         let mut desk = Desk::lay_out(service);
@@ -99,6 +105,8 @@ fn nothing_between_calls_ends_a_tour(service: &impl Service) {
                 ends(&mut desk, &begin(at(1, 1))[..1], WORK_LEN, room),
                 CUT_COMMAND
             );
+            let cut = &add_readings(9, metres(0, 0))[..10];
+            assert_eq!(ends(&mut desk, cut, WORK_LEN, room), CUT_COMMAND);
             desk.serve(&idle.concat());
             assert!(desk.table == before, "{}", tried.what);
             assert_eq!(desk.records(&[command]), [record], "{}", tried.what);

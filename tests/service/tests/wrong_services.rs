@@ -3,9 +3,11 @@
 
 use reference::book::{Book, Tour};
 use reference::command::{self, Command, LIST, PRINT, list};
-use reference::grid::{Leg, MOST_SITES, Site, WORK_LEN, WRONG_WORK};
+use reference::grid::{HALF_WIDTH, Leg, MOST_SITES, Position, Site, WORK_LEN, WRONG_WORK};
 use reference::layout::{LAYOUTS, MIRRORED, case};
 use reference::random::Random;
+use reference::reading::{Reading, Readings, STEP_OFF_GRID};
+use reference::readings::{self, INFINITY, NEGATIVE_ZERO, NO_NUMBER, ZERO};
 use reference::record::{ACCEPTED, LISTED, REFUSED};
 use reference::ties::{
     left_first, not_left_first, number_alone, right_by_narrow_products,
@@ -18,13 +20,14 @@ use service::bytes::{
 };
 use service::damage::{assert_wrong_length_first, flipped, offer, regions, stored_by};
 use service::desk::Desk;
-use service::draw::Pool;
+use service::draw::{Pool, broken_off};
 use service::faults::{ELSEWHERE, STANDING};
 use service::hearing::hear_alone;
 use service::history::{Size, compare_with_fresh, run};
 use service::shape::{self, Dealing};
 use service::table::{Rule, broken_rules, meaning, reason};
-use service::wrong::{Step, Wrong, listing_by, slipping};
+use service::written_out::Pair;
+use service::wrong::{Step, Wrong, listing_by, replacing, slipping};
 use service::{Answer, BROKEN_STANDING, BROKEN_TABLE, Model, Service};
 
 /// Of each size, so many that the rarest fault shows: the side by narrow products.
@@ -1211,5 +1214,643 @@ fn says_66_before_69() {
     trial_by_faults(&at_69!(_t, _w, c, _r => match c {
         [0x3F, ..] => (66, 0, 0),
         _ => (BROKEN_STANDING, 0, 0),
+    }));
+}
+
+// Positions from the receiver: document 02, C-15.
+
+/// The readings to try, one command a call, first cut short, then with too little room and then with
+/// just enough; then the trial of the others.
+fn trial_by_readings(service: &impl Service) {
+    for tried in readings::all() {
+        let mut desk = Desk::lay_out(service);
+        for (command, record) in tried.steps {
+            let length = record.bytes().len();
+            desk.call(&command[..command.len() - 1], WORK_LEN, length);
+            desk.call(&command, WORK_LEN, length - 1);
+            desk.call(&command, WORK_LEN, length);
+        }
+    }
+    trial(service);
+}
+
+/// With no book beside the service: random runs, and the same with the steps written out.
+fn trial_written_out(service: &impl Service) {
+    let mut random = Random::new(114);
+    for _ in 0..ROUNDS {
+        let pool = Pool::new(&mut random, 9);
+        let mut pair = Pair::lay_out(service);
+        for _ in 0..6 {
+            let commands = pool.finite_commands(&mut random, 12);
+            let bytes = broken_off(&mut random, commands);
+            let room = random.index(60);
+            pair.send(&bytes, WORK_LEN, &[room, 1_000]);
+        }
+    }
+}
+
+/// The model, but that another command stands in the place of a 61 or 6D.
+macro_rules! takes_readings {
+    ($t:ident, $command:ident, $number:ident, $readings:ident => $other:expr) => {
+        Wrong(|t, w, c, r| {
+            let other = |$t: &[u8], $command: &Command| {
+                let ($number, $readings) = ($command.number()?, $command.readings()?);
+                $other
+            };
+            replacing(other, (t, w, c, r))
+        })
+    };
+}
+
+/// The same command with these readings.
+fn with_readings(command: &Command, number: u16, readings: Readings) -> Option<Vec<u8>> {
+    Some(match command {
+        Command::AddReadings(..) => command::add_readings(number, readings),
+        _ => command::move_readings(number, readings),
+    })
+}
+
+/// The same command by steps.
+fn with_steps(command: &Command, number: u16, position: Position) -> Option<Vec<u8>> {
+    let site = Site { number, position };
+    Some(match command {
+        Command::AddReadings(..) => command::add(site),
+        _ => command::move_site(site),
+    })
+}
+
+#[test]
+fn replaces_nothing_and_passes() {
+    let same = takes_readings!(_t, command, number, readings => {
+        with_readings(command, number, readings)
+    });
+    trial_by_readings(&same);
+    trial_written_out(&same);
+}
+
+/// Written out as document 02 says.
+#[test]
+fn writes_the_steps_out_and_passes() {
+    let written = takes_readings!(_t, command, number, readings => {
+        with_steps(command, number, readings.position()?)
+    });
+    trial_by_readings(&written);
+    trial_written_out(&written);
+}
+
+/// What is left of a reading beyond whole steps of 100 m, against so many metres.
+type Beyond<'b> = &'b dyn Fn(u128) -> std::cmp::Ordering;
+
+/// The step of a reading, one farther from 0 than that of the whole hundreds where this holds of those
+/// and of what is left.
+fn step_by(reading: Reading, farther: fn(u128, Beyond) -> bool) -> Option<i128> {
+    reading.step()?;
+    let (digits, power) = reading.size();
+    // In parts of a metre; below 2^-96 m there is nothing.
+    let (size, metre) = match power {
+        0.. => (digits << power, 1),
+        -96.. => (digits, 1 << -power),
+        _ => (0, 1),
+    };
+    let (hundreds, left) = (size / (100 * metre), size % (100 * metre));
+    let steps = hundreds + u128::from(farther(hundreds, &|metres| left.cmp(&(metres * metre))));
+    let steps = i128::try_from(steps).expect("128 bits");
+    Some(if reading.is_negative() { -steps } else { steps })
+}
+
+/// As it is written out.
+fn written(step: i128) -> i64 {
+    let coordinate = i64::try_from(step).ok();
+    let on_grid = coordinate.filter(|step| (-HALF_WIDTH..=HALF_WIDTH).contains(step));
+    on_grid.unwrap_or(STEP_OFF_GRID)
+}
+
+/// The model, but for the rounding.
+macro_rules! rounds {
+    ($hundreds:ident, $left:ident => $farther:expr) => {
+        takes_readings!(_t, command, number, readings => {
+            let step = |reading| step_by(reading, |$hundreds, $left| $farther).map(written);
+            let position = Position::new(step(readings.east)?, step(readings.north)?);
+            with_steps(command, number, position)
+        })
+    };
+}
+
+#[test]
+fn rounds_as_due_and_passes() {
+    let due = rounds!(_hundreds, left => left(50).is_ge());
+    trial_by_readings(&due);
+    trial_written_out(&due);
+}
+
+#[test]
+#[should_panic(expected = "the table holds")]
+fn rounds_halves_toward_zero() {
+    trial_by_readings(&rounds!(_hundreds, left => left(50).is_gt()));
+}
+
+#[test]
+#[should_panic(expected = "the table holds")]
+fn rounds_halves_to_even() {
+    trial_by_readings(&rounds!(hundreds, left => {
+        left(50).is_gt() || left(50).is_eq() && hundreds % 2 == 1
+    }));
+}
+
+#[test]
+#[should_panic(expected = "the table holds")]
+fn cuts_readings_off() {
+    trial_by_readings(&rounds!(_hundreds, _left => false));
+}
+
+#[test]
+#[should_panic(expected = "the table holds")]
+fn rounds_up_whatever_is_left() {
+    trial_by_readings(&rounds!(_hundreds, left => left(0).is_gt()));
+}
+
+#[test]
+#[should_panic(expected = "the table holds")]
+fn takes_51_metres_for_the_half() {
+    trial_by_readings(&rounds!(_hundreds, left => left(51).is_ge()));
+}
+
+#[test]
+#[should_panic(expected = "the table holds")]
+fn takes_49_metres_for_the_half() {
+    trial_by_readings(&rounds!(_hundreds, left => left(49).is_ge()));
+}
+
+/// -50 m goes to 0 there, and -150 m to -1.
+#[test]
+#[should_panic(expected = "the table holds")]
+fn rounds_halves_to_the_east_and_north() {
+    trial(&takes_readings!(_t, command, number, readings => {
+        let step = |reading: Reading| {
+            let up = step_by(reading, |_, left| left(50).is_ge());
+            let down = step_by(reading, |_, left| left(50).is_gt());
+            if reading.is_negative() { down } else { up }.map(written)
+        };
+        let position = Position::new(step(readings.east)?, step(readings.north)?);
+        with_steps(command, number, position)
+    }));
+}
+
+/// The sum has an error of its own: 49.999996 m and 50 m are 100 m, to 24 digits.
+#[test]
+#[should_panic(expected = "the table holds")]
+fn adds_half_a_step_as_a_float() {
+    trial_by_readings(&takes_readings!(_t, command, number, readings => {
+        let step = |reading: Reading| {
+            let metres = f32::from_bits(reading.0);
+            let sum = (metres.abs() + 50.0) / 100.0;
+            let step = sum.floor().min(32_767.0) as i64;
+            let step = if step > HALF_WIDTH { STEP_OFF_GRID } else { step };
+            Some(if metres < 0.0 && step <= HALF_WIDTH { -step } else { step })
+        };
+        readings.position()?;
+        with_steps(command, number, Position::new(step(readings.east)?, step(readings.north)?))
+    }));
+}
+
+/// Each reading as this says; none stays as it is.
+fn each(readings: Readings, other: impl Fn(Reading) -> Option<Reading>) -> Readings {
+    let changed = |reading| other(reading).unwrap_or(reading);
+    Readings::new(changed(readings.east), changed(readings.north))
+}
+
+/// Far off the grid.
+const FAR: Reading = Reading(0x7F00_0000);
+
+#[test]
+#[should_panic(expected = "is written, not")]
+fn takes_what_is_no_number_as_off_the_grid() {
+    trial_by_readings(&takes_readings!(_t, command, number, readings => {
+        let no_number = |reading: Reading| !reading.is_finite() && reading.0 << 9 != 0;
+        let other = each(readings, |reading| no_number(reading).then_some(FAR));
+        with_readings(command, number, other)
+    }));
+}
+
+#[test]
+#[should_panic(expected = "is written, not")]
+fn takes_infinity_as_off_the_grid() {
+    trial_by_readings(&takes_readings!(_t, command, number, readings => {
+        let infinite = |reading: Reading| reading.0 << 1 == INFINITY.0 << 1;
+        let other = each(readings, |reading| infinite(reading).then_some(FAR));
+        with_readings(command, number, other)
+    }));
+}
+
+#[test]
+#[should_panic(expected = "written")]
+fn takes_what_is_no_number_as_step_0() {
+    trial_by_readings(&takes_readings!(_t, command, number, readings => {
+        let other = each(readings, |reading| (!reading.is_finite()).then_some(ZERO));
+        with_readings(command, number, other)
+    }));
+}
+
+#[test]
+#[should_panic(expected = "written")]
+fn takes_signalling_patterns_as_finite() {
+    trial_by_readings(&takes_readings!(_t, command, number, readings => {
+        let signalling = |reading: Reading| {
+            !reading.is_finite() && reading.0 << 9 != 0 && reading.0 & 1 << 22 == 0
+        };
+        let other = each(readings, |reading| signalling(reading).then_some(ZERO));
+        with_readings(command, number, other)
+    }));
+}
+
+/// Whether a step is off the grid, of a reading that is finite.
+fn off_grid(reading: Reading) -> bool {
+    reading.coordinate() == Some(STEP_OFF_GRID)
+}
+
+#[test]
+#[should_panic(expected = "is written, not")]
+fn tests_2_before_11() {
+    trial_by_readings(&takes_readings!(_t, command, number, readings => {
+        let off = off_grid(readings.east) || off_grid(readings.north);
+        let other = if off { Readings::new(FAR, FAR) } else { readings };
+        with_readings(command, number, other)
+    }));
+}
+
+#[test]
+#[should_panic(expected = "is written, not")]
+fn tests_11_before_1() {
+    trial_by_readings(&takes_readings!(_t, command, number, readings => {
+        let number = if readings.are_finite() { number } else { number.max(1) };
+        with_readings(command, number, readings)
+    }));
+}
+
+/// 3 comes before 11 and 2 there.
+#[test]
+#[should_panic(expected = "is written, not")]
+fn tests_3_before_11() {
+    trial_by_readings(&takes_readings!(t, command, number, readings => {
+        let held = sites(t).iter().any(|site| site.number == number);
+        match command {
+            Command::AddReadings(..) if held => with_steps(command, number, Position::new(0, 0)),
+            _ => with_readings(command, number, readings),
+        }
+    }));
+}
+
+#[test]
+#[should_panic(expected = "is written, not")]
+fn tests_4_before_11() {
+    trial_by_readings(&takes_readings!(t, command, number, readings => {
+        let held = sites(t).iter().any(|site| site.number == number);
+        match command {
+            Command::MoveReadings(..) if !held => with_steps(command, number, Position::new(0, 0)),
+            _ => with_readings(command, number, readings),
+        }
+    }));
+}
+
+#[test]
+#[should_panic(expected = "written")]
+fn tests_the_easting_alone_for_11() {
+    trial_by_readings(&takes_readings!(_t, command, number, readings => {
+        let north = match readings.north.is_finite() {
+            true => readings.north,
+            false => ZERO,
+        };
+        with_readings(command, number, Readings::new(readings.east, north))
+    }));
+}
+
+#[test]
+#[should_panic(expected = "the table holds")]
+fn exchanges_easting_and_northing() {
+    trial_by_readings(&takes_readings!(_t, command, number, readings => {
+        with_readings(command, number, Readings::new(readings.north, readings.east))
+    }));
+}
+
+#[test]
+#[should_panic(expected = "the table holds")]
+fn takes_the_easting_twice() {
+    trial_by_readings(&takes_readings!(_t, command, number, readings => {
+        let north = if readings.north.is_finite() { readings.east } else { readings.north };
+        with_readings(command, number, Readings::new(readings.east, north))
+    }));
+}
+
+#[test]
+#[should_panic(expected = "the table holds")]
+fn takes_the_west_for_the_east() {
+    trial(&takes_readings!(_t, command, number, readings => {
+        with_readings(command, number, Readings::new(readings.east.opposite(), readings.north))
+    }));
+}
+
+#[test]
+#[should_panic(expected = "written")]
+fn refuses_negative_zero_with_11() {
+    trial_by_readings(&takes_readings!(_t, command, number, readings => {
+        let other = each(readings, |r| (r == NEGATIVE_ZERO).then_some(NO_NUMBER[0]));
+        with_readings(command, number, other)
+    }));
+}
+
+#[test]
+#[should_panic(expected = "written")]
+fn refuses_negative_zero_with_2() {
+    trial_by_readings(&takes_readings!(_t, command, number, readings => {
+        with_readings(command, number, each(readings, |r| (r == NEGATIVE_ZERO).then_some(FAR)))
+    }));
+}
+
+#[test]
+#[should_panic(expected = "written")]
+fn refuses_denormals() {
+    trial_by_readings(&takes_readings!(_t, command, number, readings => {
+        let denormal = |r: Reading| r.0 << 1 != 0 && r.0 << 1 >> 24 == 0;
+        with_readings(command, number, each(readings, |r| denormal(r).then_some(NO_NUMBER[0])))
+    }));
+}
+
+#[test]
+#[should_panic(expected = "written")]
+fn clamps_an_easting_off_the_grid_to_the_edge() {
+    trial_by_readings(&takes_readings!(_t, command, number, readings => {
+        let position = readings.position()?;
+        let east = match (off_grid(readings.east), readings.east.is_negative()) {
+            (false, _) => position.east,
+            (_, false) => HALF_WIDTH,
+            (_, true) => -HALF_WIDTH,
+        };
+        with_steps(command, number, Position::new(east, position.north))
+    }));
+}
+
+#[test]
+#[should_panic(expected = "written")]
+fn clamps_a_northing_off_the_grid_to_the_edge() {
+    trial_by_readings(&takes_readings!(_t, command, number, readings => {
+        let position = readings.position()?;
+        let north = if off_grid(readings.north) { HALF_WIDTH } else { position.north };
+        with_steps(command, number, Position::new(position.east, north))
+    }));
+}
+
+/// The grid limit by the reading: a step too few.
+#[test]
+#[should_panic(expected = "written")]
+fn tests_the_grid_on_the_reading() {
+    trial_by_readings(&takes_readings!(_t, command, number, readings => {
+        let beyond = |r: Reading| {
+            let size = Reading(r.0 & !NEGATIVE_ZERO.0);
+            r.is_finite() && size.0 > Reading::of_metres(100 * HALF_WIDTH).0
+        };
+        with_readings(command, number, each(readings, |r| beyond(r).then_some(FAR)))
+    }));
+}
+
+#[test]
+#[should_panic(expected = "written")]
+fn takes_1_200_050_metres_as_on_the_grid() {
+    trial_by_readings(&takes_readings!(_t, command, number, readings => {
+        let edge = |r: Reading| r.step().is_some_and(|step| step.abs() == 12_001);
+        let nearer = |r: Reading| Reading((r.0 & NEGATIVE_ZERO.0) | 0x4992_7D8F);
+        with_readings(command, number, each(readings, |r| edge(r).then(|| nearer(r))))
+    }));
+}
+
+/// As if the step were cut to its low 16 bits, or 32, or 64, before the grid is tested.
+fn cut_to(bits: u32, readings: Readings) -> Option<Position> {
+    let cut = |reading: Reading| {
+        let step = reading.step()?;
+        let low = step << (128 - bits) >> (128 - bits);
+        Some(written(low))
+    };
+    Some(Position::new(cut(readings.east)?, cut(readings.north)?))
+}
+
+#[test]
+#[should_panic(expected = "written")]
+fn cuts_steps_to_16_bits() {
+    trial_by_readings(&takes_readings!(_t, command, number, readings => {
+        with_steps(command, number, cut_to(16, readings)?)
+    }));
+}
+
+#[test]
+#[should_panic(expected = "written")]
+fn cuts_steps_to_32_bits() {
+    trial_by_readings(&takes_readings!(_t, command, number, readings => {
+        with_steps(command, number, cut_to(32, readings)?)
+    }));
+}
+
+#[test]
+#[should_panic(expected = "written")]
+fn cuts_steps_to_64_bits() {
+    trial_by_readings(&takes_readings!(_t, command, number, readings => {
+        with_steps(command, number, cut_to(64, readings)?)
+    }));
+}
+
+#[test]
+#[should_panic(expected = "written")]
+fn reads_the_highest_byte_first() {
+    trial_by_readings(&takes_readings!(_t, command, number, readings => {
+        with_readings(command, number, each(readings, |r| Some(Reading(r.0.swap_bytes()))))
+    }));
+}
+
+#[test]
+#[should_panic(expected = "the table holds")]
+fn reads_numbers_of_16_bits_for_readings() {
+    trial_by_readings(&takes_readings!(_t, command, number, readings => {
+        let word = |r: Reading| i64::from(r.0 as u16 as i16);
+        with_steps(command, number, Position::new(word(readings.east), word(readings.north)))
+    }));
+}
+
+#[test]
+#[should_panic(expected = "the table holds")]
+fn keeps_the_tour_at_an_accepted_61() {
+    trial_by_readings(&slips_after!(t, step => {
+        if accepted(&step) && matches!(step.command, Command::AddReadings(..)) {
+            keep_tour(t, &step);
+        }
+    }));
+}
+
+#[test]
+#[should_panic(expected = "the table holds")]
+fn keeps_the_tour_at_an_accepted_6d() {
+    trial_by_readings(&slips_after!(t, step => {
+        if accepted(&step) && matches!(step.command, Command::MoveReadings(..)) {
+            keep_tour(t, &step);
+        }
+    }));
+}
+
+#[test]
+#[should_panic(expected = "the table is left by")]
+fn ends_the_tour_at_11() {
+    trial_by_readings(&slips_after!(t, step => {
+        if *step.record == [REFUSED, 11] {
+            t[TOUR].fill(0);
+        }
+    }));
+}
+
+#[test]
+#[should_panic(expected = "written")]
+fn adds_with_6d_where_the_number_is_not_held() {
+    trial_by_readings(&takes_readings!(t, command, number, readings => {
+        let held = sites(t).iter().any(|site| site.number == number);
+        match command {
+            Command::MoveReadings(..) if !held => Some(command::add_readings(number, readings)),
+            _ => None,
+        }
+    }));
+}
+
+#[test]
+#[should_panic(expected = "written")]
+fn moves_with_61_where_the_number_is_held() {
+    trial_by_readings(&takes_readings!(t, command, number, readings => {
+        let held = sites(t).iter().any(|site| site.number == number);
+        match command {
+            Command::AddReadings(..) if held => Some(command::move_readings(number, readings)),
+            _ => None,
+        }
+    }));
+}
+
+#[test]
+#[should_panic(expected = "the table is left by")]
+fn does_a_61_with_too_little_room() {
+    trial_by_readings(&slips_after!(t, step => {
+        if let (Command::AddReadings(..), []) = (step.command, &*step.record) {
+            let mut room = [0; 2];
+            let site = step.command.site().filter(|site| site.position.on_grid());
+            if let Some(site) = site {
+                Model.batch(t, &mut [0; WORK_LEN], &command::add(site), &mut room);
+            }
+        }
+    }));
+}
+
+#[test]
+#[should_panic(expected = "reason, used and written")]
+fn counts_seven_bytes_of_a_61_as_used() {
+    trial_by_readings(&Wrong(|t, w, c, r| {
+        let (reason, used, written) = Model.batch(t, w, c, r);
+        let one = matches!(read_all(&c[..used])[..], [(Command::AddReadings(..), _)]);
+        (reason, if one { 7 } else { used }, written)
+    }));
+}
+
+/// As a service of the release before has it.
+#[test]
+#[should_panic(expected = "reason, used and written")]
+fn knows_no_61() {
+    trial_by_readings(&Wrong(|t, w, c, r| {
+        replacing(
+            |_, command| command.readings().map(|_| vec![0x60]),
+            (t, w, c, r),
+        )
+    }));
+}
+
+/// A cut 61 is done where its easting and half of its northing are there.
+#[test]
+#[should_panic(expected = "reason, used and written")]
+fn does_a_61_that_is_cut() {
+    trial_by_readings(&Wrong(|t, w, c, r| {
+        let whole: usize = read_all(c).iter().map(|(_, length)| length).sum();
+        let cut = &c[whole..];
+        if cut.first() == Some(&command::ADD_READINGS) && cut.len() == 10 {
+            let joined = [c, &[0]].concat();
+            let (reason, used, written) = Model.batch(t, w, &joined, r);
+            return (reason, used.min(c.len()), written);
+        }
+        Model.batch(t, w, c, r)
+    }));
+}
+
+// The same services without a book: the run with steps written out is another one.
+
+#[test]
+#[should_panic(expected = "with the steps written out")]
+fn halves_toward_zero_are_noticed_without_a_book() {
+    trial_written_out(&rounds!(_hundreds, left => left(50).is_gt()));
+}
+
+#[test]
+#[should_panic(expected = "with the steps written out")]
+fn halves_to_even_are_noticed_without_a_book() {
+    trial_written_out(&rounds!(hundreds, left => {
+        left(50).is_gt() || left(50).is_eq() && hundreds % 2 == 1
+    }));
+}
+
+#[test]
+#[should_panic(expected = "with the steps written out")]
+fn a_half_of_51_metres_is_noticed_without_a_book() {
+    trial_written_out(&rounds!(_hundreds, left => left(51).is_ge()));
+}
+
+#[test]
+#[should_panic(expected = "the same reason and report with the steps written out")]
+fn a_clamped_step_is_noticed_without_a_book() {
+    trial_written_out(&takes_readings!(_t, command, number, readings => {
+        let position = readings.position()?;
+        let east = if off_grid(readings.east) { HALF_WIDTH } else { position.east };
+        with_steps(command, number, Position::new(east, position.north))
+    }));
+}
+
+#[test]
+#[should_panic(expected = "the same reason and report with the steps written out")]
+fn negative_zero_that_is_refused_is_noticed_without_a_book() {
+    trial_written_out(&takes_readings!(_t, command, number, readings => {
+        with_readings(command, number, each(readings, |r| (r == NEGATIVE_ZERO).then_some(FAR)))
+    }));
+}
+
+/// The next 43 is answered then, or the table shows it.
+#[test]
+#[should_panic(expected = "with the steps written out")]
+fn a_tour_that_outlives_a_61_is_noticed_without_a_book() {
+    trial_written_out(&slips_after!(t, step => {
+        if accepted(&step) && step.command.readings().is_some() {
+            keep_tour(t, &step);
+        }
+    }));
+}
+
+#[test]
+#[should_panic(expected = "each run's own bytes are used")]
+fn bytes_of_the_other_run_are_noticed_without_a_book() {
+    trial_written_out(&Wrong(|t, w, c, r| {
+        let (reason, used, written) = Model.batch(t, w, c, r);
+        let readings = read_all(&c[..used])
+            .iter()
+            .filter(|(command, _)| command.readings().is_some())
+            .count();
+        (reason, used - 4 * readings, written)
+    }));
+}
+
+/// The table of another shape holds the same sites, but other bytes.
+#[test]
+#[should_panic(expected = "the same table with the steps written out")]
+fn another_shape_after_a_61_is_noticed_without_a_book() {
+    trial_written_out(&slips_after!(t, step => {
+        if accepted(&step) && step.command.readings().is_some() {
+            let (all, standing) = (sites(t), leg(t));
+            shape::write(t, &all, standing, &mut Dealing::Tallest);
+        }
     }));
 }

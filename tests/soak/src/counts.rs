@@ -1,9 +1,13 @@
 //! What came up in years without a difference.
 
-use reference::command::{ADD, BEGIN, CORNER, LIST, MOVE, PRINT, REMOVE, STAND};
+use reference::book::REFUSALS;
+use reference::command::{
+    ADD, ADD_READINGS, BEGIN, CORNER, LIST, MOVE, MOVE_READINGS, PRINT, REMOVE, STAND,
+};
 use reference::listener::Told;
 use service::damage::Outcomes;
 use service::desk::Tally;
+use service::written_out::Compared;
 use std::fmt::{Display, Formatter, Result};
 
 #[derive(Clone, Debug, Default)]
@@ -17,6 +21,8 @@ pub struct Counts {
     /// Tables with a flipped bit, and with faults in the standing half.
     pub flipped: Outcomes,
     pub faulty: Outcomes,
+    /// Calls beside the same with the steps of readings written out.
+    pub written_out: Compared,
 }
 
 impl Counts {
@@ -27,10 +33,11 @@ impl Counts {
         self.heard_alone.add(&other.heard_alone);
         self.flipped.add(&other.flipped);
         self.faulty.add(&other.faulty);
+        self.written_out.add(&other.written_out);
     }
 }
 
-const KINDS: [(u8, &str); 8] = [
+const KINDS: [(u8, &str); 10] = [
     (ADD, "add"),
     (REMOVE, "remove"),
     (MOVE, "move"),
@@ -39,6 +46,8 @@ const KINDS: [(u8, &str); 8] = [
     (PRINT, "print"),
     (BEGIN, "begin"),
     (CORNER, "corner"),
+    (ADD_READINGS, "add by readings"),
+    (MOVE_READINGS, "move by readings"),
 ];
 
 impl Display for Counts {
@@ -56,7 +65,8 @@ impl Display for Counts {
             write!(f, " {name}: {times}")?;
         }
         write!(f, "\n  refused     ")?;
-        for (number, times) in tally.by_refusal.iter().enumerate().skip(1) {
+        for number in REFUSALS {
+            let times = tally.by_refusal[usize::from(number)];
             write!(f, " {number}: {times}")?;
         }
         writeln!(f, "\n  accepted     {}", tally.accepted)?;
@@ -77,7 +87,9 @@ impl Display for Counts {
         write_tours(f, "heard alone", &self.heard_alone)?;
         write_damaged(f, "flipped bits", &self.flipped)?;
         writeln!(f)?;
-        write_damaged(f, "standing half", &self.faulty)
+        write_damaged(f, "standing half", &self.faulty)?;
+        writeln!(f)?;
+        write_compared(f, &self.written_out)
     }
 }
 
@@ -91,6 +103,13 @@ fn write_damaged(f: &mut Formatter, what: &str, outcomes: &Outcomes) -> Result {
         f,
         "{what:14} {with_65} refused with 65, {with_69} with 69, {taken} taken"
     )
+}
+
+fn write_compared(f: &mut Formatter, compared: &Compared) -> Result {
+    let (calls, accepted) = (compared.calls(), compared.accepted);
+    let refused: usize = compared.by_refusal.values().sum();
+    write!(f, "written out    {calls} calls compared, ")?;
+    write!(f, "readings accepted {accepted} times, refused {refused}")
 }
 
 fn write_tours(f: &mut Formatter, what: &str, told: &Told) -> Result {

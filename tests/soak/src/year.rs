@@ -3,24 +3,27 @@
 use crate::counts::Counts;
 use reference::book::Book;
 use reference::command::{begin, corner, stand};
-use reference::grid::{Leg, MOST_SITES};
+use reference::grid::{Leg, MOST_SITES, WORK_LEN};
 use reference::random::Random;
 use service::Service;
 use service::bytes::put_word;
 use service::damage::{Outcomes, flipped, offer, regions};
-use service::desk::Desk;
+use service::desk::{Desk, LONGEST_RECORD};
 use service::draw::{Pool, broken_off};
 use service::faults::{ELSEWHERE, STANDING};
 use service::hearing::hear_alone;
 use service::history::{Run, call, compare_with_fresh};
 use service::shape::{self, Dealing};
 use service::table::Rule;
+use service::written_out::{Compared, Pair};
 
 const DAYS: usize = 365;
 const MOST_COMMANDS_A_CALL: usize = 20;
-/// After so many days come fresh tables, one with a listener alone, and damaged ones.
+/// After so many days come fresh tables, one with a listener alone, one beside which the steps are
+/// written out, and damaged ones.
 const QUARTER: usize = 91;
 const HEARD_A_QUARTER: usize = 20;
+const WRITTEN_OUT_A_QUARTER: usize = 20;
 const FLIPPED_A_QUARTER: usize = 10;
 /// Once in so many days the commands are a tour's.
 const TOUR_ONCE_IN: i64 = 6;
@@ -60,6 +63,7 @@ impl Year {
                     counts.flipped.count(&self.flip(&run));
                 }
                 self.damage(&run, &mut counts.faulty);
+                counts.written_out.add(&self.write_out(&run));
             }
         }
         counts.tally = run.desk.tally;
@@ -109,6 +113,20 @@ impl Year {
         };
         self.commands = broken_off(&mut self.random, commands);
         call(&mut self.random, &mut run.desk, &self.commands);
+    }
+
+    /// Goes on with a copy of the table, and beside it with one for which the steps are written out.
+    fn write_out<S: Service>(&mut self, run: &Run<S>) -> Compared {
+        let random = &mut self.random;
+        let mut pair = Pair::of(run.desk.service(), run.desk.table.clone());
+        for _ in 0..WRITTEN_OUT_A_QUARTER {
+            let count = random.index(MOST_COMMANDS_A_CALL + 1);
+            let commands = run.pool.finite_commands(random, count);
+            self.commands = broken_off(random, commands);
+            let room = random.pick(&[0, 1, 3, 13, 60, LONGEST_RECORD]);
+            pair.send(&self.commands, WORK_LEN, &[room, LONGEST_RECORD]);
+        }
+        pair.compared
     }
 
     /// Offers the table with one bit flipped where a rule speaks; which rules were broken.

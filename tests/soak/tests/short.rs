@@ -1,11 +1,11 @@
 //! A few years on each service, and that a difference is found and comes again with its seed.
 
-use reference::command::PRINT;
+use reference::command::{ADD_READINGS, MOVE_READINGS, PRINT};
 use service::wrong::Wrong;
 use service::{Model, Service, on_each_service};
 use soak::soak;
 
-const YEARS: usize = 3;
+const YEARS: usize = 5;
 const SEED: u64 = 2_026;
 
 on_each_service!(some_years_show_no_difference);
@@ -28,6 +28,12 @@ fn some_years_show_no_difference(service: &impl Service) {
     assert!(tours.left_out >= 200 * YEARS && tours.nothing >= 50 * YEARS);
     assert!(tours.nothing_again >= 10 * YEARS && tours.across_calls >= 10 * YEARS);
     assert!(tours.changed_at_corner >= 5 * YEARS);
+    let by_readings = [ADD_READINGS, MOVE_READINGS].map(|mark| tally.by_command[&mark]);
+    assert!(by_readings.iter().all(|times| *times >= 100 * YEARS));
+    assert!(tally.by_refusal[11] >= 10 * YEARS);
+    let written_out = &counts.written_out;
+    assert!(written_out.calls() >= 4 * 20 * YEARS && written_out.accepted >= 10 * YEARS);
+    assert!(written_out.by_reason.keys().eq(&[0, 66, 67, 68]));
     let alone = &counts.heard_alone;
     assert!(alone.legs >= 4 * 30 * YEARS && alone.left_out >= 4 * 15 * YEARS);
 }
