@@ -11,7 +11,7 @@ fn main() {
     println!("cargo::rerun-if-changed=build.rs");
     hand_on("STOPS_WORK_BYTES");
     hand_on("STOPS_HALF_WIDTH");
-    for library in ["host", "list_probe"] {
+    for library in ["host", "list_probe", "reading_probe"] {
         let feature = format!("CARGO_FEATURE_{}", library.to_uppercase());
         if std::env::var_os(feature).is_some() {
             link(library);

@@ -2,7 +2,7 @@
    is taken out. Prints each list in words. With the library installed (make install) build it with
        cc examples/coach.c $(pkg-config --cflags --libs stops) -o coach
    and in a checkout with
-       cc -Iinclude examples/coach.c target/staticlib/libhost.a -o coach */
+       cc -Iinclude examples/coach.c target/staticlib/libhost.a -lm -o coach */
 #include "stops.h"
 
 #include <inttypes.h>
@@ -32,6 +32,9 @@ static const char *const refusals[] = {
     "no stop is held",
     "no leg is standing",
     "no tour is under way",
+    "",
+    "",
+    "a reading is not a finite number",
 };
 
 /* One batch with one command of this length; its record. */

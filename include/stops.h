@@ -3,12 +3,13 @@
 #ifndef STOPS_H
 #define STOPS_H
 
-#define STOPS_VERSION "0.11.0"
+#define STOPS_VERSION "0.12.0"
 /* 10000 times the first number, 100 times the second, and the third. */
-#define STOPS_VERSION_NUMBER 1100
+#define STOPS_VERSION_NUMBER 1200
 
 #include <stddef.h>
 #include <stdint.h>
+#include <string.h>
 
 #ifdef __cplusplus
 extern "C" {
@@ -23,7 +24,7 @@ extern "C" {
 #define STOPS_HALF_WIDTH 12000
 #define STOPS_MOST_SITES 512
 /* No command has more bytes. */
-#define STOPS_LONGEST_COMMAND 9
+#define STOPS_LONGEST_COMMAND 11
 /* A report buffer of this length has room for any record: a list of 512 entries. */
 #define STOPS_LONGEST_RECORD 5123
 
@@ -41,18 +42,22 @@ enum stops_reason {
 };
 
 /* Command bytes and their operands. A number is an unsigned 16-bit word, a position two signed
-   ones, easting and northing; each word stands lowest byte first. */
+   ones, easting and northing; readings are those that a satellite receiver shows, easting and
+   northing in metres from the grid's origin, two 32-bit IEEE 754 numbers. Each stands lowest byte
+   first. A reading goes to the nearest step of 100 m, an exact half away from zero. */
 enum stops_command {
-    STOPS_ADD = 0x41,    /* number, position */
-    STOPS_REMOVE = 0x44, /* number */
-    STOPS_MOVE = 0x4D,   /* number, position */
-    STOPS_LIST = 0x4C,   /* start and end of a leg: two positions */
-    STOPS_STAND = 0x53,  /* start and end of the standing leg */
-    STOPS_PRINT = 0x50,  /* nothing: prints the standing list */
-    STOPS_BEGIN = 0x42,  /* position: begins a tour there, also within another one; an accepted
-                            STOPS_ADD, STOPS_REMOVE or STOPS_MOVE ends it */
-    STOPS_CORNER = 0x43  /* position: lists the leg from the tour's last corner to this one, which
-                            is the last corner then */
+    STOPS_ADD = 0x41,           /* number, position */
+    STOPS_REMOVE = 0x44,        /* number */
+    STOPS_MOVE = 0x4D,          /* number, position */
+    STOPS_LIST = 0x4C,          /* start and end of a leg: two positions */
+    STOPS_STAND = 0x53,         /* start and end of the standing leg */
+    STOPS_PRINT = 0x50,         /* nothing: prints the standing list */
+    STOPS_BEGIN = 0x42,         /* position: begins a tour there, also within another one; an
+                                   accepted addition, removal or move of a site ends it */
+    STOPS_CORNER = 0x43,        /* position: lists the leg from the tour's last corner to this one,
+                                   which is the last corner then */
+    STOPS_ADD_READINGS = 0x61,  /* number, readings: as STOPS_ADD with their steps */
+    STOPS_MOVE_READINGS = 0x6D  /* number, readings: as STOPS_MOVE with their steps */
 };
 
 /* First bytes of the records in a report. */
@@ -79,7 +84,9 @@ enum stops_refusal {
     STOPS_TABLE_FULL = 5,
     STOPS_NO_SITE = 6,
     STOPS_NO_STANDING_LEG = 7,
-    STOPS_NO_TOUR = 8 /* STOPS_CORNER, and no tour is under way */
+    STOPS_NO_TOUR = 8,    /* STOPS_CORNER, and no tour is under way */
+    STOPS_NOT_FINITE = 11 /* a reading is not a finite number; tested after STOPS_NUMBER_ZERO and
+                             before STOPS_OFF_GRID */
 };
 
 /* Writes an empty table without a standing leg and a tour. Returns 0, or 64 and leaves the bytes. */
@@ -109,7 +116,8 @@ uint32_t stops_batch(uint8_t *table, size_t table_len,
 
 /* Writing commands. Each of these writes one at `to`, where there is room for `room` bytes, and
    returns its length; 0, and nothing is written, where the room is too small or a number has more
-   than the 16 bits of its word. Whether it is on the grid, and held, the service judges. */
+   than the 16 bits of its word. Whether it is on the grid, and held, and whether a reading is
+   finite, the service judges. */
 
 static inline int stops_fits_number(int32_t number)
 {
@@ -137,6 +145,29 @@ static inline size_t stops_put_site(uint8_t *to, size_t room, uint8_t mark, int3
     stops_put_word(to + 3, east);
     stops_put_word(to + 5, north);
     return 7;
+}
+
+/* Readings are sent as they are: a float has the 32 bits of the command's number. */
+typedef char stops_float_has_32_bits[sizeof(float) == sizeof(uint32_t) ? 1 : -1];
+
+static inline void stops_put_reading(uint8_t *to, float reading)
+{
+    uint32_t bits;
+    memcpy(&bits, &reading, sizeof bits);
+    stops_put_word(to, (int32_t)(bits & 0xFFFF));
+    stops_put_word(to + 2, (int32_t)(bits >> 16));
+}
+
+static inline size_t stops_put_readings(uint8_t *to, size_t room, uint8_t mark, int32_t number,
+                                        float east, float north)
+{
+    if (room < 11 || !stops_fits_number(number))
+        return 0;
+    to[0] = mark;
+    stops_put_word(to + 1, number);
+    stops_put_reading(to + 3, east);
+    stops_put_reading(to + 7, north);
+    return 11;
 }
 
 static inline size_t stops_put_leg(uint8_t *to, size_t room, uint8_t mark, int32_t s_east,
@@ -173,6 +204,18 @@ static inline size_t stops_put_move(uint8_t *to, size_t room, int32_t number, in
                                     int32_t north)
 {
     return stops_put_site(to, room, STOPS_MOVE, number, east, north);
+}
+
+static inline size_t stops_put_add_readings(uint8_t *to, size_t room, int32_t number, float east,
+                                            float north)
+{
+    return stops_put_readings(to, room, STOPS_ADD_READINGS, number, east, north);
+}
+
+static inline size_t stops_put_move_readings(uint8_t *to, size_t room, int32_t number, float east,
+                                             float north)
+{
+    return stops_put_readings(to, room, STOPS_MOVE_READINGS, number, east, north);
 }
 
 static inline size_t stops_put_remove(uint8_t *to, size_t room, int32_t number)

@@ -5,3 +5,5 @@ pub mod call;
 pub mod layout;
 #[cfg(feature = "list_probe")]
 pub mod probe;
+#[cfg(feature = "reading_probe")]
+pub mod reading_probe;

@@ -1,6 +1,8 @@
 //! The commands of documents 01 and 02 and their bytes.
 
 use crate::grid::{Leg, Position, Site};
+use crate::reading::{Reading, Readings};
+use std::fmt;
 
 const ADD: u8 = 0x41;
 const REMOVE: u8 = 0x44;
@@ -10,13 +12,33 @@ const STAND: u8 = 0x53;
 const PRINT: u8 = 0x50;
 const BEGIN: u8 = 0x42;
 const CORNER: u8 = 0x43;
-const MARKS: [u8; 8] = [ADD, REMOVE, MOVE, LIST, STAND, PRINT, BEGIN, CORNER];
+const ADD_READINGS: u8 = 0x61;
+const MOVE_READINGS: u8 = 0x6D;
+const MARKS: [u8; 10] = [
+    ADD,
+    REMOVE,
+    MOVE,
+    LIST,
+    STAND,
+    PRINT,
+    BEGIN,
+    CORNER,
+    ADD_READINGS,
+    MOVE_READINGS,
+];
+
+/// Where a site is put: the position of a command.
+#[derive(Clone, Copy, Debug, PartialEq, Eq)]
+pub enum Place {
+    Steps(Position),
+    Readings(Readings),
+}
 
 #[derive(Clone, Copy, Debug, PartialEq, Eq)]
 pub enum Command {
-    Add(Site),
+    Add(u16, Place),
     Remove(u16),
-    Move(Site),
+    Move(u16, Place),
     List(Leg),
     Stand(Leg),
     Print,
@@ -27,15 +49,28 @@ pub enum Command {
 }
 
 impl Command {
+    pub fn add(site: Site) -> Self {
+        Command::Add(site.number, Place::Steps(site.at))
+    }
+
+    /// Those among its operands.
+    pub fn readings(&self) -> Option<Readings> {
+        match *self {
+            Command::Add(_, Place::Readings(readings))
+            | Command::Move(_, Place::Readings(readings)) => Some(readings),
+            _ => None,
+        }
+    }
+
     /// Appends the command's bytes.
     pub fn write(&self, bytes: &mut Vec<u8>) {
         match *self {
-            Command::Add(site) => put_site(bytes, ADD, site),
+            Command::Add(number, place) => put_site(bytes, [ADD, ADD_READINGS], number, place),
             Command::Remove(number) => {
                 bytes.push(REMOVE);
                 bytes.extend(number.to_le_bytes());
             }
-            Command::Move(site) => put_site(bytes, MOVE, site),
+            Command::Move(number, place) => put_site(bytes, [MOVE, MOVE_READINGS], number, place),
             Command::List(leg) => put_leg(bytes, LIST, leg),
             Command::Stand(leg) => put_leg(bytes, STAND, leg),
             Command::Print => bytes.push(PRINT),
@@ -53,14 +88,16 @@ impl Command {
     pub fn read(bytes: &[u8]) -> Option<(Command, usize)> {
         let (&mark, operands) = bytes.split_first()?;
         let command = match mark {
-            ADD => (Command::Add(site(operands)?), 7),
+            ADD => (Command::Add(word(operands, 0)?, steps(operands)?), 7),
             REMOVE => (Command::Remove(word(operands, 0)?), 3),
-            MOVE => (Command::Move(site(operands)?), 7),
+            MOVE => (Command::Move(word(operands, 0)?, steps(operands)?), 7),
             LIST => (Command::List(leg(operands)?), 9),
             STAND => (Command::Stand(leg(operands)?), 9),
             PRINT => (Command::Print, 1),
             BEGIN => (Command::Begin(position(operands, 0)?), 5),
             CORNER => (Command::Corner(position(operands, 0)?), 5),
+            ADD_READINGS => (Command::Add(word(operands, 0)?, readings(operands)?), 11),
+            MOVE_READINGS => (Command::Move(word(operands, 0)?, readings(operands)?), 11),
             _ => return None,
         };
         Some(command)
@@ -68,14 +105,13 @@ impl Command {
 }
 
 /// As a line says it.
-impl std::fmt::Display for Command {
-    fn fmt(&self, f: &mut std::fmt::Formatter) -> std::fmt::Result {
-        let site = |site: Site| format!("{} {} {}", site.number, site.at.east, site.at.north);
+impl fmt::Display for Command {
+    fn fmt(&self, f: &mut fmt::Formatter) -> fmt::Result {
         let leg = |Leg { s, e }| format!("{} {} {} {}", s.east, s.north, e.east, e.north);
         match *self {
-            Command::Add(added) => write!(f, "add {}", site(added)),
+            Command::Add(number, place) => write!(f, "add {number} {place}"),
             Command::Remove(number) => write!(f, "remove {number}"),
-            Command::Move(moved) => write!(f, "move {}", site(moved)),
+            Command::Move(number, place) => write!(f, "move {number} {place}"),
             Command::List(asked) => write!(f, "leg {}", leg(asked)),
             Command::Stand(set) => write!(f, "stand {}", leg(set)),
             Command::Print => write!(f, "print"),
@@ -85,10 +121,30 @@ impl std::fmt::Display for Command {
     }
 }
 
-fn put_site(bytes: &mut Vec<u8>, mark: u8, site: Site) {
-    bytes.push(mark);
-    bytes.extend(site.number.to_le_bytes());
-    put_position(bytes, site.at);
+impl fmt::Display for Place {
+    fn fmt(&self, f: &mut fmt::Formatter) -> fmt::Result {
+        match self {
+            Place::Steps(at) => write!(f, "{} {}", at.east, at.north),
+            Place::Readings(readings) => write!(f, "{readings}"),
+        }
+    }
+}
+
+/// The first mark is that for steps, the second that for readings.
+fn put_site(bytes: &mut Vec<u8>, marks: [u8; 2], number: u16, place: Place) {
+    match place {
+        Place::Steps(at) => {
+            bytes.push(marks[0]);
+            bytes.extend(number.to_le_bytes());
+            put_position(bytes, at);
+        }
+        Place::Readings(Readings { east, north }) => {
+            bytes.push(marks[1]);
+            bytes.extend(number.to_le_bytes());
+            bytes.extend(east.0.to_le_bytes());
+            bytes.extend(north.0.to_le_bytes());
+        }
+    }
 }
 
 fn put_leg(bytes: &mut Vec<u8>, mark: u8, leg: Leg) {
@@ -119,11 +175,23 @@ fn position(operands: &[u8], at: usize) -> Option<Position> {
     })
 }
 
-fn site(operands: &[u8]) -> Option<Site> {
-    Some(Site {
-        number: word(operands, 0)?,
-        at: position(operands, 2)?,
-    })
+/// Behind a site number.
+fn steps(operands: &[u8]) -> Option<Place> {
+    position(operands, 2).map(Place::Steps)
+}
+
+/// Behind a site number.
+fn readings(operands: &[u8]) -> Option<Place> {
+    Some(Place::Readings(Readings {
+        east: reading(operands, 2)?,
+        north: reading(operands, 6)?,
+    }))
+}
+
+fn reading(operands: &[u8], at: usize) -> Option<Reading> {
+    let bytes = operands.get(at..at + 4)?;
+    let [a, b, c, d] = [0, 1, 2, 3].map(|i| bytes[i]);
+    Some(Reading(u32::from_le_bytes([a, b, c, d])))
 }
 
 fn leg(operands: &[u8]) -> Option<Leg> {
@@ -179,9 +247,37 @@ mod tests {
     }
 
     #[test]
+    fn readings_come_back_byte_for_byte() {
+        let place = Place::Readings(Readings {
+            east: Reading(0x449A_5000),
+            north: Reading(0xFFC0_0001),
+        });
+        for (command, mark, words) in [
+            (
+                Command::Add(258, place),
+                0x61,
+                "add 258 1234.5m 0xFFC00001m",
+            ),
+            (
+                Command::Move(258, place),
+                0x6D,
+                "move 258 1234.5m 0xFFC00001m",
+            ),
+        ] {
+            let bytes = [mark, 2, 1, 0, 0x50, 0x9A, 0x44, 1, 0, 0xC0, 0xFF];
+            let mut written = Vec::new();
+            command.write(&mut written);
+            assert_eq!(written, bytes);
+            assert_eq!(Command::read(&bytes), Some((command, 11)));
+            assert!((0..11).all(|length| Command::read(&bytes[..length]).is_none()));
+            assert_eq!(command.to_string(), words);
+        }
+    }
+
+    #[test]
     fn marks_are_the_bytes_that_begin_a_command() {
         for byte in 0..=u8::MAX {
-            let read = Command::read(&[byte, 0, 0, 0, 0, 0, 0, 0, 0]);
+            let read = Command::read(&[byte, 0, 0, 0, 0, 0, 0, 0, 0, 0, 0]);
             assert_eq!(Command::is_mark(byte), read.is_some(), "{byte:02X}");
         }
     }

@@ -53,7 +53,7 @@ pub fn dump<W: Write, E: Write>(
         desk.console.say(format_args!("{name} {ANEW}"));
     }
     for site in table::sites(&renewed) {
-        desk.say(Command::Add(site))?;
+        desk.say(Command::add(site))?;
     }
     if doubtful {
         desk.say(doubtful_leg(&renewed))?;

@@ -1,8 +1,9 @@
 //! One line of text: a command, something to do, nothing, or a complaint.
 
 use crate::act::Act;
-use crate::command::Command;
-use crate::grid::{self, Leg, Position, Site};
+use crate::command::{Command, Place};
+use crate::grid::{self, Leg, Position};
+use crate::reading::{Misread, Reading, Readings};
 use std::fmt;
 
 /// Why a line is bad.
@@ -14,6 +15,11 @@ pub enum Complaint {
     NotANumber(String),
     SiteNumber(String),
     Coordinate(String),
+    /// A word with an m behind it.
+    NotAReading(String),
+    ReadingTooLarge(String),
+    /// Easting and northing, of which one is a reading.
+    OneReading(String, String),
     TooLong(usize),
     Words(&'static str),
     /// With --bytes: a line that is for stops-text alone.
@@ -33,6 +39,9 @@ const KNOWN: &str = "add, remove, move, leg, stand, print, tour, corner; \
 const SITE: &str = "site number, easting, northing";
 const LEG: &str = "easting and northing of the start, then of the end";
 const CORNER: &str = "easting, northing";
+/// What a reading ends with.
+const METRES: &[u8] = b"m";
+const EXAMPLES: &str = "-1234.5m or 0x7FC00001m";
 /// What is shown of a word that is not understood.
 const SHOWN: usize = 24;
 
@@ -79,8 +88,8 @@ fn act(first: &[u8], operands: &[&[u8]]) -> Result<Option<Act>, Complaint> {
 
 fn command(first: &[u8], operands: &[&[u8]]) -> Result<Command, Complaint> {
     match first {
-        b"add" => site("add", operands).map(Command::Add),
-        b"move" => site("move", operands).map(Command::Move),
+        b"add" => site("add", operands).map(|(number, place)| Command::Add(number, place)),
+        b"move" => site("move", operands).map(|(number, place)| Command::Move(number, place)),
         b"leg" => leg("leg", operands).map(Command::List),
         b"stand" => leg("stand", operands).map(Command::Stand),
         b"tour" => corner("tour", operands).map(Command::Begin),
@@ -106,11 +115,32 @@ fn counted<'a, const N: usize>(
     <[&[u8]; N]>::try_from(operands).map_err(|_| Complaint::Count(name, wanted, N, found))
 }
 
-fn site(name: &'static str, operands: &[&[u8]]) -> Result<Site, Complaint> {
+fn site(name: &'static str, operands: &[&[u8]]) -> Result<(u16, Place), Complaint> {
     let [number, east, north] = counted(name, SITE, operands)?;
-    Ok(Site {
-        number: site_number(number)?,
-        at: position(east, north)?,
+    Ok((site_number(number)?, place(east, north)?))
+}
+
+/// Steps, or readings where both words have an m behind them.
+fn place(east: &[u8], north: &[u8]) -> Result<Place, Complaint> {
+    match (is_metres(east), is_metres(north)) {
+        (false, false) => position(east, north).map(Place::Steps),
+        (true, true) => Ok(Place::Readings(Readings {
+            east: reading(east)?,
+            north: reading(north)?,
+        })),
+        _ => Err(Complaint::OneReading(shown(east), shown(north))),
+    }
+}
+
+fn is_metres(word: &[u8]) -> bool {
+    word.ends_with(METRES)
+}
+
+fn reading(word: &[u8]) -> Result<Reading, Complaint> {
+    let number = word.strip_suffix(METRES).unwrap_or(word);
+    Reading::parse(number).map_err(|misread| match misread {
+        Misread::Form => Complaint::NotAReading(shown(word)),
+        Misread::TooLarge => Complaint::ReadingTooLarge(shown(word)),
     })
 }
 
@@ -175,6 +205,17 @@ impl fmt::Display for Complaint {
             Complaint::Coordinate(word) => {
                 write!(f, "coordinate \"{word}\" is off the grid, {}", grid::span())
             }
+            Complaint::NotAReading(word) => {
+                write!(f, "\"{word}\" is not a reading, such as {EXAMPLES}")
+            }
+            Complaint::ReadingTooLarge(word) => {
+                write!(f, "reading \"{word}\" is too large for a 32-bit number")
+            }
+            Complaint::OneReading(east, north) => write!(
+                f,
+                "easting \"{east}\" and northing \"{north}\" have to be both steps or both readings, \
+                 such as {EXAMPLES}"
+            ),
             Complaint::TooLong(most) => write!(f, "longer than {most} bytes"),
             Complaint::Words(words) => write!(f, "{words}"),
             Complaint::NoBytes(word) => {
@@ -207,16 +248,13 @@ mod tests {
 
     #[test]
     fn every_command() {
-        let site = Site {
-            number: 7,
-            at: at(120, -35),
-        };
+        let place = Place::Steps(at(120, -35));
         let leg = Leg {
             s: at(0, -1),
             e: at(10, 2),
         };
-        assert_eq!(good("add 7 120 -35"), Some(Command::Add(site)));
-        assert_eq!(good("move 7 120 -35"), Some(Command::Move(site)));
+        assert_eq!(good("add 7 120 -35"), Some(Command::Add(7, place)));
+        assert_eq!(good("move 7 120 -35"), Some(Command::Move(7, place)));
         assert_eq!(good("remove 7"), Some(Command::Remove(7)));
         assert_eq!(good("leg 0 -1 10 2"), Some(Command::List(leg)));
         assert_eq!(good("stand 0 -1 10 2"), Some(Command::Stand(leg)));
@@ -260,12 +298,93 @@ mod tests {
 
     #[test]
     fn the_widest_words() {
-        let site = Site {
-            number: 65_535,
-            at: at(-32_768, 32_767),
-        };
-        assert_eq!(good("add 65535 -32768 32767"), Some(Command::Add(site)));
+        let place = Place::Steps(at(-32_768, 32_767));
+        let added = Command::Add(65_535, place);
+        assert_eq!(good("add 65535 -32768 32767"), Some(added));
         assert_eq!(good("remove 0"), Some(Command::Remove(0)));
+    }
+
+    #[test]
+    fn readings() {
+        for (words, east, north) in [
+            ("1234.5m -99.9m", 0x449A_5000, 0xC2C7_CCCD),
+            ("+5m -0m", 0x40A0_0000, 0x8000_0000),
+            ("0x7FC00001m 0xff800000m", 0x7FC0_0001, 0xFF80_0000),
+            ("100m 0x42C80000m # step 1 1", 0x42C8_0000, 0x42C8_0000),
+        ] {
+            let [east, north] = [east, north].map(Reading);
+            let place = Place::Readings(Readings { east, north });
+            let added = good(&format!("add 7 {words}"));
+            assert_eq!(added, Some(Command::Add(7, place)), "{words}");
+            let moved = good(&format!("\tmove +07 {words}\r"));
+            assert_eq!(moved, Some(Command::Move(7, place)), "{words}");
+        }
+    }
+
+    #[test]
+    fn wrong_readings() {
+        let form = "is not a reading, such as -1234.5m or 0x7FC00001m";
+        for word in [
+            "m",
+            "-m",
+            ".m",
+            "1.2.3m",
+            "1e3m",
+            "infm",
+            "nanm",
+            "-infinitym",
+            "0x7FC0000m",
+            "1mm",
+            "1,5m",
+            "0X7FC00001m",
+        ] {
+            let complaint = format!("\"{word}\" {form}");
+            assert_eq!(bad(format!("add 1 {word} 0m").as_bytes()), complaint);
+            assert_eq!(bad(format!("move 1 0m {word}").as_bytes()), complaint);
+        }
+        assert_eq!(bad(b"add 1 \xffm 0m"), format!("\"\\xffm\" {form}"));
+        let large = "340282360000000000000000000000000000000m";
+        for (line, shown) in [
+            (format!("add 1 {large} 0m"), "340282360000000000000000..."),
+            (format!("move 1 0m -{large}"), "-34028236000000000000000..."),
+        ] {
+            let complaint = format!("reading \"{shown}\" is too large for a 32-bit number");
+            assert_eq!(bad(line.as_bytes()), complaint);
+        }
+    }
+
+    #[test]
+    fn one_reading_alone() {
+        for (east, north) in [("1234.5m", "-1"), ("12", "-99.9m"), ("0x7FC00001m", "0")] {
+            let complaint = format!(
+                "easting \"{east}\" and northing \"{north}\" have to be both steps or both readings, \
+                 such as -1234.5m or 0x7FC00001m"
+            );
+            assert_eq!(bad(format!("add 7 {east} {north}").as_bytes()), complaint);
+            assert_eq!(bad(format!("move 7 {east} {north}").as_bytes()), complaint);
+        }
+        // An m with a blank before it is a word.
+        let count = format!("add takes 3 numbers ({SITE}), not 5");
+        assert_eq!(bad(b"add 7 12 m 13 m"), count);
+    }
+
+    /// A leg and a corner are steps.
+    #[test]
+    fn readings_are_of_sites_alone() {
+        for line in [
+            "leg 1m 0m 2m 0m",
+            "stand 1m 0 2 0",
+            "tour 1m 0m",
+            "corner 1m 0m",
+        ] {
+            assert_eq!(
+                bad(line.as_bytes()),
+                "\"1m\" is not a whole number",
+                "{line}"
+            );
+        }
+        assert_eq!(bad(b"remove 7m"), "\"7m\" is not a whole number");
+        assert_eq!(bad(b"add 7m 1m 1m"), "\"7m\" is not a whole number");
     }
 
     #[test]

@@ -35,7 +35,7 @@ fn today(leg: Leg, sites: &[Site]) -> Result<Vec<u16>, Failure> {
     let mut service = Service::new()?;
     let mut commands = Vec::new();
     for site in sites {
-        Command::Add(*site).write(&mut commands);
+        Command::add(*site).write(&mut commands);
     }
     service.serve(&commands, |_| Ok(()))?;
     let list = service.list(&Command::List(leg))?;

@@ -5,8 +5,6 @@ const REFUSED: u8 = 0x21;
 const LISTED: u8 = 0x3D;
 const ENTRY_LEN: usize = 10;
 const MOST_ENTRIES: usize = 512;
-/// Refusals are numbered from 1 up to this.
-const LAST_REFUSAL: u8 = 8;
 
 #[derive(Clone, Copy, Debug, PartialEq, Eq)]
 pub struct Entry {
@@ -43,7 +41,7 @@ impl Record {
     pub fn read(bytes: &[u8]) -> Result<Option<(Record, usize)>, Fault> {
         match *bytes {
             [ACCEPTED, ..] => Ok(Some((Record::Accepted, 1))),
-            [REFUSED, number @ 1..=LAST_REFUSAL, ..] => Ok(Some((Record::Refused(number), 2))),
+            [REFUSED, number, ..] if is_refusal(number) => Ok(Some((Record::Refused(number), 2))),
             [REFUSED, number, ..] => Err(Fault::Refusal(number)),
             [LISTED, low, high, ref rest @ ..] => {
                 let count = usize::from(u16::from_le_bytes([low, high]));
@@ -54,6 +52,11 @@ impl Record {
             [mark, ..] => Err(Fault::Mark(mark)),
         }
     }
+}
+
+/// Whether a refusal has the number.
+fn is_refusal(number: u8) -> bool {
+    matches!(number, 1..=8 | 11)
 }
 
 /// Whether the first entry is that from 0 on.
@@ -119,7 +122,10 @@ mod tests {
         let list = Record::List(vec![entry]);
         assert_eq!(Record::read(&LIST), Ok(Some((list, 13))));
         assert_eq!(Record::read(&[0x2B, 9]), Ok(Some((Record::Accepted, 1))));
-        assert_eq!(Record::read(&[0x21, 8]), Ok(Some((Record::Refused(8), 2))));
+        for number in [1, 8, 11] {
+            let refused = Record::Refused(number);
+            assert_eq!(Record::read(&[0x21, number]), Ok(Some((refused, 2))));
+        }
         let none = Record::List(vec![]);
         assert_eq!(Record::read(&[0x3D, 0, 0, 9]), Ok(Some((none, 3))));
     }
@@ -150,8 +156,9 @@ mod tests {
     #[test]
     fn faults() {
         assert_eq!(Record::read(&[0]), Err(Fault::Mark(0)));
-        assert_eq!(Record::read(&[0x21, 0]), Err(Fault::Refusal(0)));
-        assert_eq!(Record::read(&[0x21, 9]), Err(Fault::Refusal(9)));
+        for number in [0, 9, 10, 12, 255] {
+            assert_eq!(Record::read(&[0x21, number]), Err(Fault::Refusal(number)));
+        }
         assert_eq!(Record::read(&[0x3D, 1, 2]), Err(Fault::Count(513)));
         let mut one = LIST;
         one[5] = 0x64;

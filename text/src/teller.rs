@@ -1,5 +1,5 @@
 //! Puts each record in words beside its command, and remembers what it needs for that: legs, and
-//! where a tour is.
+//! where a tour is. Behind the words for readings it tells their steps.
 
 use crate::command::Command;
 use crate::grid::{Leg, Route};
@@ -48,6 +48,7 @@ impl Teller {
         let known = command.map_or_else(Known::default, |command| self.known(command));
         words::tell(record, name, &known, out)?;
         if let Some(command) = command {
+            words::tell_steps(command, name, out)?;
             self.hear(command, record);
         }
         Ok(())

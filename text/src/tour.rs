@@ -44,7 +44,7 @@ impl Tour {
     pub fn hear(&mut self, command: &Command, record: &Record) {
         match (command, record) {
             (Command::Begin(at), Record::Accepted) => self.renew(Some(*at)),
-            (Command::Add(_) | Command::Remove(_) | Command::Move(_), Record::Accepted) => {
+            (Command::Add(..) | Command::Remove(_) | Command::Move(..), Record::Accepted) => {
                 self.renew(None);
             }
             (Command::Corner(to), Record::List(list)) => {
@@ -71,13 +71,18 @@ impl Tour {
 #[cfg(test)]
 mod tests {
     use super::*;
-    use crate::grid::Site;
+    use crate::command::Place;
+    use crate::reading::{Reading, Readings};
     use crate::record::Entry;
 
     const A: Position = Position { east: 1, north: 1 };
     const B: Position = Position { east: 2, north: 2 };
     const C: Position = Position { east: 3, north: 3 };
-    const SITE: Site = Site { number: 7, at: A };
+    /// 100 m east, 100 m north.
+    const READINGS: Readings = Readings {
+        east: Reading(0x42C8_0000),
+        north: Reading(0x42C8_0000),
+    };
 
     fn list(sites: &[u16]) -> Record {
         let entry = |site: &u16| Entry {
@@ -135,7 +140,13 @@ mod tests {
     #[test]
     fn accepted_changes_end_a_tour_and_others_leave_it() {
         let leg = Leg { s: A, e: B };
-        for change in [Command::Add(SITE), Command::Remove(7), Command::Move(SITE)] {
+        for change in [
+            Command::Add(7, Place::Steps(A)),
+            Command::Remove(7),
+            Command::Move(7, Place::Steps(A)),
+            Command::Add(7, Place::Readings(READINGS)),
+            Command::Move(7, Place::Readings(READINGS)),
+        ] {
             let refused = heard(begun(), &[(change, Record::Refused(4))]);
             assert_eq!(known(&refused), (Some(B), Some(6)));
             let ended = heard(begun(), &[(change, Record::Accepted)]);

@@ -1,5 +1,6 @@
 //! Records, refusals and reasons in the words of documents 01 and 02.
 
+use crate::command::Command;
 use crate::grid::{self, Leg};
 use crate::point;
 use crate::record::{self, Entry, Record};
@@ -59,6 +60,15 @@ pub fn tell(record: &Record, name: Name, known: &Known, out: &mut impl Write) ->
     }
 }
 
+/// Behind the answer to a receiver's readings: the line that sends them, and their steps as a comment.
+/// A script knows what it sent.
+pub fn tell_steps(command: &Command, name: Name, out: &mut impl Write) -> io::Result<()> {
+    match (name, command.readings()) {
+        (Name::Plain, _) | (_, None) => Ok(()),
+        (_, Some(readings)) => writeln!(out, "{command} # {}", readings.in_steps()),
+    }
+}
+
 /// `1 entry`, `2 entries`.
 pub fn entries(count: usize) -> String {
     let entries = if count == 1 { "entry" } else { "entries" };
@@ -101,6 +111,7 @@ fn refusal(number: u8) -> String {
         6 => "no site held",
         7 => "no standing leg",
         8 => "no tour under way",
+        11 => "a reading is not a finite number",
         _ => "no such refusal",
     };
     words.into()
@@ -127,6 +138,7 @@ pub fn reason(number: u32) -> &'static str {
 mod tests {
     use super::*;
     use crate::grid::Position;
+    use crate::line::{self, Said};
 
     fn named(record: &Record, name: Name, leg: Option<Leg>, last: Option<u16>) -> String {
         let mut out = Vec::new();
@@ -162,9 +174,43 @@ mod tests {
             "refused 6: no site held\n",
             "refused 7: no standing leg\n",
             "refused 8: no tour under way\n",
+            "refused 11: a reading is not a finite number\n",
         ];
-        for (number, words) in (1..).zip(expected) {
+        for (number, words) in (1..=8).chain([11]).zip(expected) {
             assert_eq!(told(&Record::Refused(number), None), words);
+        }
+    }
+
+    #[test]
+    fn steps_stand_behind_the_line_of_readings() {
+        let told = |line: &[u8], name| {
+            let Ok(Some(Said::Command(command))) = line::parse(line) else {
+                panic!("no command");
+            };
+            let mut out = Vec::new();
+            tell_steps(&command, name, &mut out).unwrap();
+            String::from_utf8(out).unwrap()
+        };
+        for (line, words) in [
+            (
+                &b"add 7 +1234.50m -99.9m"[..],
+                "add 7 1234.5m -99.9m # step 12 -1\n",
+            ),
+            (
+                b"move 7 1200050m -0m",
+                "move 7 1200050m -0m # easting off the grid, northing step 0\n",
+            ),
+            (
+                b"add 0 0x42c80000m 0x7fc00001m",
+                "add 0 100m 0x7FC00001m # easting step 1, northing not finite\n",
+            ),
+            (b"add 7 12 -1", ""),
+            (b"move 7 12 -1", ""),
+            (b"print", ""),
+        ] {
+            assert_eq!(told(line, Name::Line(3)), words);
+            assert_eq!(told(line, Name::Command(3)), words);
+            assert_eq!(told(line, Name::Plain), "");
         }
     }
 

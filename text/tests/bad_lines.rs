@@ -5,7 +5,7 @@ mod common;
 use common::{lines, run};
 use reference::random::{self, Random};
 
-const BAD: [&[u8]; 23] = [
+const BAD: [&[u8]; 34] = [
     b"ad 1 2 3",
     b"ADD 1 2 3",
     b"add",
@@ -29,6 +29,17 @@ const BAD: [&[u8]; 23] = [
     b"print print",
     b"\xff\xfe\0\0",
     b"A\x01\x00\x02\x00\x03\x00",
+    b"add 1 2m 3",
+    b"add 1 2 3m",
+    b"move 1 m 3m",
+    b"move 1 1.2.3m 0m",
+    b"add 1 1e3m 0m",
+    b"add 1 infm 0m",
+    b"add 1 0m nanm",
+    b"add 1 0x7FC0000m 0m",
+    b"move 1 0m 340282360000000000000000000000000000000m",
+    b"leg 0m 0m 10m 0m",
+    b"a\x01\x00\x00\x00\xc8\x42\x00\x00\xc8\x42",
 ];
 
 /// The numbers of the lines that messages name.

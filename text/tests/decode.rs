@@ -103,6 +103,8 @@ fn bytes_that_are_no_output() {
         (vec![0x2B, 0x00], 1, "00 begins no record"),
         (vec![0x2B, 0x21, 0], 1, "no refusal has the number 0"),
         (vec![0x21, 9], 0, "no refusal has the number 9"),
+        (vec![0x21, 10], 0, "no refusal has the number 10"),
+        (vec![0x21, 12], 0, "no refusal has the number 12"),
         (vec![0x3D, 1, 2], 0, "no list has 513 entries"),
         (
             list(1, 1, 1),

@@ -55,7 +55,8 @@ fn the_answers_in_the_help_are_given() {
     let help = run(&["--help"], "");
     let leg = "add 1 2 3\nadd 1 2 3\nadd 2 7 1\nleg 0 0 10 0\n";
     let tour = "add 1 2 3\nadd 2 7 1\ntour 0 0\ncorner 10 0\ncorner 0 0\ncorner 2 0\n";
-    for lines in [leg, tour] {
+    let readings = "add 7 1234.5m -99.9m\nmove 7 1200050m 50m\nmove 7 0x7FC00001m -0m\n";
+    for lines in [leg, tour, readings] {
         let ran = run(&[], lines);
         for answer in ran.text().lines() {
             assert!(

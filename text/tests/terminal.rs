@@ -64,6 +64,24 @@ fn a_tour_is_typed() {
 }
 
 #[test]
+fn readings_are_typed_and_their_steps_shown() {
+    let lines = b"add 1 249.5m 250m\nmove 1 0x7F800000m 0m\nadd 2 1e3m 0m\nsites\nquit\n";
+    let (code, shown) = typed(&[], lines);
+    assert_eq!(code, 2);
+    let expected = [
+        "> accepted",
+        "add 1 249.5m 250m # step 2 3",
+        "> line 2: refused 11: a reading is not a finite number",
+        "move 1 0x7F800000m 0m # easting not finite, northing step 0",
+        "> stops-text: line 3: \"1e3m\" is not a reading, such as -1234.5m or 0x7FC00001m",
+        "> line 4: 1 site",
+        "site 1 at (2, 3)",
+        "> end 0: all commands used\n",
+    ];
+    assert!(shown.ends_with(&expected.join("\n")), "{shown}");
+}
+
+#[test]
 fn the_end_of_what_is_typed_has_a_line_of_its_own() {
     let (code, shown) = typed(&[], b"add 1 2 3\n\x04");
     assert_eq!(code, 0);

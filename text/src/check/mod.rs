@@ -111,7 +111,7 @@ pub fn tell<W: Write, E: Write>(bytes: &[u8], desk: &mut Desk<W, E>) -> Result<M
         readable.len()
     ))?;
     for site in readable {
-        desk.say(Command::Add(site))?;
+        desk.say(Command::add(site))?;
     }
     desk.flush()?;
     Ok(Met {

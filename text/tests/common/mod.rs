@@ -77,7 +77,7 @@ pub fn file_mode(mode: &str, file: &Path) -> Ran {
 
 /// The batch program's output.
 pub fn batch_program(commands: &[u8]) -> Vec<u8> {
-    let ran = run_program(&mut Command::new(at_root("target/bin/stops")), commands);
+    let ran = run_program(&mut Command::new(at_root("target/package/stops")), commands);
     assert_eq!(ran.code, 0);
     ran.out
 }
@@ -98,6 +98,9 @@ pub fn scratch(name: &str) -> PathBuf {
 /// The line that asks for a command, from its bytes.
 pub fn line(command: &[u8]) -> String {
     let (mark, operands) = command.split_first().expect("a whole command");
+    if let Some(word) = word_of_readings(*mark) {
+        return line_of_readings(word, operands);
+    }
     let (word, numbered, words) = match mark {
         b'A' => ("add", true, 3),
         b'M' => ("move", true, 3),
@@ -121,20 +124,52 @@ pub fn line(command: &[u8]) -> String {
     line + "\n"
 }
 
+/// Where the mark is that of a command with readings.
+fn word_of_readings(mark: u8) -> Option<&'static str> {
+    match mark {
+        0x61 => Some("add"),
+        0x6D => Some("move"),
+        _ => None,
+    }
+}
+
+fn line_of_readings(word: &str, operands: &[u8]) -> String {
+    assert_eq!(operands.len(), 10);
+    let number = u16::from_le_bytes([operands[0], operands[1]]);
+    let reading = |at: usize| {
+        let bytes = [0, 1, 2, 3].map(|i| operands[at + i]);
+        reading(u32::from_le_bytes(bytes))
+    };
+    format!("{word} {number} {} {}\n", reading(2), reading(6))
+}
+
+/// A word for the reading with these bits.
+pub fn reading(bits: u32) -> String {
+    match f32::from_bits(bits) {
+        metres if metres.is_finite() => format!("{metres}m"),
+        _ => format!("0x{bits:08X}m"),
+    }
+}
+
 pub fn lines(commands: &[Vec<u8>]) -> String {
     commands.iter().map(|command| line(command)).collect()
 }
 
-const REFUSALS: [&str; 8] = [
-    "site number 0",
-    "a coordinate outside ",
-    "number already held",
-    "number not held",
-    "512 sites held",
-    "no site held",
-    "no standing leg",
-    "no tour under way",
-];
+fn refusal(number: u8) -> String {
+    let words = match number {
+        1 => "site number 0",
+        2 => return format!("a coordinate outside {}", span()),
+        3 => "number already held",
+        4 => "number not held",
+        5 => "512 sites held",
+        6 => "no site held",
+        7 => "no standing leg",
+        8 => "no tour under way",
+        11 => "a reading is not a finite number",
+        _ => panic!("no refusal has the number {number}"),
+    };
+    words.into()
+}
 
 /// What --plain says of a list without its first entry, where its commands are not known.
 pub const STILL: &str = "still the last site of the tour's earlier records";
@@ -150,7 +185,7 @@ pub fn answers_from(last: Option<u16>, commands: &[Vec<u8>], records: &[Record])
     for (command, record) in commands.iter().zip(records) {
         answers += &in_words(record, last);
         last = match (command[0], record) {
-            (b'A' | b'B' | b'D' | b'M', Record::Accepted) => None,
+            (b'A' | b'B' | b'D' | b'M' | 0x61 | 0x6D, Record::Accepted) => None,
             (b'C', Record::List(list)) => list.last().map(|entry| entry.site).or(last),
             _ => last,
         };
@@ -162,11 +197,7 @@ pub fn answers_from(last: Option<u16>, commands: &[Vec<u8>], records: &[Record])
 pub fn in_words(record: &Record, last: Option<u16>) -> String {
     match record {
         Record::Accepted => "accepted\n".into(),
-        Record::Refused(number) => {
-            let range = if *number == 2 { span() } else { String::new() };
-            let refusal = REFUSALS[usize::from(*number) - 1];
-            format!("refused {number}: {refusal}{range}\n")
-        }
+        Record::Refused(number) => format!("refused {number}: {}\n", refusal(*number)),
         Record::List(list) => {
             let noun = if list.len() == 1 { "entry" } else { "entries" };
             let mut text = format!("list of {} {noun}\n", list.len());
