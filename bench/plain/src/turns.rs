@@ -32,8 +32,17 @@ fn time<T>(program: &mut dyn Program<T>, task: &T) -> f64 {
 pub fn take<T, const N: usize>(
     repeats: usize,
     tasks: &[T],
-    mut programs: [&mut dyn Program<T>; N],
+    programs: [&mut dyn Program<T>; N],
 ) -> [f64; N] {
+    mean(&medians(repeats, tasks, programs))
+}
+
+/// Microseconds of each program for each task: medians over the repeats.
+pub fn medians<T, const N: usize>(
+    repeats: usize,
+    tasks: &[T],
+    mut programs: [&mut dyn Program<T>; N],
+) -> Vec<[f64; N]> {
     let mut times = vec![[const { Vec::new() }; N]; tasks.len()];
     for _ in 0..repeats {
         for (task, times) in tasks.iter().zip(&mut times) {
@@ -42,9 +51,13 @@ pub fn take<T, const N: usize>(
             }
         }
     }
-    let medians: Vec<[f64; N]> = times.into_iter().map(|times| times.map(median)).collect();
+    times.into_iter().map(|times| times.map(median)).collect()
+}
+
+/// Of each program's times over the tasks.
+pub fn mean<const N: usize>(times: &[[f64; N]]) -> [f64; N] {
     std::array::from_fn(|program| {
-        let sum: f64 = medians.iter().map(|medians| medians[program]).sum();
-        sum / tasks.len() as f64
+        let sum: f64 = times.iter().map(|times| times[program]).sum();
+        sum / times.len() as f64
     })
 }

@@ -4,7 +4,7 @@
 pub type Leg = [u16; 4];
 
 /// Number, easting and northing.
-#[derive(Clone, Copy)]
+#[derive(Clone, Copy, PartialEq)]
 pub struct Site {
     pub number: u16,
     pub east: u16,

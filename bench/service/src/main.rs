@@ -80,6 +80,7 @@ fn print_head() {
     println!(
         "  gaps    the sites' numbers are {FAR_APART} apart; scattered: any; else they follow each other from 1"
     );
+    println!("  by 61   the same additions by readings of a receiver; by 6D: the same moves");
     println!("Then how many times faster the service is: many a call, and one a call.");
 }
 
@@ -153,28 +154,51 @@ fn worst(random: &mut Random, targets: &mut Targets) {
     targets.within(&what, &times, 6.0);
 }
 
+/// Readings have their own random numbers, so that the other rows have the same as without these.
 fn changes(random: &mut Random, targets: &mut Targets) {
     println!();
     Times::print_head("a change, no record of the list", CHANGES);
     let leg = Some(Length::Of(SHORT));
+    let mut of_readings = Random::new(61);
     for kind in [Change::Add, Change::Remove, Change::Move] {
-        let mut row = |leg: Option<Length>, (numbering, told): (Numbering, &str)| {
-            let task = |_| changes::Task::new(random, kind, leg, numbering, CHANGES);
-            let tasks: Vec<_> = (0..TABLES).map(task).collect();
-            let times = changes::measure(&tasks, REPEATS);
-            let what = format!("{}, {}{told}", kind.name(), standing(leg));
-            times.print(&what);
-            (format!("512 sites, {what}"), times)
-        };
-        row(None, NUMBERINGS[0]);
+        let mut rows = |leg, numbered| change_rows(random, &mut of_readings, kind, leg, numbered);
+        rows(None, NUMBERINGS[0]);
         for numbered in NUMBERINGS {
-            let (what, times) = row(leg, numbered);
-            match numbered.0 {
-                Numbering::Scattered => targets.beside(&what, &times),
-                Numbering::Apart(_) => targets.faster(&what, &times, 8.0, 25.0),
+            let rows = rows(leg, numbered);
+            for (way, (what, times)) in rows.iter().enumerate() {
+                match (numbered.0, way) {
+                    (Numbering::Scattered, _) => targets.beside(what, times),
+                    (Numbering::Apart(_), 0) => targets.faster(what, times, 8.0, 25.0),
+                    (Numbering::Apart(_), _) => targets.faster_by_readings(what, times, 8.0),
+                }
+            }
+            if let [(_, by_steps), (what, by_readings)] = &rows[..] {
+                let ratio = by_steps.together / by_readings.together;
+                targets.show(what, "the same by steps", ratio);
             }
         }
     }
+}
+
+/// Prints a row for each way, in turns on the same tables; what each is about, and its times.
+fn change_rows(
+    random: &mut Random,
+    of_readings: &mut Random,
+    kind: Change,
+    leg: Option<Length>,
+    (numbering, told): (Numbering, &str),
+) -> Vec<(String, Times)> {
+    let task = |_| changes::Task::new(random, kind, leg, numbering, CHANGES);
+    let in_each_way = |task: changes::Task| task.in_each_way(of_readings);
+    let tasks: Vec<_> = (0..TABLES).map(task).flat_map(in_each_way).collect();
+    let ways = kind.ways();
+    let times = changes::measure(&tasks, ways.len(), REPEATS);
+    let row = |(way, times): (&&str, Times)| {
+        let what = format!("{way}, {}{told}", standing(leg));
+        times.print(&what);
+        (format!("512 sites, {what}"), times)
+    };
+    ways.iter().zip(times).map(row).collect()
 }
 
 fn fixed(random: &mut Random, targets: &mut Targets) {

@@ -1,7 +1,9 @@
 //! Sites and legs of the second program in the words that the plain programs read.
 
+use plain::reading;
 use plain::vertex::{Leg, Site};
 use reference::grid;
+use reference::reading::Readings;
 use service::bytes::{sites, steps};
 
 pub fn words(leg: grid::Leg) -> Leg {
@@ -15,6 +17,15 @@ pub fn plain(site: grid::Site) -> Site {
         number: site.number,
         east,
         north,
+    }
+}
+
+/// The site that the contenders make of readings, which they round themselves.
+pub fn rounded(number: u16, readings: Readings) -> Site {
+    Site {
+        number,
+        east: reading::steps(readings.east),
+        north: reading::steps(readings.north),
     }
 }
 

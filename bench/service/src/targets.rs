@@ -52,6 +52,13 @@ impl Targets {
         self.hold(what, HULL, ratio, Bound::AtLeast(hull));
     }
 
+    /// Of readings: than the hull only to be seen. Their remainders are the C library's, and what these
+    /// take differs from one to the next.
+    pub fn faster_by_readings(&mut self, what: &str, times: &Times, wrap: f64) {
+        self.faster_than_wrapping(what, times, wrap);
+        self.show(what, HULL, times.hull / times.together);
+    }
+
     /// The same ratios, only to be seen.
     pub fn beside(&mut self, what: &str, times: &Times) {
         for (against, time) in [(WRAP, times.wrap), (KEPT, times.kept), (HULL, times.hull)] {
@@ -75,7 +82,7 @@ impl Targets {
             let verdict = target
                 .bound
                 .map_or("no target".to_string(), |bound| bound.verdict(target.ratio));
-            print!("{:40} {:26} ", target.what, target.against);
+            print!("{:45} {:26} ", target.what, target.against);
             println!("{:>6.2}  {verdict}", target.ratio);
         }
     }
