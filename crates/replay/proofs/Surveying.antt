@@ -33,11 +33,11 @@ use Rattle.demands.proofs.Demand1.{demand1-laid}
 use Rattle.demands.proofs.Demand3.{demand3}
 use Rattle.demands.proofs.InSteps.{in-steps, rest-written}
 use Rattle.replay.specs.declared.Heard.{Heard}
-use Rattle.replay.specs.declared.Longer.{Longer}
-use Rattle.replay.specs.declared.Rest.{Rest}
-use Rattle.replay.specs.declared.Readings.{Readings}
-use Rattle.replay.specs.declared.Refusals.{Refusals}
-use Rattle.replay.specs.declared.Badly.{Badly}
+use Rattle.replay.specs.declared.survey.Longer.{Longer}
+use Rattle.replay.specs.declared.survey.Rest.{Rest}
+use Rattle.replay.specs.declared.survey.Readings.{Readings}
+use Rattle.replay.specs.declared.survey.Refusals.{Refusals}
+use Rattle.replay.specs.declared.survey.Badly.{Badly}
 use Rattle.replay.specs.Replayed.{ask, Called, reply, tenBytes}
 use Rattle.replay.specs.Surveys.{survey, moveOne, addBeyond, listCut, steps, moveOneSteps, addBeyondSteps, listCutSteps}
 use Rattle.replay.specs.Surveys.{addZero, addInfinite, addHeld, moveZero, moveInfinite, moveAbsent, refusedSo}

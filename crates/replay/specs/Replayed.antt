@@ -21,7 +21,7 @@ use Rattle.replay.specs.declared.Heard.{Heard}
 use Rattle.replay.specs.declared.Opening.{Opening}
 use Rattle.replay.specs.declared.Closing.{Closing}
 use Rattle.replay.specs.declared.Row.{Row}
-use Rattle.replay.specs.declared.Damaged.{Damaged}
+use Rattle.replay.specs.declared.damage.Damaged.{Damaged}
 
 -- a call as the book takes it
 abbrev pub ask : ℕ → List ℕ → ℕ → Ask

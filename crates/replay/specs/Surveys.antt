@@ -10,12 +10,12 @@ use Rattle.book.specs.WrittenOut.{writtenBytes}
 use Rattle.demands.specs.Batch.{LaidOut}
 use Rattle.demands.specs.Whole.{Said}
 use Rattle.replay.specs.declared.Heard.{Heard}
-use Rattle.replay.specs.declared.Longer.{Longer}
-use Rattle.replay.specs.declared.Rest.{Rest}
-use Rattle.replay.specs.declared.Readings.{Readings}
-use Rattle.replay.specs.declared.Refusals.{Refusals}
-use Rattle.replay.specs.declared.Badly.{Badly}
-use Rattle.replay.specs.declared.Surveyed.{Surveyed}
+use Rattle.replay.specs.declared.survey.Longer.{Longer}
+use Rattle.replay.specs.declared.survey.Rest.{Rest}
+use Rattle.replay.specs.declared.survey.Readings.{Readings}
+use Rattle.replay.specs.declared.survey.Refusals.{Refusals}
+use Rattle.replay.specs.declared.survey.Badly.{Badly}
+use Rattle.replay.specs.declared.survey.Surveyed.{Surveyed}
 use Rattle.replay.specs.Replayed.{ask, Called, printAlone, addTwo, listTen, tenBytes, reply, saidIn}
 
 -- site 1 at -150 m and negative zero, and the standing list

@@ -1,7 +1,7 @@
 use Rattle.replay.proofs.Surveying.{survey-begun}
 use borrow.Author.Needs.{needs}
-use Rattle.replay.proofs.step_first.Statement.{statement}
-use Rattle.replay.proofs.step_first.Tie as tie
+use Rattle.replay.proofs.survey.step_first.Statement.{statement}
+use Rattle.replay.proofs.survey.step_first.Tie as tie
 
 lay-out-requires : tie.Need-lay-out-requires
 lay-out-requires c κs = search needs

@@ -1,7 +1,7 @@
 use Rattle.replay.proofs.Faults.{leg-hit}
 use borrow.Author.Needs.{needs}
-use Rattle.replay.proofs.hit_leg.Statement.{statement}
-use Rattle.replay.proofs.hit_leg.Tie as tie
+use Rattle.replay.proofs.damage.hit_leg.Statement.{statement}
+use Rattle.replay.proofs.damage.hit_leg.Tie as tie
 
 stand-ten-requires : tie.Need-stand-ten-requires
 stand-ten-requires c κs = search needs

@@ -1,7 +1,7 @@
 use Rattle.replay.proofs.Surveying.{survey-told}
 use borrow.Author.Needs.{needs}
-use Rattle.replay.proofs.call_surveyed.Statement.{statement}
-use Rattle.replay.proofs.call_surveyed.Tie as tie
+use Rattle.replay.proofs.survey.call_surveyed.Statement.{statement}
+use Rattle.replay.proofs.survey.call_surveyed.Tie as tie
 
 slice-aggregate-survey-all : tie.Need-slice-aggregate-survey-all
 slice-aggregate-survey-all c = search needs

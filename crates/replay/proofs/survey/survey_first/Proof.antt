@@ -1,7 +1,7 @@
-use Rattle.replay.proofs.Faults.{stood}
+use Rattle.replay.proofs.Surveying.{survey-begun}
 use borrow.Author.Needs.{needs}
-use Rattle.replay.proofs.stand_ten.Statement.{statement}
-use Rattle.replay.proofs.stand_ten.Tie as tie
+use Rattle.replay.proofs.survey.survey_first.Statement.{statement}
+use Rattle.replay.proofs.survey.survey_first.Tie as tie
 
 lay-out-requires : tie.Need-lay-out-requires
 lay-out-requires c κs = search needs
@@ -16,9 +16,9 @@ same-length : tie.Need-same-length
 same-length c = search needs
 
 returns : tie.Need-returns
-returns c = search (needs, stood)
+returns c = search (needs, survey-begun)
 
-pub stand-ten-spec : {M : Type 1} → statement M
-stand-ten-spec =
+pub survey-first-spec : {M : Type 1} → statement M
+survey-first-spec =
     tie.close
     (tie.spec lay-out-requires slice-aggregate-small-call small-call-requires same-length returns)

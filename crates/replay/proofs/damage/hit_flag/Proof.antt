@@ -1,7 +1,7 @@
 use Rattle.replay.proofs.Faults.{flag-hit, hit-long}
 use borrow.Author.Needs.{needs}
-use Rattle.replay.proofs.hit_flag.Statement.{statement}
-use Rattle.replay.proofs.hit_flag.Tie as tie
+use Rattle.replay.proofs.damage.hit_flag.Statement.{statement}
+use Rattle.replay.proofs.damage.hit_flag.Tie as tie
 
 put-word-requires : tie.Need-put-word-requires
 put-word-requires c κs = search (needs, hit-long)

@@ -1,7 +1,7 @@
 use Rattle.replay.proofs.Faults.{length-hit}
 use borrow.Author.Needs.{needs}
-use Rattle.replay.proofs.hit_length.Statement.{statement}
-use Rattle.replay.proofs.hit_length.Tie as tie
+use Rattle.replay.proofs.damage.hit_length.Statement.{statement}
+use Rattle.replay.proofs.damage.hit_length.Tie as tie
 
 lay-out-requires : tie.Need-lay-out-requires
 lay-out-requires c κs = search needs
