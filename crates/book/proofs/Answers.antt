@@ -10,59 +10,59 @@ use native.Mathlib.Omega.{arith}
 use lib.ListN.{length}
 use lib.Dec.{leb}
 use borrow.Author.Tests.{eq-eqb, ne_eqb, eqb-false, le-leb, leb-true, not-false}
-use Rattle.limits.specs.Limits.{gridWidth, maxSites}
+use Rattle.limits.specs.Limits.{grid_width, max_sites}
 use Rattle.grid.specs.declared.Position.{Position}
 use Rattle.grid.specs.declared.Leg.{Leg}
 use Rattle.grid.specs.Position.{OnGrid, LegOnGrid}
 use Rattle.readings.specs.declared.Location.{Location}
 use Rattle.readings.specs.declared.Location.TheVariants.{InSteps}
-use Rattle.readings.specs.Location.{finiteIn, placed}
+use Rattle.readings.specs.Location.{finite_in, placed}
 use Rattle.split.specs.SplitList.{Entry}
-use Rattle.split.specs.SplitOf.{splitOf}
+use Rattle.split.specs.SplitOf.{split_of}
 use Rattle.book.specs.declared.Command.{Command}
 use Rattle.book.specs.declared.Command.TheVariants.{Add, Remove, Move, List as ListOf, Stand, Print, Begin, Corner, Close, Open}
 use Rattle.book.specs.declared.Cause.{Cause}
 use Rattle.book.specs.declared.Cause.TheVariants.{NumberZero, OffGrid, Held, NotHeld, Full, NoSite, NoLeg, NoTour, NotFinite}
-use Rattle.book.specs.Tour.{Tour, legTo, tourLeg, remembered, leftOut}
-use Rattle.book.specs.Book.{Book, withLines, isClosed, closeNumber, openNumber, sites_of, list_of, holds, change}
+use Rattle.book.specs.Tour.{Tour, leg_to, tour_leg, remembered, left_out}
+use Rattle.book.specs.Book.{Book, with_lines, is_closed, close_number, open_number, sites_of, list_of, holds, change}
 use Rattle.book.specs.Reply.{Reply, done, refused, listed}
-use Rattle.book.specs.Answer.{Test, offGrid, legOffGrid, legless, tourless, tests, firstCause, accepted, answer}
+use Rattle.book.specs.Answer.{Test, off_grid, leg_off_grid, legless, tourless, tests, first_cause, accepted, answer}
 
 -- ---- the tests on positions, as facts
 
-on-grid : (p : Position) → OnGrid p → offGrid p ≡ false
-on-grid p h = rw (le-leb p.east gridWidth h.east, le-leb p.north gridWidth h.north) refl
+on_grid_lem : (p : Position) → OnGrid p → off_grid p ≡ false
+on_grid_lem p h = rw (le-leb p.east grid_width h.east, le-leb p.north grid_width h.north) refl
 
-grid-on : (p : Position) → offGrid p ≡ false → OnGrid p
-grid-on p h = go (leb p.east gridWidth) refl (leb p.north gridWidth) refl (not-false _ h)
+grid-on : (p : Position) → off_grid p ≡ false → OnGrid p
+grid-on p h = go (leb p.east grid_width) refl (leb p.north grid_width) refl (not-false _ h)
   where
-    go : (c : Bool) → leb p.east gridWidth ≡ c → (d : Bool) → leb p.north gridWidth ≡ d → (c && d) ≡ true → OnGrid p
+    go : (c : Bool) → leb p.east grid_width ≡ c → (d : Bool) → leb p.north grid_width ≡ d → (c && d) ≡ true → OnGrid p
     go true e true f k = record { east = leb-true _ _ e; north = leb-true _ _ f }
     go true e false f k = absurd (true≢false (sym k))
     go false e d f k = absurd (true≢false (sym k))
 
-off-grid : (p : Position) → ¬ OnGrid p → offGrid p ≡ true
-off-grid p h = go (offGrid p) refl
+off_grid_lem : (p : Position) → ¬ OnGrid p → off_grid p ≡ true
+off_grid_lem p h = go (off_grid p) refl
   where
-    go : (c : Bool) → offGrid p ≡ c → c ≡ true
+    go : (c : Bool) → off_grid p ≡ c → c ≡ true
     go true e = refl
     go false e = absurd (h (grid-on p e))
 
-leg-on : (l : Leg) → LegOnGrid l → legOffGrid l ≡ false
-leg-on l h = rw (on-grid l.s h.s, on-grid l.e h.e) refl
+leg-on : (l : Leg) → LegOnGrid l → leg_off_grid l ≡ false
+leg-on l h = rw (on_grid_lem l.s h.s, on_grid_lem l.e h.e) refl
 
-on-leg : (l : Leg) → legOffGrid l ≡ false → LegOnGrid l
-on-leg l h = go (offGrid l.s) refl (offGrid l.e) refl (not-false _ h)
+on-leg : (l : Leg) → leg_off_grid l ≡ false → LegOnGrid l
+on-leg l h = go (off_grid l.s) refl (off_grid l.e) refl (not-false _ h)
   where
-    go : (c : Bool) → offGrid l.s ≡ c → (d : Bool) → offGrid l.e ≡ d → (not c && not d) ≡ true → LegOnGrid l
+    go : (c : Bool) → off_grid l.s ≡ c → (d : Bool) → off_grid l.e ≡ d → (not c && not d) ≡ true → LegOnGrid l
     go false e false f k = record { s = grid-on l.s e; e = grid-on l.e f }
     go false e true f k = absurd (true≢false (sym k))
     go true e d f k = absurd (true≢false (sym k))
 
-leg-off : (l : Leg) → ¬ LegOnGrid l → legOffGrid l ≡ true
-leg-off l h = go (legOffGrid l) refl
+leg-off : (l : Leg) → ¬ LegOnGrid l → leg_off_grid l ≡ true
+leg-off l h = go (leg_off_grid l) refl
   where
-    go : (c : Bool) → legOffGrid l ≡ c → c ≡ true
+    go : (c : Bool) → leg_off_grid l ≡ c → c ≡ true
     go true e = refl
     go false e = absurd (h (on-leg l e))
 
@@ -76,31 +76,31 @@ module _ (b : Book) (n : ℕ) (l : Location) where
 
   module _ (z : n ≢ 0) where
     -- cause 11: a reading is not finite
-    pub answer-add-not-finite : finiteIn l ≡ false → answer b (Add n l) ≡ refused NotFinite
+    pub answer-add-not-finite : finite_in l ≡ false → answer b (Add n l) ≡ refused NotFinite
     unfolding answer
     answer-add-not-finite f = rw (ne_eqb n 0 z, f) refl
 
-    module _ (f : finiteIn l ≡ true) where
+    module _ (f : finite_in l ≡ true) where
       -- cause 2: off the grid
       pub answer-add-off : ¬ OnGrid (placed l) → answer b (Add n l) ≡ refused OffGrid
       unfolding answer
-      answer-add-off g = rw (ne_eqb n 0 z, f, off-grid (placed l) g) refl
+      answer-add-off g = rw (ne_eqb n 0 z, f, off_grid_lem (placed l) g) refl
 
       module _ (g : OnGrid (placed l)) where
         -- cause 3: the number is held
         pub answer-add-held : holds n b.lines ≡ true → answer b (Add n l) ≡ refused Held
         unfolding answer
-        answer-add-held h = rw (ne_eqb n 0 z, f, on-grid (placed l) g, h) refl
+        answer-add-held h = rw (ne_eqb n 0 z, f, on_grid_lem (placed l) g, h) refl
 
         -- cause 5: 512 sites are held
-        pub answer-add-full : holds n b.lines ≡ false → length b.lines ≡ maxSites → answer b (Add n l) ≡ refused Full
+        pub answer-add-full : holds n b.lines ≡ false → length b.lines ≡ max_sites → answer b (Add n l) ≡ refused Full
         unfolding answer
-        answer-add-full h k = rw (ne_eqb n 0 z, f, on-grid (placed l) g, h, eq-eqb (length b.lines) maxSites k) refl
+        answer-add-full h k = rw (ne_eqb n 0 z, f, on_grid_lem (placed l) g, h, eq-eqb (length b.lines) max_sites k) refl
 
         -- no cause
-        pub answer-add-done : holds n b.lines ≡ false → length b.lines ≢ maxSites → answer b (Add n l) ≡ done
+        pub answer-add-done : holds n b.lines ≡ false → length b.lines ≢ max_sites → answer b (Add n l) ≡ done
         unfolding answer
-        answer-add-done h k = rw (ne_eqb n 0 z, f, on-grid (placed l) g, h, ne_eqb (length b.lines) maxSites k) refl
+        answer-add-done h k = rw (ne_eqb n 0 z, f, on_grid_lem (placed l) g, h, ne_eqb (length b.lines) max_sites k) refl
 
 -- ---- 44: a site is removed
 
@@ -130,26 +130,26 @@ module _ (b : Book) (n : ℕ) (l : Location) where
 
   module _ (z : n ≢ 0) where
     -- cause 11: a reading is not finite
-    pub answer-move-not-finite : finiteIn l ≡ false → answer b (Move n l) ≡ refused NotFinite
+    pub answer-move-not-finite : finite_in l ≡ false → answer b (Move n l) ≡ refused NotFinite
     unfolding answer
     answer-move-not-finite f = rw (ne_eqb n 0 z, f) refl
 
-    module _ (f : finiteIn l ≡ true) where
+    module _ (f : finite_in l ≡ true) where
       -- cause 2: off the grid
       pub answer-move-off : ¬ OnGrid (placed l) → answer b (Move n l) ≡ refused OffGrid
       unfolding answer
-      answer-move-off g = rw (ne_eqb n 0 z, f, off-grid (placed l) g) refl
+      answer-move-off g = rw (ne_eqb n 0 z, f, off_grid_lem (placed l) g) refl
 
       module _ (g : OnGrid (placed l)) where
         -- cause 4: the number is not held
         pub answer-move-absent : holds n b.lines ≡ false → answer b (Move n l) ≡ refused NotHeld
         unfolding answer
-        answer-move-absent h = rw (ne_eqb n 0 z, f, on-grid (placed l) g, h) refl
+        answer-move-absent h = rw (ne_eqb n 0 z, f, on_grid_lem (placed l) g, h) refl
 
         -- no cause
         pub answer-move-done : holds n b.lines ≡ true → answer b (Move n l) ≡ done
         unfolding answer
-        answer-move-done h = rw (ne_eqb n 0 z, f, on-grid (placed l) g, h) refl
+        answer-move-done h = rw (ne_eqb n 0 z, f, on_grid_lem (placed l) g, h) refl
 
 -- ---- 58 and 4F: a site is closed and opened
 
@@ -182,25 +182,25 @@ module _ (b : Book) (n : ℕ) where
   answer-open-done z h = rw (ne_eqb n 0 z, h) refl
 
   -- WHAT THEY DO: a mark that stays changes nothing
-  pub close-stays : isClosed n b.closed ≡ true → change (Close n) b ≡ b
+  pub close-stays : is_closed n b.closed ≡ true → change (Close n) b ≡ b
   unfolding change
   close-stays h = rw h refl
 
-  pub close-does : isClosed n b.closed ≡ false → change (Close n) b ≡ withLines b.lines (closeNumber n b.closed) b
+  pub close-does : is_closed n b.closed ≡ false → change (Close n) b ≡ with_lines b.lines (close_number n b.closed) b
   unfolding change
   close-does h = rw h refl
 
-  pub open-does : isClosed n b.closed ≡ true → change (Open n) b ≡ withLines b.lines (openNumber n b.closed) b
+  pub open-does : is_closed n b.closed ≡ true → change (Open n) b ≡ with_lines b.lines (open_number n b.closed) b
   unfolding change
   open-does h = rw h refl
 
-  pub open_stays : isClosed n b.closed ≡ false → change (Open n) b ≡ b
+  pub open_stays : is_closed n b.closed ≡ false → change (Open n) b ≡ b
   unfolding change
   open_stays h = rw h refl
 
 -- ---- FINITE READINGS ARE ANSWERED AS THEIR STEPS
 
-module _ (b : Book) (n : ℕ) (l : Location) (f : finiteIn l ≡ true) (p : Position) (is : placed l ≡ p) where
+module _ (b : Book) (n : ℕ) (l : Location) (f : finite_in l ≡ true) (p : Position) (is : placed l ≡ p) where
   pub same_add : answer b (Add n l) ≡ answer b (Add n (InSteps p))
   unfolding answer
   same_add = rw (f, is) refl
@@ -233,7 +233,7 @@ module _ (b : Book) (l : Leg) where
   answer-list-empty g h = rw (leg-on l g, eq-eqb (length (sites_of b)) 0 h) refl
 
   -- no cause: the list of the leg
-  pub answer-list-done : LegOnGrid l → length (sites_of b) ≢ 0 → answer b (ListOf l) ≡ listed (splitOf l (sites_of b))
+  pub answer-list-done : LegOnGrid l → length (sites_of b) ≢ 0 → answer b (ListOf l) ≡ listed (split_of l (sites_of b))
   unfolding answer
   answer-list-done g h = rw (leg-on l g, ne_eqb (length (sites_of b)) 0 h) refl
 
@@ -264,7 +264,7 @@ module _ (b : Book) where
 
   -- no cause: the list of the standing leg
   pub answer-print-done : (l : Leg) → b.leg ≡ some l → length (sites_of b) ≢ 0
-      → answer b Print ≡ listed (splitOf l (sites_of b))
+      → answer b Print ≡ listed (split_of l (sites_of b))
   unfolding answer
   answer-print-done l h e = rw (h, ne_eqb (length (sites_of b)) 0 e) refl
 
@@ -274,12 +274,12 @@ module _ (b : Book) (p : Position) where
   -- cause 2: off the grid
   pub answer-begin-off : ¬ OnGrid p → answer b (Begin p) ≡ refused OffGrid
   unfolding answer
-  answer-begin-off g = rw (off-grid p g) refl
+  answer-begin-off g = rw (off_grid_lem p g) refl
 
   -- no cause
   pub answer-begin-done : OnGrid p → answer b (Begin p) ≡ done
   unfolding answer
-  answer-begin-done g = rw (on-grid p g) refl
+  answer-begin-done g = rw (on_grid_lem p g) refl
 
   -- ---- 43: a tour's next leg
 
@@ -292,18 +292,18 @@ module _ (b : Book) (p : Position) where
     -- cause 2: off the grid
     pub answer-corner-off : ¬ OnGrid p → answer b (Corner p) ≡ refused OffGrid
     unfolding answer
-    answer-corner-off g = rw (h, off-grid p g) refl
+    answer-corner-off g = rw (h, off_grid_lem p g) refl
 
     -- cause 6: no site is held
     pub answer-corner-empty : OnGrid p → length (sites_of b) ≡ 0 → answer b (Corner p) ≡ refused NoSite
     unfolding answer
-    answer-corner-empty g e = rw (h, on-grid p g, eq-eqb (length (sites_of b)) 0 e) refl
+    answer-corner-empty g e = rw (h, on_grid_lem p g, eq-eqb (length (sites_of b)) 0 e) refl
 
     -- no cause: the list of the leg, without what is left out
     pub answer-corner-done : OnGrid p → length (sites_of b) ≢ 0
-        → answer b (Corner p) ≡ listed (leftOut k.last (splitOf (legTo k p) (sites_of b)))
+        → answer b (Corner p) ≡ listed (left_out k.last (split_of (leg_to k p) (sites_of b)))
     unfolding answer
-    answer-corner-done g e = rw (h, on-grid p g, ne_eqb (length (sites_of b)) 0 e) refl
+    answer-corner-done g e = rw (h, on_grid_lem p g, ne_eqb (length (sites_of b)) 0 e) refl
 
 -- ---- what an answer says
 
@@ -325,23 +325,23 @@ NoneMet [] = Unit {0}
 NoneMet (t ∷ ts) = (t.met ≡ false) × NoneMet ts
 
 -- NOT REFUSED: no cause is met, and the answer is that of an accepted command
-none-met : (ts : List Test) (y z : Reply) → ((x : Cause) → refused x ≢ z) → firstCause ts y ≡ z → NoneMet ts × (y ≡ z)
+none-met : (ts : List Test) (y z : Reply) → ((x : Cause) → refused x ≢ z) → first_cause ts y ≡ z → NoneMet ts × (y ≡ z)
 none-met [] y z h e = (tt, e)
 none-met (t ∷ ts) y z h e = go t.met refl e (none-met ts y z h)
   where
-    go : (c : Bool) → t.met ≡ c → cond c (refused t.cause) (firstCause ts y) ≡ z
-        → (firstCause ts y ≡ z → NoneMet ts × (y ≡ z)) → NoneMet (t ∷ ts) × (y ≡ z)
+    go : (c : Bool) → t.met ≡ c → cond c (refused t.cause) (first_cause ts y) ≡ z
+        → (first_cause ts y ≡ z → NoneMet ts × (y ≡ z)) → NoneMet (t ∷ ts) × (y ≡ z)
     go true f k ih = absurd (h t.cause k)
     go false f k ih = let (n, q) = ih k in ((f, n), q)
 
 -- a list answered: no cause is met, and the list is what an accepted command is answered
-none-listed : (b : Book) (c : Command) (es : List Entry) → answer b c ≡ listed es
+none_listed : (b : Book) (c : Command) (es : List Entry) → answer b c ≡ listed es
     → NoneMet (tests b c) × (accepted b c ≡ listed es)
 unfolding answer
-none-listed b c es h = none-met (tests b c) (accepted b c) (listed es) (listed-not-refused es) h
+none_listed b c es h = none-met (tests b c) (accepted b c) (listed es) (listed-not-refused es) h
 
 pub accepted-listed : (b : Book) (c : Command) (es : List Entry) → answer b c ≡ listed es → accepted b c ≡ listed es
-accepted-listed b c es h = (none-listed b c es h).1
+accepted-listed b c es h = (none_listed b c es h).1
 
 -- A REMOVAL THAT FITS
 pub record RemoveFits (b : Book) (n : ℕ) : Type 0 where
@@ -375,22 +375,22 @@ remove-accepted b n h =
 
 -- A LIST OF A LEG THAT IS GIVEN
 pub record ListFits (b : Book) (l : Leg) (es : List Entry) : Type 0 where
-  pub onGrid : LegOnGrid l
+  pub on_grid : LegOnGrid l
   pub some-site : length (sites_of b) ≢ 0
-  pub is : es ≡ splitOf l (sites_of b)
+  pub is : es ≡ split_of l (sites_of b)
 
 -- every list that 4C is answered with is given so
 pub list-accepted : (b : Book) (l : Leg) (es : List Entry) → answer b (ListOf l) ≡ listed es → ListFits b l es
 list-accepted b l es h =
-    let (m, q) = none-listed b (ListOf l) es h in
-    record { onGrid = on-leg l m.0; some-site = eqb-false _ 0 m.1.0; is = sym (listed-one _ es q) }
+    let (m, q) = none_listed b (ListOf l) es h in
+    record { on_grid = on-leg l m.0; some-site = eqb-false _ 0 m.1.0; is = sym (listed-one _ es q) }
 
 -- A STANDING LIST THAT IS GIVEN
 pub record PrintFits (b : Book) (es : List Entry) : Type 0 where
   pub line : Leg
   pub stands : b.leg ≡ some line
   pub some-site : length (sites_of b) ≢ 0
-  pub is : es ≡ splitOf line (sites_of b)
+  pub is : es ≡ split_of line (sites_of b)
 
 -- a leg stands
 leg-stands : (o : Option Leg) → legless o ≡ false → (l : Leg) × (o ≡ some l)
@@ -400,7 +400,7 @@ leg-stands (some l) h = (l, refl)
 -- every list that 50 is answered with is given so
 pub print-accepted : (b : Book) (es : List Entry) → answer b Print ≡ listed es → PrintFits b es
 print-accepted b es h =
-    let (m, q) = none-listed b Print es h in
+    let (m, q) = none_listed b Print es h in
     let (l, e) = leg-stands b.leg m.0 in
     record {
       line = l;
@@ -413,9 +413,9 @@ print-accepted b es h =
 pub record CornerFits (b : Book) (p : Position) (es : List Entry) : Type 0 where
   pub tour : Tour
   pub runs : b.tour ≡ some tour
-  pub onGrid : OnGrid p
+  pub on_grid : OnGrid p
   pub some-site : length (sites_of b) ≢ 0
-  pub is : es ≡ leftOut tour.last (splitOf (legTo tour p) (sites_of b))
+  pub is : es ≡ left_out tour.last (split_of (leg_to tour p) (sites_of b))
 
 -- a tour is under way
 tour-runs : (o : Option Tour) → tourless o ≡ false → (k : Tour) × (o ≡ some k)
@@ -425,14 +425,14 @@ tour-runs (some k) h = (k, refl)
 -- every list that 43 is answered with is given so
 pub corner-accepted : (b : Book) (p : Position) (es : List Entry) → answer b (Corner p) ≡ listed es → CornerFits b p es
 corner-accepted b p es h =
-    let (m, q) = none-listed b (Corner p) es h in
+    let (m, q) = none_listed b (Corner p) es h in
     let (k, e) = tour-runs b.tour m.0 in
     record {
       tour = k;
       runs = e;
-      onGrid = grid-on p m.1.0;
+      on_grid = grid-on p m.1.0;
       some-site = eqb-false _ 0 m.1.1.0;
-      is = sym (listed-one _ es q) ∙ ap (λ (o : Option Tour). leftOut (remembered o) (list_of (tourLeg o p) (sites_of b))) e;
+      is = sym (listed-one _ es q) ∙ ap (λ (o : Option Tour). left_out (remembered o) (list_of (tour_leg o p) (sites_of b))) e;
     }
 
 -- 43 is never answered by a bare acceptance

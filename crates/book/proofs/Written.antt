@@ -13,30 +13,30 @@ use lib.Dec.{T, eqb, leb, ltb, eqb→eq}
 use borrow.Author.Tests.{leb-true, leb-false, le-leb, lt-leb, ltb-true, ltb-false, le-ltb, lt-ltb}
 use Rattle.words.specs.Words.{word_at}
 use Rattle.grid.specs.declared.Position.{Position}
-use Rattle.grid.specs.Coordinate.{fromWord, wordPosition}
+use Rattle.grid.specs.Coordinate.{from_word, word_position}
 use Rattle.readings.specs.declared.Location.TheVariants.{InMetres}
 use Rattle.readings.specs.Reading.{finite?, word_of}
-use Rattle.readings.specs.Location.{bothFinite, longAt, readingAt}
-use Rattle.readings.proofs.Laws.{word_fits, written_out, finite-readings}
+use Rattle.readings.specs.Location.{both_finite, long_at, reading_at}
+use Rattle.readings.proofs.Laws.{word_fits, written_out_lem, finite_readings}
 use Rattle.records.specs.Bytes.{bytes2}
-use Rattle.records.proofs.ReadBack.{bytes2-hold}
+use Rattle.records.proofs.ReadBack.{bytes2_hold}
 use Rattle.book.specs.declared.Command.{Command}
 use Rattle.book.specs.declared.Shape.TheVariants.{NumberPosition, NumberReadings}
 use Rattle.book.specs.declared.Parsed.{Parsed}
 use Rattle.book.specs.declared.Parsed.TheVariants.{End, Unknown, Cut, Whole}
 use Rattle.book.specs.declared.Reason.{Reason}
 use Rattle.book.specs.declared.Reason.TheVariants.{AllUsed, UnknownCommand, CutShort, NoRoom}
-use Rattle.book.specs.Command.{positionAt, madeAt, addAt, moveTo, addSurveyed, moveSurveyed, Form, form, formBytes, form_of, commandAt, parseAt}
+use Rattle.book.specs.Command.{position_at, made_at, add_at, move_to, add_surveyed, move_surveyed, Form, form, form_bytes, form_of, command_at, parse_at}
 use Rattle.book.specs.Book.{Book, change}
-use Rattle.book.specs.Reply.{Reply, done, refused, listed, recordOf}
+use Rattle.book.specs.Reply.{Reply, done, refused, listed, record_of}
 use Rattle.book.specs.Answer.{answer, after}
 use Rattle.book.specs.Run.{Turn, records, Outcome, ends, run}
-use Rattle.book.specs.WrittenOut.{stepOperands, addWritten, moveWritten, wholeWritten, cutWritten, finiteWhole, written_by, writtenIn, writtenBytes, FiniteBy, FiniteIn, AllFinite}
+use Rattle.book.specs.WrittenOut.{step_operands, add_written, move_written, whole_written, cut_written, finite_whole, written_by, written_in, written_bytes, FiniteBy, FiniteIn, AllFinite}
 use Rattle.book.proofs.Answers.{same_add, same_move, same-added, same-moved}
-use Rattle.book.proofs.Parsing.{parse-whole, parse-cut, parse-next, parse-end}
-use Rattle.book.proofs.ReadBack.{made-behind}
-use Rattle.book.proofs.Prefixes.{made-front, parse-front}
-use Rattle.book.proofs.Runs.{turn_of, records-append, records-one, Steps, steps-none, steps-one, ends-all, ends-unknown, ends-cut, ends-full}
+use Rattle.book.proofs.Parsing.{parse_whole, parse_cut, parse_next, parse_end}
+use Rattle.book.proofs.ReadBack.{made_behind}
+use Rattle.book.proofs.Prefixes.{made_front, parse_front}
+use Rattle.book.proofs.Runs.{turn_of, records_append, records_one, Steps, steps_none, steps_one, ends_all, ends_unknown, ends_cut, ends_full}
 
 -- ---- what stands behind other bytes
 
@@ -47,15 +47,15 @@ shifted m Unknown = Unknown
 shifted m Cut = Cut
 shifted m (Whole c n) = Whole c (m + n)
 
-leb-same : (a b c d : ℕ) → (a ≤ b → c ≤ d) → (b < a → d < c) → leb a b ≡ leb c d
-leb-same a b c d f g = go (leb a b) refl
+leb_same : (a b c d : ℕ) → (a ≤ b → c ≤ d) → (b < a → d < c) → leb a b ≡ leb c d
+leb_same a b c d f g = go (leb a b) refl
   where
     go : (t : Bool) → leb a b ≡ t → t ≡ leb c d
     go true e = sym (le-leb c d (f (leb-true a b e)))
     go false e = sym (lt-leb c d (g (leb-false a b e)))
 
-ltb-same : (a b c d : ℕ) → (a < b → c < d) → (b ≤ a → d ≤ c) → ltb a b ≡ ltb c d
-ltb-same a b c d f g = go (ltb a b) refl
+ltb_same : (a b c d : ℕ) → (a < b → c < d) → (b ≤ a → d ≤ c) → ltb a b ≡ ltb c d
+ltb_same a b c d f g = go (ltb a b) refl
   where
     go : (t : Bool) → ltb a b ≡ t → t ≡ ltb c d
     go true e = sym (lt-ltb c d (f (ltb-true a b e)))
@@ -69,28 +69,28 @@ module _ (pre s : List ℕ) where
   first = let e : length pre + 0 ≡ length pre = omega arith in sym (ap (λ (i : ℕ). get_or (pre ++ s) i 0) e) ∙ get_or-append-add pre s 0 0
 
   -- WHAT STANDS THERE is what the bytes behind begin with
-  parse-behind : parseAt (pre ++ s) (length pre) ≡ shifted (length pre) (parseAt s 0)
-  unfolding parseAt
-  parse-behind =
-      (λ j. cond (leb-same (length (pre ++ s)) (length pre) (length s) 0 (λ h. omega (arith, long)) (λ h. omega (arith, long)) j) End
-      (commandAt (pre ++ s) (length pre) (form_of (first j))))
+  parse_behind : parse_at (pre ++ s) (length pre) ≡ shifted (length pre) (parse_at s 0)
+  unfolding parse_at
+  parse_behind =
+      (λ j. cond (leb_same (length (pre ++ s)) (length pre) (length s) 0 (λ h. omega (arith, long)) (λ h. omega (arith, long)) j) End
+      (command_at (pre ++ s) (length pre) (form_of (first j))))
       ∙ by (leb (length s) 0)
     where
       last : (m n : ℕ) (c : Command) (t : Bool) → cond t Cut (Whole c (m + n)) ≡ shifted m (cond t Cut (Whole c n))
       last m n c true = refl
       last m n c false = refl
 
-      found : (o : Option Form) → commandAt (pre ++ s) (length pre) o ≡ shifted (length pre) (commandAt s 0 o)
+      found : (o : Option Form) → command_at (pre ++ s) (length pre) o ≡ shifted (length pre) (command_at s 0 o)
       found none = refl
       found (some f) =
           let e : length pre + 1 ≡ length pre + (0 + 1) = omega arith in
-          let n : length pre + formBytes f ≡ length pre + (0 + formBytes f) = omega arith in
+          let n : length pre + form_bytes f ≡ length pre + (0 + form_bytes f) = omega arith in
           (λ j. cond
-          (ltb-same (length (pre ++ s)) (length pre + formBytes f) (length s) (0 + formBytes f) (λ h. omega (arith, long)) (λ h. omega (arith, long)) j)
-          Cut (Whole ((ap (madeAt f.shape f.maker (pre ++ s)) e ∙ made-behind f.shape f.maker pre s (0 + 1)) j) (n j)))
-          ∙ last (length pre) (0 + formBytes f) (madeAt f.shape f.maker s (0 + 1)) (ltb (length s) (0 + formBytes f))
+          (ltb_same (length (pre ++ s)) (length pre + form_bytes f) (length s) (0 + form_bytes f) (λ h. omega (arith, long)) (λ h. omega (arith, long)) j)
+          Cut (Whole ((ap (made_at f.shape f.maker (pre ++ s)) e ∙ made_behind f.shape f.maker pre s (0 + 1)) j) (n j)))
+          ∙ last (length pre) (0 + form_bytes f) (made_at f.shape f.maker s (0 + 1)) (ltb (length s) (0 + form_bytes f))
 
-      by : (t : Bool) → cond t End (commandAt (pre ++ s) (length pre) (form_of (get_or s 0 0))) ≡ shifted (length pre) (cond t End (commandAt s 0 (form_of (get_or s 0 0))))
+      by : (t : Bool) → cond t End (command_at (pre ++ s) (length pre) (form_of (get_or s 0 0))) ≡ shifted (length pre) (cond t End (command_at s 0 (form_of (get_or s 0 0))))
       by true = refl
       by false = found (form_of (get_or s 0 0))
 
@@ -100,34 +100,34 @@ module _ (pre s : List ℕ) where
 record Formed (s : List ℕ) (c : Command) (next : ℕ) : Type 0 where
   form : Form
   found : form_of (get_or s 0 0) ≡ some form
-  next-is : next ≡ 0 + formBytes form
-  command : c ≡ madeAt form.shape form.maker s (0 + 1)
+  next_is : next ≡ 0 + form_bytes form
+  command : c ≡ made_at form.shape form.maker s (0 + 1)
 
-whole-formed : (s : List ℕ) (c : Command) (next : ℕ) → parseAt s 0 ≡ Whole c next → Formed s c next
-unfolding parseAt
-whole-formed s c next h = go (leb (length s) 0) h
+whole_formed : (s : List ℕ) (c : Command) (next : ℕ) → parse_at s 0 ≡ Whole c next → Formed s c next
+unfolding parse_at
+whole_formed s c next h = go (leb (length s) 0) h
   where
     here : (f : Form) → form_of (get_or s 0 0) ≡ some f → (t : Bool)
-        → cond t Cut (Whole (madeAt f.shape f.maker s (0 + 1)) (0 + formBytes f)) ≡ Whole c next → Formed s c next
+        → cond t Cut (Whole (made_at f.shape f.maker s (0 + 1)) (0 + form_bytes f)) ≡ Whole c next → Formed s c next
     here f e true x = absurd (let z : ◌≡◌ {A = ℕ} 0 1 = cc in omega arith)
-    here f e false x = record { form = f; found = e; next-is = cc; command = cc }
+    here f e false x = record { form = f; found = e; next_is = cc; command = cc }
 
-    found? : (o : Option Form) → form_of (get_or s 0 0) ≡ o → commandAt s 0 o ≡ Whole c next → Formed s c next
+    found? : (o : Option Form) → form_of (get_or s 0 0) ≡ o → command_at s 0 o ≡ Whole c next → Formed s c next
     found? none e x = absurd (let z : ◌≡◌ {A = ℕ} 0 1 = cc in omega arith)
-    found? (some f) e x = here f e (ltb (length s) (0 + formBytes f)) x
+    found? (some f) e x = here f e (ltb (length s) (0 + form_bytes f)) x
 
-    go : (t : Bool) → cond t End (commandAt s 0 (form_of (get_or s 0 0))) ≡ Whole c next → Formed s c next
+    go : (t : Bool) → cond t End (command_at s 0 (form_of (get_or s 0 0))) ≡ Whole c next → Formed s c next
     go true x = absurd (let z : ◌≡◌ {A = ℕ} 0 1 = cc in omega arith)
     go false x = found? (form_of (get_or s 0 0)) refl x
 
 -- the bytes of a whole command and no more
-parse-alone : (q more : List ℕ) (c : Command) → parseAt (q ++ more) 0 ≡ Whole c (length q) → parseAt q 0 ≡ Whole c (length q)
-parse-alone q more c h =
-    let f = whole-formed (q ++ more) c (length q) h in
-    let n = parse-next (q ++ more) 0 c (length q) h in
+parse_alone : (q more : List ℕ) (c : Command) → parse_at (q ++ more) 0 ≡ Whole c (length q) → parse_at q 0 ≡ Whole c (length q)
+parse_alone q more c h =
+    let f = whole_formed (q ++ more) c (length q) h in
+    let n = parse_next (q ++ more) 0 c (length q) h in
     let e : form_of (get_or q 0 0) ≡ some f.form = ap form_of (sym (get_or-append q more 0 0 n.0)) ∙ f.found in
-    parse-whole q 0 n.0 f.form e (omega (arith, f.next-is))
-    ∙ (λ j. Whole ((sym (made-front q more f.form.shape f.form.maker (0 + 1) (omega (arith, f.next-is))) ∙ sym f.command) j) (sym f.next-is j))
+    parse_whole q 0 n.0 f.form e (omega (arith, f.next_is))
+    ∙ (λ j. Whole ((sym (made_front q more f.form.shape f.form.maker (0 + 1) (omega (arith, f.next_is))) ∙ sym f.command) j) (sym f.next_is j))
 
 -- ---- two commands that are answered alike, and do the same
 record Same (c d : Command) : Type 0 where
@@ -142,65 +142,65 @@ same_after b c d h (listed es) = h.changes b
 -- a command, and the bytes w of one that does the same
 record Stands (c : Command) (w : List ℕ) : Type 0 where
   other : Command
-  stands : parseAt w 0 ≡ Whole other (length w)
+  stands : parse_at w 0 ≡ Whole other (length w)
   same : Same c other
 
 -- steps, read from their words
-two-words : (m x y : ℕ) (e n : ℕ) → e < 65536 → n < 65536 → positionAt (m ∷ x ∷ y ∷ bytes2 e ++ bytes2 n) 3 ≡ wordPosition e n
+two_words : (m x y : ℕ) (e n : ℕ) → e < 65536 → n < 65536 → position_at (m ∷ x ∷ y ∷ bytes2 e ++ bytes2 n) 3 ≡ word_position e n
 unfolding word_at
-two-words m x y e n he hn = λ j. record { east = fromWord (bytes2-hold e he j); north = fromWord (bytes2-hold n hn j) }
+two_words m x y e n he hn = λ j. record { east = from_word (bytes2_hold e he j); north = from_word (bytes2_hold n hn j) }
 
 both_true : (a b : Bool) → (a && b) ≡ true → T a × T b
 both_true true true h = (tt, tt)
 both_true true false h = absurd (true≢false (sym h))
 both_true false b h = absurd (true≢false (sym h))
 
-module _ (q : List ℕ) (f : (finite? (longAt q 3) && finite? (longAt q 7)) ≡ true) where
+module _ (q : List ℕ) (f : (finite? (long_at q 3) && finite? (long_at q 7)) ≡ true) where
   steps : Position
-  steps = wordPosition (word_of (longAt q 3)) (word_of (longAt q 7))
+  steps = word_position (word_of (long_at q 3)) (word_of (long_at q 7))
 
-  are-finite : bothFinite (readingAt q 3) ≡ true
-  are-finite = finite-readings q 3 ∙ f
+  are_finite : both_finite (reading_at q 3) ≡ true
+  are_finite = finite_readings q 3 ∙ f
 
-  written-number : (m : ℕ) → word_at (m ∷ stepOperands q) 1 ≡ word_at q 1
+  written_number : (m : ℕ) → word_at (m ∷ step_operands q) 1 ≡ word_at q 1
   unfolding word_at
-  written-number m = refl
+  written_number m = refl
 
-  written-steps : (m : ℕ) → positionAt (m ∷ stepOperands q) 3 ≡ steps
+  written_steps : (m : ℕ) → position_at (m ∷ step_operands q) 3 ≡ steps
   unfolding steps
-  written-steps m = two-words m (get_or q 1 0) (get_or q 2 0) (word_of (longAt q 3)) (word_of (longAt q 7)) (word_fits (longAt q 3)) (word_fits (longAt q 7))
+  written_steps m = two_words m (get_or q 1 0) (get_or q 2 0) (word_of (long_at q 3)) (word_of (long_at q 7)) (word_fits (long_at q 3)) (word_fits (long_at q 7))
 
   -- A 61 STANDS AS A 41
-  added-stands : (c : Command) → c ≡ addSurveyed (word_at q 1) (readingAt q 3) → Stands c (addWritten q)
+  added_stands : (c : Command) → c ≡ add_surveyed (word_at q 1) (reading_at q 3) → Stands c (add_written q)
   unfolding form_of steps
-  added-stands c e =
-      let b = both_true (finite? (longAt q 3)) (finite? (longAt q 7)) f in
-      let w = written_out q 3 b.0 b.1 in
+  added_stands c e =
+      let b = both_true (finite? (long_at q 3)) (finite? (long_at q 7)) f in
+      let w = written_out_lem q 3 b.0 b.1 in
       record {
-        other = addAt (word_at q 1) steps;
+        other = add_at (word_at q 1) steps;
         stands =
-            parse-whole (0x41 ∷ stepOperands q) 0 (omega arith) (form 0x41 NumberPosition addAt) refl (omega arith)
-            ∙ (λ j. Whole (addAt (written-number 0x41 j) (written-steps 0x41 j)) 7);
+            parse_whole (0x41 ∷ step_operands q) 0 (omega arith) (form 0x41 NumberPosition add_at) refl (omega arith)
+            ∙ (λ j. Whole (add_at (written_number 0x41 j) (written_steps 0x41 j)) 7);
         same = record {
-          replies = λ b. ap (answer b) e ∙ same_add b (word_at q 1) (InMetres (readingAt q 3)) are-finite steps w;
-          changes = λ b. ap (λ (x : Command). change x b) e ∙ same-added b (word_at q 1) (InMetres (readingAt q 3)) steps w;
+          replies = λ b. ap (answer b) e ∙ same_add b (word_at q 1) (InMetres (reading_at q 3)) are_finite steps w;
+          changes = λ b. ap (λ (x : Command). change x b) e ∙ same-added b (word_at q 1) (InMetres (reading_at q 3)) steps w;
         };
       }
 
   -- A 6D STANDS AS A 4D
-  moved-stands : (c : Command) → c ≡ moveSurveyed (word_at q 1) (readingAt q 3) → Stands c (moveWritten q)
+  moved_stands : (c : Command) → c ≡ move_surveyed (word_at q 1) (reading_at q 3) → Stands c (move_written q)
   unfolding form_of steps
-  moved-stands c e =
-      let b = both_true (finite? (longAt q 3)) (finite? (longAt q 7)) f in
-      let w = written_out q 3 b.0 b.1 in
+  moved_stands c e =
+      let b = both_true (finite? (long_at q 3)) (finite? (long_at q 7)) f in
+      let w = written_out_lem q 3 b.0 b.1 in
       record {
-        other = moveTo (word_at q 1) steps;
+        other = move_to (word_at q 1) steps;
         stands =
-            parse-whole (0x4D ∷ stepOperands q) 0 (omega arith) (form 0x4D NumberPosition moveTo) refl (omega arith)
-            ∙ (λ j. Whole (moveTo (written-number 0x4D j) (written-steps 0x4D j)) 7);
+            parse_whole (0x4D ∷ step_operands q) 0 (omega arith) (form 0x4D NumberPosition move_to) refl (omega arith)
+            ∙ (λ j. Whole (move_to (written_number 0x4D j) (written_steps 0x4D j)) 7);
         same = record {
-          replies = λ b. ap (answer b) e ∙ same_move b (word_at q 1) (InMetres (readingAt q 3)) are-finite steps w;
-          changes = λ b. ap (λ (x : Command). change x b) e ∙ same-moved b (word_at q 1) (InMetres (readingAt q 3)) steps w;
+          replies = λ b. ap (answer b) e ∙ same_move b (word_at q 1) (InMetres (reading_at q 3)) are_finite steps w;
+          changes = λ b. ap (λ (x : Command). change x b) e ∙ same-moved b (word_at q 1) (InMetres (reading_at q 3)) steps w;
         };
       }
 
@@ -208,90 +208,90 @@ module _ (q : List ℕ) (f : (finite? (longAt q 3) && finite? (longAt q 7)) ≡ 
 marked : (q : List ℕ) (m : ℕ) → eqb (get_or q 0 0) m ≡ true → get_or q 0 0 ≡ m
 marked q m e = eqb→eq (get_or q 0 0) m (subst T (sym e) tt)
 
-form-one : (f g : Form) (o : Option Form) → o ≡ some f → o ≡ some g → f ≡ g
-form-one f g o a b = cc
+form_one : (f g : Form) (o : Option Form) → o ≡ some f → o ≡ some g → f ≡ g
+form_one f g o a b = cc
 
 -- EVERY WHOLE COMMAND, WRITTEN OUT, does the same
-whole-stands : (q : List ℕ) (c : Command) → parseAt q 0 ≡ Whole c (length q) → finiteWhole q ≡ true → Stands c (wholeWritten q)
+whole_stands : (q : List ℕ) (c : Command) → parse_at q 0 ≡ Whole c (length q) → finite_whole q ≡ true → Stands c (whole_written q)
 unfolding form_of
-whole-stands q c h f = go (eqb (get_or q 0 0) 0x61) refl (eqb (get_or q 0 0) 0x6D) refl f
+whole_stands q c h f = go (eqb (get_or q 0 0) 0x61) refl (eqb (get_or q 0 0) 0x6D) refl f
   where
     g : Formed q c (length q)
-    g = whole-formed q c (length q) h
+    g = whole_formed q c (length q) h
 
-    made : (m : ℕ) (x : Form) → get_or q 0 0 ≡ m → form_of m ≡ some x → c ≡ madeAt x.shape x.maker q 1
+    made : (m : ℕ) (x : Form) → get_or q 0 0 ≡ m → form_of m ≡ some x → c ≡ made_at x.shape x.maker q 1
     made m x e k =
-        let s : g.form ≡ x = form-one g.form x (form_of (get_or q 0 0)) g.found (ap form_of e ∙ k) in
-        g.command ∙ (λ j. madeAt (s j).shape (s j).maker q 1)
+        let s : g.form ≡ x = form_one g.form x (form_of (get_or q 0 0)) g.found (ap form_of e ∙ k) in
+        g.command ∙ (λ j. made_at (s j).shape (s j).maker q 1)
 
     go : (a : Bool) → eqb (get_or q 0 0) 0x61 ≡ a → (b : Bool) → eqb (get_or q 0 0) 0x6D ≡ b
-        → cond a (finite? (longAt q 3) && finite? (longAt q 7)) (cond b (finite? (longAt q 3) && finite? (longAt q 7)) true) ≡ true
-        → Stands c (cond a (addWritten q) (cond b (moveWritten q) q))
-    go true e b d k = added-stands q k c (made 0x61 (form 0x61 NumberReadings addSurveyed) (marked q 0x61 e) refl)
-    go false e true d k = moved-stands q k c (made 0x6D (form 0x6D NumberReadings moveSurveyed) (marked q 0x6D d) refl)
+        → cond a (finite? (long_at q 3) && finite? (long_at q 7)) (cond b (finite? (long_at q 3) && finite? (long_at q 7)) true) ≡ true
+        → Stands c (cond a (add_written q) (cond b (move_written q) q))
+    go true e b d k = added_stands q k c (made 0x61 (form 0x61 NumberReadings add_surveyed) (marked q 0x61 e) refl)
+    go false e true d k = moved_stands q k c (made 0x6D (form 0x6D NumberReadings move_surveyed) (marked q 0x6D d) refl)
     go false e false d k = record { other = c; stands = h; same = record { replies = λ b. refl; changes = λ b. refl } }
 
 -- A CUT COMMAND, WRITTEN OUT, is cut
-cut_stands : (s : List ℕ) → parseAt s 0 ≡ Cut → parseAt (cutWritten s) 0 ≡ Cut
+cut_stands : (s : List ℕ) → parse_at s 0 ≡ Cut → parse_at (cut_written s) 0 ≡ Cut
 unfolding form_of
 cut_stands s h = go (eqb (get_or s 0 0) 0x61) (eqb (get_or s 0 0) 0x6D)
   where
-    go : (a b : Bool) → parseAt (cond a (0x41 ∷ []) (cond b (0x4D ∷ []) s)) 0 ≡ Cut
-    go true b = parse-cut (0x41 ∷ []) 0 (omega arith) (form 0x41 NumberPosition addAt) refl (omega arith)
-    go false true = parse-cut (0x4D ∷ []) 0 (omega arith) (form 0x4D NumberPosition moveTo) refl (omega arith)
+    go : (a b : Bool) → parse_at (cond a (0x41 ∷ []) (cond b (0x4D ∷ []) s)) 0 ≡ Cut
+    go true b = parse_cut (0x41 ∷ []) 0 (omega arith) (form 0x41 NumberPosition add_at) refl (omega arith)
+    go false true = parse_cut (0x4D ∷ []) 0 (omega arith) (form 0x4D NumberPosition move_to) refl (omega arith)
     go false false = h
 
 -- ---- all commands, written out
 
 -- by what stands there
 module _ (k : ℕ) (s : List ℕ) where
-  written-end : parseAt s 0 ≡ End → writtenIn (suc k) s ≡ []
-  unfolding writtenIn
-  written-end e = rw e refl
+  written_end : parse_at s 0 ≡ End → written_in (suc k) s ≡ []
+  unfolding written_in
+  written_end e = rw e refl
 
-  written-unknown : parseAt s 0 ≡ Unknown → writtenIn (suc k) s ≡ s
-  unfolding writtenIn
-  written-unknown e = rw e refl
+  written_unknown : parse_at s 0 ≡ Unknown → written_in (suc k) s ≡ s
+  unfolding written_in
+  written_unknown e = rw e refl
 
-  written-cut : parseAt s 0 ≡ Cut → writtenIn (suc k) s ≡ cutWritten s
-  unfolding writtenIn
-  written-cut e = rw e refl
+  written_cut : parse_at s 0 ≡ Cut → written_in (suc k) s ≡ cut_written s
+  unfolding written_in
+  written_cut e = rw e refl
 
-  written-whole : (c : Command) (next : ℕ) → parseAt s 0 ≡ Whole c next → writtenIn (suc k) s ≡ wholeWritten (take next s) ++ writtenIn k (drop next s)
-  unfolding writtenIn
-  written-whole c next e = rw e refl
+  written_whole : (c : Command) (next : ℕ) → parse_at s 0 ≡ Whole c next → written_in (suc k) s ≡ whole_written (take next s) ++ written_in k (drop next s)
+  unfolding written_in
+  written_whole c next e = rw e refl
 
-  finite-whole : (c : Command) (next : ℕ) → parseAt s 0 ≡ Whole c next → FiniteIn (suc k) s → (finiteWhole (take next s) ≡ true) × FiniteIn k (drop next s)
+  finite_whole_lem : (c : Command) (next : ℕ) → parse_at s 0 ≡ Whole c next → FiniteIn (suc k) s → (finite_whole (take next s) ≡ true) × FiniteIn k (drop next s)
   unfolding FiniteIn
-  finite-whole c next e h = subst (λ (p : Parsed). FiniteBy (FiniteIn k) s p) e h
+  finite_whole_lem c next e h = subst (λ (p : Parsed). FiniteBy (FiniteIn k) s p) e h
 
 -- none
-written_none : (k : ℕ) → writtenIn k [] ≡ []
-unfolding writtenIn
+written_none : (k : ℕ) → written_in k [] ≡ []
+unfolding written_in
 written_none zero = refl
-written_none (suc k) = written-end k [] (parse-end [] 0 (omega arith))
+written_none (suc k) = written_end k [] (parse_end [] 0 (omega arith))
 
 -- one and the rest
-written_one : (k : ℕ) (q more : List ℕ) (c : Command) → parseAt q 0 ≡ Whole c (length q) → writtenIn (suc k) (q ++ more) ≡ wholeWritten q ++ writtenIn k more
+written_one : (k : ℕ) (q more : List ℕ) (c : Command) → parse_at q 0 ≡ Whole c (length q) → written_in (suc k) (q ++ more) ≡ whole_written q ++ written_in k more
 written_one k q more c h =
-    written-whole k (q ++ more) c (length q) (parse-front q more 0 c (length q) h)
-    ∙ ap₂ (λ (x y : List ℕ). wholeWritten x ++ writtenIn k y) (take-append_seam q more) (drop-append_seam q more)
+    written_whole k (q ++ more) c (length q) (parse_front q more 0 c (length q) h)
+    ∙ ap₂ (λ (x y : List ℕ). whole_written x ++ written_in k y) (take-append_seam q more) (drop-append_seam q more)
 
 -- turns enough are enough
-written-enough : (k j : ℕ) (s : List ℕ) → length s < k → length s < j → writtenIn k s ≡ writtenIn j s
-unfolding writtenIn
-written-enough zero j s h g = absurd (omega arith)
-written-enough (suc k) zero s h g = absurd (omega arith)
-written-enough (suc k) (suc j) s h g = go (parseAt s 0) refl (written-enough k j)
+written_enough : (k j : ℕ) (s : List ℕ) → length s < k → length s < j → written_in k s ≡ written_in j s
+unfolding written_in
+written_enough zero j s h g = absurd (omega arith)
+written_enough (suc k) zero s h g = absurd (omega arith)
+written_enough (suc k) (suc j) s h g = go (parse_at s 0) refl (written_enough k j)
   where
-    go : (p : Parsed) → parseAt s 0 ≡ p → ((t : List ℕ) → length t < k → length t < j → writtenIn k t ≡ writtenIn j t)
-        → written_by (writtenIn k) s p ≡ written_by (writtenIn j) s p
+    go : (p : Parsed) → parse_at s 0 ≡ p → ((t : List ℕ) → length t < k → length t < j → written_in k t ≡ written_in j t)
+        → written_by (written_in k) s p ≡ written_by (written_in j) s p
     go End e ih = refl
     go Unknown e ih = refl
     go Cut e ih = refl
     go (Whole c next) e ih =
-        let n = parse-next s 0 c next e in
-        ap (λ (y : List ℕ). wholeWritten (take next s) ++ y)
+        let n = parse_next s 0 c next e in
+        ap (λ (y : List ℕ). whole_written (take next s) ++ y)
         (ih (drop next s) (omega (arith, length-drop next s)) (omega (arith, length-drop next s)))
 
 -- ---- two runs side by side
@@ -305,9 +305,9 @@ record Beside (k : ℕ) (rest pre pre' : List ℕ) (o o' : Outcome) : Type 0 whe
   front : List ℕ
   behind : List ℕ
   parts : rest ≡ front ++ behind
-  parts-written : writtenIn k rest ≡ writtenIn k front ++ writtenIn k behind
+  parts_written : written_in k rest ≡ written_in k front ++ written_in k behind
   used : o.used ≡ length pre + length front
-  used-written : o'.used ≡ length pre' + length (writtenIn k front)
+  used_written_lem : o'.used ≡ length pre' + length (written_in k front)
 
 -- both end here
 here : (k : ℕ) (rest pre pre' : List ℕ) (r : Reason) (past past' : List Turn) (b : Book) (o o' : Outcome) → records past' ≡ records past
@@ -320,21 +320,21 @@ here k rest pre pre' r past past' b o o' same e e' =
       front = [];
       behind = rest;
       parts = refl;
-      parts-written = ap (λ (x : List ℕ). x ++ writtenIn k rest) (sym (written_none k));
+      parts_written = ap (λ (x : List ℕ). x ++ written_in k rest) (sym (written_none k));
       used = let u : o.used ≡ length pre = ap Outcome.used e in omega arith;
-      used-written =
+      used_written_lem =
           let u : o'.used ≡ length pre' = ap Outcome.used e' in
-          let z : length (writtenIn k []) ≡ 0 = ap length (written_none k) in
+          let z : length (written_in k []) ≡ 0 = ap length (written_none k) in
           omega arith;
     }
 
 -- one command more
-more : (k : ℕ) (q rest pre w pre' : List ℕ) (c : Command) (o o' : Outcome) → length rest < k → parseAt q 0 ≡ Whole c (length q) → w ≡ wholeWritten q
+more : (k : ℕ) (q rest pre w pre' : List ℕ) (c : Command) (o o' : Outcome) → length rest < k → parse_at q 0 ≡ Whole c (length q) → w ≡ whole_written q
     → Beside k rest (pre ++ q) (pre' ++ w) o o' → Beside (suc k) (q ++ rest) pre pre' o o'
 more k q rest pre w pre' c o o' l h e x =
-    let enough : writtenIn (suc k) x.behind ≡ writtenIn k x.behind =
-    (let y = ap length x.parts ∙ length-append x.front x.behind in written-enough (suc k) k x.behind (omega arith) (omega arith)) in
-    let f : writtenIn (suc k) (q ++ x.front) ≡ wholeWritten q ++ writtenIn k x.front = written_one k q x.front c h in
+    let enough : written_in (suc k) x.behind ≡ written_in k x.behind =
+    (let y = ap length x.parts ∙ length-append x.front x.behind in written_enough (suc k) k x.behind (omega arith) (omega arith)) in
+    let f : written_in (suc k) (q ++ x.front) ≡ whole_written q ++ written_in k x.front = written_one k q x.front c h in
     record {
       reason = x.reason;
       written = x.written;
@@ -342,62 +342,62 @@ more k q rest pre w pre' c o o' l h e x =
       front = q ++ x.front;
       behind = x.behind;
       parts = ap (λ (y : List ℕ). q ++ y) x.parts ∙ sym (append_assoc q x.front x.behind);
-      parts-written =
-          written_one k q rest c h ∙ ap (λ (y : List ℕ). wholeWritten q ++ y) x.parts-written
-          ∙ sym (append_assoc (wholeWritten q) (writtenIn k x.front) (writtenIn k x.behind))
+      parts_written =
+          written_one k q rest c h ∙ ap (λ (y : List ℕ). whole_written q ++ y) x.parts_written
+          ∙ sym (append_assoc (whole_written q) (written_in k x.front) (written_in k x.behind))
           ∙ (λ j. sym f j ++ sym enough j);
       used = omega (arith, x.used, length-append pre q, length-append q x.front);
-      used-written =
-          x.used-written ∙ (let a = length-append pre' w in let b = ap length e in let d = ap length f ∙ length-append (wholeWritten q) (writtenIn k x.front) in omega arith);
+      used_written_lem =
+          x.used_written_lem ∙ (let a = length-append pre' w in let b = ap length e in let d = ap length f ∙ length-append (whole_written q) (written_in k x.front) in omega arith);
     }
 
 module _ (s w : List ℕ) (room : ℕ) (b₀ : Book) where
   -- the runs stand at `rest` and at `rest` written out
   record Standing (k : ℕ) (rest pre pre' : List ℕ) (past past' : List Turn) (b : Book) : Type 0 where
     bytes : s ≡ pre ++ rest
-    bytes-written : w ≡ pre' ++ writtenIn k rest
+    bytes_written : w ≡ pre' ++ written_in k rest
     enough : length rest < k
     finite : FiniteIn k rest
     same : records past' ≡ records past
     at : Steps s room b₀ (length pre) past b
-    at-written : Steps w room b₀ (length pre') past' b
+    at_written : Steps w room b₀ (length pre') past' b
 
   beside : (k : ℕ) (rest pre pre' : List ℕ) (past past' : List Turn) (b : Book) → Standing k rest pre pre' past past' b
       → Beside k rest pre pre' (run s room b₀) (run w room b₀)
   beside zero rest pre pre' past past' b g = absurd (omega (arith, g.enough))
-  beside (suc k) rest pre pre' past past' b g = go (parseAt rest 0) refl (beside k)
+  beside (suc k) rest pre pre' past past' b g = go (parse_at rest 0) refl (beside k)
     where
       -- what stands there
-      left : (p : Parsed) → parseAt rest 0 ≡ p → shifted (length pre) p ≡ parseAt s (length pre)
-      left p e = sym (ap (λ (x : List ℕ). parseAt x (length pre)) g.bytes ∙ parse-behind pre rest ∙ ap (shifted (length pre)) e)
+      left : (p : Parsed) → parse_at rest 0 ≡ p → shifted (length pre) p ≡ parse_at s (length pre)
+      left p e = sym (ap (λ (x : List ℕ). parse_at x (length pre)) g.bytes ∙ parse_behind pre rest ∙ ap (shifted (length pre)) e)
 
-      right : (x : List ℕ) → writtenIn (suc k) rest ≡ x → (p : Parsed) → parseAt x 0 ≡ p → shifted (length pre') p ≡ parseAt w (length pre')
+      right : (x : List ℕ) → written_in (suc k) rest ≡ x → (p : Parsed) → parse_at x 0 ≡ p → shifted (length pre') p ≡ parse_at w (length pre')
       right x e p f =
-          sym (ap (λ (y : List ℕ). parseAt y (length pre')) (g.bytes-written ∙ ap (λ (y : List ℕ). pre' ++ y) e)
-          ∙ parse-behind pre' x ∙ ap (shifted (length pre')) f)
+          sym (ap (λ (y : List ℕ). parse_at y (length pre')) (g.bytes_written ∙ ap (λ (y : List ℕ). pre' ++ y) e)
+          ∙ parse_behind pre' x ∙ ap (shifted (length pre')) f)
 
-      go : (p : Parsed) → parseAt rest 0 ≡ p
+      go : (p : Parsed) → parse_at rest 0 ≡ p
           → ((rest₁ pre₁ pre₁' : List ℕ) (past₁ past₁' : List Turn) (b₁ : Book) → Standing k rest₁ pre₁ pre₁' past₁ past₁' b₁
           → Beside k rest₁ pre₁ pre₁' (run s room b₀) (run w room b₀))
           → Beside (suc k) rest pre pre' (run s room b₀) (run w room b₀)
       go End e ih =
           here (suc k) rest pre pre' AllUsed past past' b _ _ g.same
-          (ends-all s room b₀ (length pre) past b g.at End (left End e) refl)
-          (ends-all w room b₀ (length pre') past' b g.at-written End (right [] (written-end k rest e) End (parse-end [] 0 (omega arith))) refl)
+          (ends_all s room b₀ (length pre) past b g.at End (left End e) refl)
+          (ends_all w room b₀ (length pre') past' b g.at_written End (right [] (written_end k rest e) End (parse_end [] 0 (omega arith))) refl)
       go Unknown e ih =
           here (suc k) rest pre pre' UnknownCommand past past' b _ _ g.same
-          (ends-unknown s room b₀ (length pre) past b g.at Unknown (left Unknown e) refl)
-          (ends-unknown w room b₀ (length pre') past' b g.at-written Unknown (right rest (written-unknown k rest e) Unknown e) refl)
+          (ends_unknown s room b₀ (length pre) past b g.at Unknown (left Unknown e) refl)
+          (ends_unknown w room b₀ (length pre') past' b g.at_written Unknown (right rest (written_unknown k rest e) Unknown e) refl)
       go Cut e ih =
           here (suc k) rest pre pre' CutShort past past' b _ _ g.same
-          (ends-cut s room b₀ (length pre) past b g.at Cut (left Cut e) refl)
-          (ends-cut w room b₀ (length pre') past' b g.at-written Cut (right (cutWritten rest) (written-cut k rest e) Cut (cut_stands rest e)) refl)
+          (ends_cut s room b₀ (length pre) past b g.at Cut (left Cut e) refl)
+          (ends_cut w room b₀ (length pre') past' b g.at_written Cut (right (cut_written rest) (written_cut k rest e) Cut (cut_stands rest e)) refl)
       go (Whole c next) e ih =
           subst (λ (x : List ℕ). Beside (suc k) x pre pre' (run s room b₀) (run w room b₀)) parted
-          (room? (leb (length (records past) + length (recordOf (answer b c))) room) refl)
+          (room? (leb (length (records past) + length (record_of (answer b c))) room) refl)
         where
           n : (0 < next) × (next ≤ length rest)
-          n = parse-next rest 0 c next e
+          n = parse_next rest 0 c next e
 
           q : List ℕ
           q = take next rest
@@ -411,78 +411,78 @@ module _ (s w : List ℕ) (room : ℕ) (b₀ : Book) where
           size : length q ≡ next
           size = length-take-le next rest n.1
 
-          alone : parseAt q 0 ≡ Whole c (length q)
-          alone = parse-alone q rest₁ c (ap (λ (x : List ℕ). parseAt x 0) parted ∙ e ∙ ap (Whole c) (sym size))
+          alone : parse_at q 0 ≡ Whole c (length q)
+          alone = parse_alone q rest₁ c (ap (λ (x : List ℕ). parse_at x 0) parted ∙ e ∙ ap (Whole c) (sym size))
 
-          f : (finiteWhole q ≡ true) × FiniteIn k rest₁
-          f = finite-whole k rest c next e g.finite
+          f : (finite_whole q ≡ true) × FiniteIn k rest₁
+          f = finite_whole_lem k rest c next e g.finite
 
-          d : Stands c (wholeWritten q)
-          d = whole-stands q c alone f.0
+          d : Stands c (whole_written q)
+          d = whole_stands q c alone f.0
 
-          at : Whole c (length pre + length q) ≡ parseAt s (length pre)
+          at : Whole c (length pre + length q) ≡ parse_at s (length pre)
           at = left (Whole c (length q)) (e ∙ ap (Whole c) (sym size))
 
-          at' : Whole d.other (length pre' + length (wholeWritten q)) ≡ parseAt w (length pre')
+          at' : Whole d.other (length pre' + length (whole_written q)) ≡ parse_at w (length pre')
           at' =
-              right (wholeWritten q ++ writtenIn k rest₁) (written-whole k rest c next e) (Whole d.other (length (wholeWritten q)))
-              (parse-front (wholeWritten q) (writtenIn k rest₁) 0 d.other (length (wholeWritten q)) d.stands)
+              right (whole_written q ++ written_in k rest₁) (written_whole k rest c next e) (Whole d.other (length (whole_written q)))
+              (parse_front (whole_written q) (written_in k rest₁) 0 d.other (length (whole_written q)) d.stands)
 
           reply : answer b d.other ≡ answer b c
           reply = sym (d.same.replies b)
 
-          long' : length (records past') + length (recordOf (answer b d.other)) ≡ length (records past) + length (recordOf (answer b c))
-          long' = λ j. length (g.same j) + length (recordOf (reply j))
+          long' : length (records past') + length (record_of (answer b d.other)) ≡ length (records past) + length (record_of (answer b c))
+          long' = λ j. length (g.same j) + length (record_of (reply j))
 
           after_same : after b d.other (answer b d.other) ≡ after b c (answer b c)
           after_same = ap (after b d.other) reply ∙ sym (same_after b c d.other d.same (answer b c))
 
           said_same : records (past' ++ (turn_of b d.other ∷ [])) ≡ records (past ++ (turn_of b c ∷ []))
           said_same =
-              records-append past' (turn_of b d.other ∷ []) ∙ ap (λ (x : List ℕ). records past' ++ x) (records-one (turn_of b d.other))
-              ∙ (λ j. g.same j ++ recordOf (reply j))
-              ∙ sym (records-append past (turn_of b c ∷ []) ∙ ap (λ (x : List ℕ). records past ++ x) (records-one (turn_of b c)))
+              records_append past' (turn_of b d.other ∷ []) ∙ ap (λ (x : List ℕ). records past' ++ x) (records_one (turn_of b d.other))
+              ∙ (λ j. g.same j ++ record_of (reply j))
+              ∙ sym (records_append past (turn_of b c ∷ []) ∙ ap (λ (x : List ℕ). records past ++ x) (records_one (turn_of b c)))
 
-          room? : (t : Bool) → leb (length (records past) + length (recordOf (answer b c))) room ≡ t
+          room? : (t : Bool) → leb (length (records past) + length (record_of (answer b c))) room ≡ t
               → Beside (suc k) (q ++ rest₁) pre pre' (run s room b₀) (run w room b₀)
           room? true r =
-              let fits : length (records past) + length (recordOf (answer b c)) ≤ room = leb-true (length (records past) + length (recordOf (answer b c))) room r in
-              let on = steps-one s room b₀ (length pre) past b g.at _ at c (length pre + length q) refl fits in
+              let fits : length (records past) + length (record_of (answer b c)) ≤ room = leb-true (length (records past) + length (record_of (answer b c))) room r in
+              let on = steps_one s room b₀ (length pre) past b g.at _ at c (length pre + length q) refl fits in
               let on' =
-              steps-one w room b₀ (length pre') past' b g.at-written _ at' d.other (length pre' + length (wholeWritten q)) refl (omega (arith, long')) in
-              more k q rest₁ pre (wholeWritten q) pre' c _ _ (omega (arith, g.enough, n.0, n.1, length-drop next rest)) alone refl
-              (ih rest₁ (pre ++ q) (pre' ++ wholeWritten q) (past ++ (turn_of b c ∷ [])) (past' ++ (turn_of b d.other ∷ [])) (after b c (answer b c))
+              steps_one w room b₀ (length pre') past' b g.at_written _ at' d.other (length pre' + length (whole_written q)) refl (omega (arith, long')) in
+              more k q rest₁ pre (whole_written q) pre' c _ _ (omega (arith, g.enough, n.0, n.1, length-drop next rest)) alone refl
+              (ih rest₁ (pre ++ q) (pre' ++ whole_written q) (past ++ (turn_of b c ∷ [])) (past' ++ (turn_of b d.other ∷ [])) (after b c (answer b c))
               (record {
                 bytes = g.bytes ∙ ap (λ (x : List ℕ). pre ++ x) (sym parted) ∙ sym (append_assoc pre q rest₁);
-                bytes-written =
-                    g.bytes-written ∙ ap (λ (x : List ℕ). pre' ++ x) (written-whole k rest c next e)
-                    ∙ sym (append_assoc pre' (wholeWritten q) (writtenIn k rest₁));
+                bytes_written =
+                    g.bytes_written ∙ ap (λ (x : List ℕ). pre' ++ x) (written_whole k rest c next e)
+                    ∙ sym (append_assoc pre' (whole_written q) (written_in k rest₁));
                 enough = omega (arith, g.enough, n.0, n.1, length-drop next rest);
                 finite = f.1;
                 same = said_same;
                 at = subst⁻¹ (λ (i : ℕ). Steps s room b₀ i (past ++ (turn_of b c ∷ [])) (after b c (answer b c))) (length-append pre q) on;
-                at-written =
-                    subst (λ (y : Book). Steps w room b₀ (length (pre' ++ wholeWritten q)) (past' ++ (turn_of b d.other ∷ [])) y) after_same
+                at_written =
+                    subst (λ (y : Book). Steps w room b₀ (length (pre' ++ whole_written q)) (past' ++ (turn_of b d.other ∷ [])) y) after_same
                     (subst⁻¹ (λ (i : ℕ). Steps w room b₀ i (past' ++ (turn_of b d.other ∷ [])) (after b d.other (answer b d.other)))
-                    (length-append pre' (wholeWritten q)) on');
+                    (length-append pre' (whole_written q)) on');
               }))
           room? false r =
-              let full : room < length (records past) + length (recordOf (answer b c)) = leb-false (length (records past) + length (recordOf (answer b c))) room r in
+              let full : room < length (records past) + length (record_of (answer b c)) = leb-false (length (records past) + length (record_of (answer b c))) room r in
               here (suc k) (q ++ rest₁) pre pre' NoRoom past past' b _ _ g.same
-              (ends-full s room b₀ (length pre) past b g.at _ at c (length pre + length q) refl full)
-              (ends-full w room b₀ (length pre') past' b g.at-written _ at' d.other (length pre' + length (wholeWritten q)) refl (omega (arith, long')))
+              (ends_full s room b₀ (length pre) past b g.at _ at c (length pre + length q) refl full)
+              (ends_full w room b₀ (length pre') past' b g.at_written _ at' d.other (length pre' + length (whole_written q)) refl (omega (arith, long')))
 
 -- an unknown byte, a cut command and the end ask nothing of what stands behind
-pub finite-unknown : (s : List ℕ) → parseAt s 0 ≡ Unknown → AllFinite s
+pub finite_unknown : (s : List ℕ) → parse_at s 0 ≡ Unknown → AllFinite s
 unfolding FiniteIn
-finite-unknown s e = subst⁻¹ (λ (p : Parsed). FiniteBy (FiniteIn (length s)) s p) e tt
+finite_unknown s e = subst⁻¹ (λ (p : Parsed). FiniteBy (FiniteIn (length s)) s p) e tt
 
-pub finite-cut : (s : List ℕ) → parseAt s 0 ≡ Cut → AllFinite s
+pub finite_cut : (s : List ℕ) → parse_at s 0 ≡ Cut → AllFinite s
 unfolding FiniteIn
-finite-cut s e = subst⁻¹ (λ (p : Parsed). FiniteBy (FiniteIn (length s)) s p) e tt
+finite_cut s e = subst⁻¹ (λ (p : Parsed). FiniteBy (FiniteIn (length s)) s p) e tt
 
-pub written-nothing : writtenBytes [] ≡ []
-written-nothing = written_none 1
+pub written_nothing : written_bytes [] ≡ []
+written_nothing = written_none 1
 
 -- THE SAME RUN WITH THE STEPS WRITTEN OUT
 pub record SameRun (s : List ℕ) (o o' : Outcome) : Type 0 where
@@ -490,40 +490,40 @@ pub record SameRun (s : List ℕ) (o o' : Outcome) : Type 0 where
   pub written : records o'.turns ≡ records o.turns
   pub book : o'.book ≡ o.book
   -- each counts its own bytes
-  pub used : o'.used ≡ length (writtenBytes (take o.used s))
+  pub used : o'.used ≡ length (written_bytes (take o.used s))
   -- and what is left of one is what is left of the other, written out
-  pub left : drop o'.used (writtenBytes s) ≡ writtenBytes (drop o.used s)
+  pub left : drop o'.used (written_bytes s) ≡ written_bytes (drop o.used s)
 
-pub same-run : (s : List ℕ) (room : ℕ) (b : Book) → AllFinite s → SameRun s (run s room b) (run (writtenBytes s) room b)
+pub same_run : (s : List ℕ) (room : ℕ) (b : Book) → AllFinite s → SameRun s (run s room b) (run (written_bytes s) room b)
 unfolding records
-same-run s room b f =
+same_run s room b f =
     let o = run s room b in
-    let o' = run (writtenBytes s) room b in
+    let o' = run (written_bytes s) room b in
     let k = suc (length s) in
     let x =
-    beside s (writtenBytes s) room b k s [] [] [] [] b
+    beside s (written_bytes s) room b k s [] [] [] [] b
     (record {
       bytes = refl;
-      bytes-written = refl;
+      bytes_written = refl;
       enough = omega arith;
       finite = f;
       same = refl;
-      at = steps-none s room b;
-      at-written = steps-none (writtenBytes s) room b;
+      at = steps_none s room b;
+      at_written = steps_none (written_bytes s) room b;
     }) in
     let l = ap length x.parts ∙ length-append x.front x.behind in
-    let front : writtenIn k x.front ≡ writtenBytes x.front = written-enough k (suc (length x.front)) x.front (omega arith) (omega arith) in
-    let behind : writtenIn k x.behind ≡ writtenBytes x.behind = written-enough k (suc (length x.behind)) x.behind (omega arith) (omega arith) in
+    let front : written_in k x.front ≡ written_bytes x.front = written_enough k (suc (length x.front)) x.front (omega arith) (omega arith) in
+    let behind : written_in k x.behind ≡ written_bytes x.behind = written_enough k (suc (length x.behind)) x.behind (omega arith) (omega arith) in
     let u : o.used ≡ length x.front = omega (arith, x.used) in
-    let u' : o'.used ≡ length (writtenIn k x.front) = omega (arith, x.used-written) in
+    let u' : o'.used ≡ length (written_in k x.front) = omega (arith, x.used_written_lem) in
     let taken : take o.used s ≡ x.front = ap₂ take u x.parts ∙ take-append_seam x.front x.behind in
     let rest : drop o.used s ≡ x.behind = ap₂ drop u x.parts ∙ drop-append_seam x.front x.behind in
     record {
       reason = x.reason;
       written = x.written;
       book = x.book;
-      used = u' ∙ ap length (front ∙ ap writtenBytes (sym taken));
+      used = u' ∙ ap length (front ∙ ap written_bytes (sym taken));
       left =
-          ap₂ drop u' x.parts-written ∙ drop-append_seam (writtenIn k x.front) (writtenIn k x.behind)
-          ∙ behind ∙ ap writtenBytes (sym rest);
+          ap₂ drop u' x.parts_written ∙ drop-append_seam (written_in k x.front) (written_in k x.behind)
+          ∙ behind ∙ ap written_bytes (sym rest);
     }

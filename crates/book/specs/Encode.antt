@@ -3,7 +3,7 @@
 use Rattle.std.specs.Prelude.{List, [], ◌∷◌, ◌++◌, ℕ}
 use Rattle.grid.specs.declared.Position.{Position}
 use Rattle.grid.specs.declared.Leg.{Leg}
-use Rattle.grid.specs.Coordinate.{toWord}
+use Rattle.grid.specs.Coordinate.{to_word}
 use Rattle.std.specs.Float.{binary32}
 use Rattle.std.specs.Float.Ieee.{to_bits}
 use Rattle.readings.specs.declared.Reading.{Reading}
@@ -14,28 +14,28 @@ use Rattle.book.specs.declared.Command.TheVariants.{Add, Remove, Move, List as L
 use Rattle.book.specs.declared.Command.TheVariants.{Begin, Corner, Close, Open}
 
 -- a position, as two signed 16-bit numbers
-abbrev pub positionBytes : Position → List ℕ
-positionBytes p = bytes2 (toWord p.east) ++ bytes2 (toWord p.north)
+abbrev pub position_bytes : Position → List ℕ
+position_bytes p = bytes2 (to_word p.east) ++ bytes2 (to_word p.north)
 
 -- two readings, each as the pattern of its number
-abbrev pub readingBytes : Reading → List ℕ
-readingBytes r = bytes4 (to_bits binary32 r.easting) ++ bytes4 (to_bits binary32 r.northing)
+abbrev pub reading_bytes : Reading → List ℕ
+reading_bytes r = bytes4 (to_bits binary32 r.easting) ++ bytes4 (to_bits binary32 r.northing)
 
 -- "S, E"
-abbrev pub legBytes : Leg → List ℕ
-legBytes l = positionBytes l.s ++ positionBytes l.e
+abbrev pub leg_bytes : Leg → List ℕ
+leg_bytes l = position_bytes l.s ++ position_bytes l.e
 
 -- a command and its operands
-abbrev pub commandBytes : Command → List ℕ
-commandBytes (Add n (InSteps p)) = 0x41 ∷ bytes2 n ++ positionBytes p
-commandBytes (Add n (InMetres r)) = 0x61 ∷ bytes2 n ++ readingBytes r
-commandBytes (Remove n) = 0x44 ∷ bytes2 n
-commandBytes (Move n (InSteps p)) = 0x4D ∷ bytes2 n ++ positionBytes p
-commandBytes (Move n (InMetres r)) = 0x6D ∷ bytes2 n ++ readingBytes r
-commandBytes (ListOf l) = 0x4C ∷ legBytes l
-commandBytes (Stand l) = 0x53 ∷ legBytes l
-commandBytes Print = 0x50 ∷ []
-commandBytes (Begin p) = 0x42 ∷ positionBytes p
-commandBytes (Corner p) = 0x43 ∷ positionBytes p
-commandBytes (Close n) = 0x58 ∷ bytes2 n
-commandBytes (Open n) = 0x4F ∷ bytes2 n
+abbrev pub command_bytes : Command → List ℕ
+command_bytes (Add n (InSteps p)) = 0x41 ∷ bytes2 n ++ position_bytes p
+command_bytes (Add n (InMetres r)) = 0x61 ∷ bytes2 n ++ reading_bytes r
+command_bytes (Remove n) = 0x44 ∷ bytes2 n
+command_bytes (Move n (InSteps p)) = 0x4D ∷ bytes2 n ++ position_bytes p
+command_bytes (Move n (InMetres r)) = 0x6D ∷ bytes2 n ++ reading_bytes r
+command_bytes (ListOf l) = 0x4C ∷ leg_bytes l
+command_bytes (Stand l) = 0x53 ∷ leg_bytes l
+command_bytes Print = 0x50 ∷ []
+command_bytes (Begin p) = 0x42 ∷ position_bytes p
+command_bytes (Corner p) = 0x43 ∷ position_bytes p
+command_bytes (Close n) = 0x58 ∷ bytes2 n
+command_bytes (Open n) = 0x4F ∷ bytes2 n

@@ -13,16 +13,16 @@ use Rattle.grid.specs.declared.Fraction.{Fraction}
 use Rattle.grid.specs.Fraction.{IsFraction}
 use Rattle.split.specs.SplitList.{Entry, name_at}
 use Rattle.split.specs.Choice.{pick}
-use Rattle.records.specs.ListRecord.{listSize}
-use Rattle.records.specs.Decode.{Listed, listed_of, read2, readRecord}
+use Rattle.records.specs.ListRecord.{list_size}
+use Rattle.records.specs.Decode.{Listed, listed_of, read2, read_record}
 use Rattle.book.specs.declared.Command.{Command}
 use Rattle.book.specs.declared.Command.TheVariants.{Add, Remove, Move, List as ListOf, Stand, Print}
 use Rattle.book.specs.declared.Command.TheVariants.{Begin, Corner, Close, Open}
 use Rattle.book.specs.declared.Parsed.{Parsed}
 use Rattle.book.specs.declared.Parsed.TheVariants.{End, Unknown, Cut, Whole}
-use Rattle.book.specs.Command.{parseAt}
-use Rattle.book.specs.Tour.{leftOut}
-use Rattle.book.specs.Book.{Book, emptyBook, isClosed, change}
+use Rattle.book.specs.Command.{parse_at}
+use Rattle.book.specs.Tour.{left_out}
+use Rattle.book.specs.Book.{Book, empty_book, is_closed, change}
 use Rattle.book.specs.Reply.{listed}
 use Rattle.book.specs.Answer.{answer}
 
@@ -30,21 +30,21 @@ use Rattle.book.specs.Answer.{answer}
 
 -- what a record says: accepted; refused, with the number; a list
 pub data Told : Type 0 where
-  saidDone : Told
-  saidRefused : ℕ → Told
-  saidList : List Listed → Told
+  said_done : Told
+  said_refused : ℕ → Told
+  said_list : List Listed → Told
 
 -- the record that the bytes begin with, by its mark: "2B for an accepted change or 53; 21 and the refusal number as a
 -- byte; 3D, a 16-bit count, then per entry .."
-abbrev pub readReply : List ℕ → Told
-readReply s =
-    cond (eqb (get_or s 0 0) 0x3D) (saidList (readRecord s))
-    (cond (eqb (get_or s 0 0) 0x2B) saidDone
-    (saidRefused (get_or s 1 0)))
+abbrev pub read_reply : List ℕ → Told
+read_reply s =
+    cond (eqb (get_or s 0 0) 0x3D) (said_list (read_record s))
+    (cond (eqb (get_or s 0 0) 0x2B) said_done
+    (said_refused (get_or s 1 0)))
 
 -- the bytes that it takes
-abbrev pub replyBytes : List ℕ → ℕ
-replyBytes s = cond (eqb (get_or s 0 0) 0x3D) (listSize (read2 s 1)) (cond (eqb (get_or s 0 0) 0x2B) 1 2)
+abbrev pub reply_bytes : List ℕ → ℕ
+reply_bytes s = cond (eqb (get_or s 0 0) 0x3D) (list_size (read2 s 1)) (cond (eqb (get_or s 0 0) 0x2B) 1 2)
 
 -- a command, and what its record says
 pub record Exchange : Type 0 where
@@ -52,25 +52,25 @@ pub record Exchange : Type 0 where
   pub told : Told
 
 -- the commands, each with its record: the records stand behind each other
-unfoldable pub hearRecords : List Command → List ℕ → List Exchange
-hearRecords [] s = []
-hearRecords (c ∷ cs) s = record { command = c; told = readReply s } ∷ hearRecords cs (drop (replyBytes s) s)
+unfoldable pub hear_records : List Command → List ℕ → List Exchange
+hear_records [] s = []
+hear_records (c ∷ cs) s = record { command = c; told = read_reply s } ∷ hear_records cs (drop (reply_bytes s) s)
 
 -- a command that stands there, and those behind it
-abbrev pub andOn : (ℕ → List Command) → Parsed → List Command
-andOn on End = []
-andOn on Unknown = []
-andOn on Cut = []
-andOn on (Whole c next) = c ∷ on next
+abbrev pub and_on : (ℕ → List Command) → Parsed → List Command
+and_on on End = []
+and_on on Unknown = []
+and_on on Cut = []
+and_on on (Whole c next) = c ∷ on next
 
 -- at most k commands from byte `at` on, as far as the first `used` bytes go
-unfoldable pub commandsFrom : ℕ → List ℕ → ℕ → ℕ → List Command
-commandsFrom zero s used at = []
-commandsFrom (suc k) s used at = cond (leb used at) [] (andOn (commandsFrom k s used) (parseAt s at))
+unfoldable pub commands_from : ℕ → List ℕ → ℕ → ℕ → List Command
+commands_from zero s used at = []
+commands_from (suc k) s used at = cond (leb used at) [] (and_on (commands_from k s used) (parse_at s at))
 
 -- the commands of the first `used` bytes: each takes at least a byte
-abbrev pub commandsIn : List ℕ → ℕ → List Command
-commandsIn s used = commandsFrom used s used 0
+abbrev pub commands_in : List ℕ → ℕ → List Command
+commands_in s used = commands_from used s used 0
 
 -- ---- the tour, as it was heard
 
@@ -87,89 +87,89 @@ onward (some k) p es = some (record { corner = p; entries = k.entries ++ es })
 -- after a command that got 2B: "Command 42 .. begins a tour"; "An accepted 41, 44 or 4D ends the tour.", and so do 61
 -- and 6D; C-19: "A change of mark ends a tour". Whether a 58 or a 4F changes a mark is known from what was heard
 -- before: b is the site book then
-abbrev pub hearDone : Book → Option Trip → Command → Option Trip
-hearDone b o (Add n l) = none
-hearDone b o (Remove n) = none
-hearDone b o (Move n l) = none
-hearDone b o (ListOf l) = o
-hearDone b o (Stand l) = o
-hearDone b o Print = o
-hearDone b o (Begin p) = some (record { corner = p; entries = [] })
-hearDone b o (Corner p) = o
-hearDone b o (Close n) = cond (isClosed n b.closed) o none
-hearDone b o (Open n) = cond (isClosed n b.closed) none o
+abbrev pub hear_done : Book → Option Trip → Command → Option Trip
+hear_done b o (Add n l) = none
+hear_done b o (Remove n) = none
+hear_done b o (Move n l) = none
+hear_done b o (ListOf l) = o
+hear_done b o (Stand l) = o
+hear_done b o Print = o
+hear_done b o (Begin p) = some (record { corner = p; entries = [] })
+hear_done b o (Corner p) = o
+hear_done b o (Close n) = cond (is_closed n b.closed) o none
+hear_done b o (Open n) = cond (is_closed n b.closed) none o
 
 -- after one that got a list: that of a 43 is the next leg's. (No command but 4C, 50 and 43 gets a list, and a 43 no 2B;
 -- what these cases say is never asked.)
-abbrev pub hearList : Option Trip → Command → List Listed → Option Trip
-hearList o (Add n l) es = o
-hearList o (Remove n) es = o
-hearList o (Move n l) es = o
-hearList o (ListOf l) es = o
-hearList o (Stand l) es = o
-hearList o Print es = o
-hearList o (Begin p) es = o
-hearList o (Corner p) es = onward o p es
-hearList o (Close n) es = o
-hearList o (Open n) es = o
+abbrev pub hear_list : Option Trip → Command → List Listed → Option Trip
+hear_list o (Add n l) es = o
+hear_list o (Remove n) es = o
+hear_list o (Move n l) es = o
+hear_list o (ListOf l) es = o
+hear_list o (Stand l) es = o
+hear_list o Print es = o
+hear_list o (Begin p) es = o
+hear_list o (Corner p) es = onward o p es
+hear_list o (Close n) es = o
+hear_list o (Open n) es = o
 
 -- after a command and its record: "A refused command leaves corner and tour."
 abbrev pub hear : Book → Option Trip → Command → Told → Option Trip
-hear b o c saidDone = hearDone b o c
-hear b o c (saidRefused n) = o
-hear b o c (saidList es) = hearList o c es
+hear b o c said_done = hear_done b o c
+hear b o c (said_refused n) = o
+hear b o c (said_list es) = hear_list o c es
 
 -- the site book after a command and its record
-abbrev pub afterTold : Book → Command → Told → Book
-afterTold b c saidDone = change c b
-afterTold b c (saidRefused n) = b
-afterTold b c (saidList es) = change c b
+abbrev pub after_told : Book → Command → Told → Book
+after_told b c said_done = change c b
+after_told b c (said_refused n) = b
+after_told b c (said_list es) = change c b
 
 -- the tour after several
-abbrev pub hearAll : Book → Option Trip → List Exchange → Option Trip
-hearAll b o [] = o
-hearAll b o (u ∷ us) = hearAll (afterTold b u.command u.told) (hear b o u.command u.told) us
+abbrev pub hear_all : Book → Option Trip → List Exchange → Option Trip
+hear_all b o [] = o
+hear_all b o (u ∷ us) = hear_all (after_told b u.command u.told) (hear b o u.command u.told) us
 
 -- the tour that is under way, or none, from laying out on
-abbrev pub tourHeard : List Exchange → Option Trip
-tourHeard us = hearAll emptyBook none us
+abbrev pub tour_heard : List Exchange → Option Trip
+tour_heard us = hear_all empty_book none us
 
 -- the site book after several
-abbrev pub afterHeard : Book → List Exchange → Book
-afterHeard b [] = b
-afterHeard b (u ∷ us) = afterHeard (afterTold b u.command u.told) us
+abbrev pub after_heard : Book → List Exchange → Book
+after_heard b [] = b
+after_heard b (u ∷ us) = after_heard (after_told b u.command u.told) us
 
 -- from laying out on: what a 4C is answered by then
-abbrev pub bookHeard : List Exchange → Book
-bookHeard us = afterHeard emptyBook us
+abbrev pub book_heard : List Exchange → Book
+book_heard us = after_heard empty_book us
 
 -- ---- what is said at a fraction
 
 -- the number of the last entry, or else this one
-abbrev pub lastIn : Option ℕ → List Listed → Option ℕ
-lastIn o [] = o
-lastIn o (e ∷ es) = lastIn (some e.number) es
+abbrev pub last_in : Option ℕ → List Listed → Option ℕ
+last_in o [] = o
+last_in o (e ∷ es) = last_in (some e.number) es
 
 -- "the last entry in the tour's earlier records"
-abbrev pub lastHeard : Trip → Option ℕ
-lastHeard k = lastIn none k.entries
+abbrev pub last_heard : Trip → Option ℕ
+last_heard k = last_in none k.entries
 
 -- "the last entry of its record whose start is not above it, or else" this one
-abbrev pub saidAt : Fraction → Option ℕ → List Listed → Option ℕ
-saidAt t o [] = o
-saidAt t o (e ∷ es) =
-    pick (dec_le (e.start.num * t.den) (t.num * e.start.den)) (saidAt t (some e.number) es) (saidAt t o es)
+abbrev pub said_at : Fraction → Option ℕ → List Listed → Option ℕ
+said_at t o [] = o
+said_at t o (e ∷ es) =
+    pick (dec_le (e.start.num * t.den) (t.num * e.start.den)) (said_at t (some e.number) es) (said_at t o es)
 
 -- at t, the record es, or else what was heard in the tour k before it, "must name the site that command 4C's list ..
 -- names there"
 pub record ToldAt (t : Fraction) (k : Trip) (es : List Listed) (whole : List Entry) : Type 0 where
   pub site : Site
   pub names : name_at t whole ≡ some site
-  pub told : saidAt t (lastHeard k) es ≡ some site.number
+  pub told : said_at t (last_heard k) es ≡ some site.number
 
 -- the leg to p of a tour that was heard
-abbrev pub legOf : Trip → Position → Leg
-legOf k p = record { s = k.corner; e = p }
+abbrev pub leg_of : Trip → Position → Leg
+leg_of k p = record { s = k.corner; e = p }
 
 -- THE PROMISE of a 43 to p that was answered by the record es, where b is the site book then and o the tour as it was
 -- heard
@@ -178,12 +178,12 @@ pub record LegTold (b : Book) (o : Option Trip) (p : Position) (es : List Listed
   pub heard : o ≡ some tour
   -- "command 4C's list of that leg"
   pub whole : List Entry
-  pub by4C : answer b (ListOf (legOf tour p)) ≡ listed whole
+  pub by4_c : answer b (ListOf (leg_of tour p)) ≡ listed whole
   -- "at each fraction"
   pub everywhere : (t : Fraction) → IsFraction t → ToldAt t tour es whole
   -- the record is that list, but for a first entry that names the site heard last
-  pub record_is : es ≡ map listed_of (leftOut (lastHeard tour) whole)
+  pub record_is : es ≡ map listed_of (left_out (last_heard tour) whole)
 
 -- a 43 to p and the list that it was answered
-abbrev pub heardLeg : Position → List Listed → Exchange
-heardLeg p es = record { command = Corner p; told = saidList es }
+abbrev pub heard_leg : Position → List Listed → Exchange
+heard_leg p es = record { command = Corner p; told = said_list es }

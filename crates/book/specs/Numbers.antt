@@ -11,23 +11,23 @@ use Rattle.book.specs.declared.Reason.TheVariants.{AllUsed, WrongLength, Broken,
 use Rattle.book.specs.declared.Reason.TheVariants.{CutShort, NoRoom, BrokenStanding}
 
 -- a cause's number
-abbrev pub causeNumber : Cause → ℕ
-causeNumber NumberZero = 1
-causeNumber OffGrid = 2
-causeNumber Held = 3
-causeNumber NotHeld = 4
-causeNumber Full = 5
-causeNumber NoSite = 6
-causeNumber NoLeg = 7
-causeNumber NoTour = 8
-causeNumber NotFinite = 11
+abbrev pub cause_number : Cause → ℕ
+cause_number NumberZero = 1
+cause_number OffGrid = 2
+cause_number Held = 3
+cause_number NotHeld = 4
+cause_number Full = 5
+cause_number NoSite = 6
+cause_number NoLeg = 7
+cause_number NoTour = 8
+cause_number NotFinite = 11
 
 -- a reason's number
-abbrev pub reasonNumber : Reason → ℕ
-reasonNumber AllUsed = 0
-reasonNumber WrongLength = 64
-reasonNumber Broken = 65
-reasonNumber UnknownCommand = 66
-reasonNumber CutShort = 67
-reasonNumber NoRoom = 68
-reasonNumber BrokenStanding = 69
+abbrev pub reason_number : Reason → ℕ
+reason_number AllUsed = 0
+reason_number WrongLength = 64
+reason_number Broken = 65
+reason_number UnknownCommand = 66
+reason_number CutShort = 67
+reason_number NoRoom = 68
+reason_number BrokenStanding = 69

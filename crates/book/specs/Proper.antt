@@ -4,13 +4,13 @@
 use Rattle.std.specs.Prelude.{◌≡◌, true, ℕ, ◌≤◌, ◌<◌, length}
 use mathlib.Core.List.{List, [], ◌∷◌, Memᴰ}
 use Rattle.std.proofs.Math.Option.{Option, none, some}
-use Rattle.limits.specs.Limits.{maxNumber, maxSites}
+use Rattle.limits.specs.Limits.{max_number, max_sites}
 use Rattle.grid.specs.declared.Site.{Site}
 use Rattle.grid.specs.declared.Leg.{Leg}
 use Rattle.grid.specs.Position.{OnGrid, LegOnGrid}
 use Rattle.split.specs.SplitList.{SitesOnGrid}
 use Rattle.book.specs.Tour.{Tour}
-use Rattle.book.specs.Book.{Book, sites_of, holds, isClosed}
+use Rattle.book.specs.Book.{Book, sites_of, holds, is_closed}
 
 -- numbers rise strictly, so that none is held twice
 abbrev pub Rising : List Site → Type 0
@@ -21,7 +21,7 @@ Rising (p ∷ q ∷ s) = (p.number < q.number) × Rising (q ∷ s)
 -- a number from 1 to 65,535
 pub record NumberOk (p : Site) : Type 0 where
   pub least : 1 ≤ p.number
-  pub most : p.number ≤ maxNumber
+  pub most : p.number ≤ max_number
 
 -- a leg, if there is one, on the grid
 abbrev pub LegOk : Option Leg → Type 0
@@ -37,7 +37,7 @@ RisingNumbers (m ∷ n ∷ c) = (m < n) × RisingNumbers (n ∷ c)
 -- the closed numbers are those of lines
 pub record MarksOk (c : List ℕ) (s : List Site) : Type 0 where
   pub rising : RisingNumbers c
-  pub held : (n : ℕ) → isClosed n c ≡ true → holds n s ≡ true
+  pub held : (n : ℕ) → is_closed n c ≡ true → holds n s ≡ true
 
 -- the remembered site is one of these
 abbrev pub LastHeld : Option ℕ → List Site → Type 0
@@ -47,7 +47,7 @@ LastHeld (some n) s = holds n s ≡ true
 -- "a stored corner off the grid or a remembered site that isn't held counts under 65"; C-19: "a remembered site that is
 -- closed counts under 65", so s are the open sites
 pub record TourFits (k : Tour) (s : List Site) : Type 0 where
-  pub onGrid : OnGrid k.corner
+  pub on_grid : OnGrid k.corner
   pub held : LastHeld k.last s
 
 -- of a tour, if there is one
@@ -60,8 +60,8 @@ TourOk (some k) s = TourFits k s
 pub record Proper (b : Book) : Type 0 where
   pub rising : Rising b.lines
   pub numbers : (p : Site) → Memᴰ p b.lines → NumberOk p
-  pub onGrid : SitesOnGrid b.lines
+  pub on_grid : SitesOnGrid b.lines
   pub marks : MarksOk b.closed b.lines
-  pub few : length b.lines ≤ maxSites
-  pub legOk : LegOk b.leg
-  pub tourOk : TourOk b.tour (sites_of b)
+  pub few : length b.lines ≤ max_sites
+  pub leg_ok : LegOk b.leg
+  pub tour_ok : TourOk b.tour (sites_of b)

@@ -13,13 +13,13 @@ pub record Tour : Type 0 where
   pub last : Option ℕ
 
 -- "the leg from the last corner to this one"
-abbrev pub legTo : Tour → Position → Leg
-legTo k p = record { s = k.corner; e = p }
+abbrev pub leg_to : Tour → Position → Leg
+leg_to k p = record { s = k.corner; e = p }
 
 -- of a tour or none
-abbrev pub tourLeg : Option Tour → Position → Option Leg
-tourLeg none p = none
-tourLeg (some k) p = some (legTo k p)
+abbrev pub tour_leg : Option Tour → Position → Option Leg
+tour_leg none p = none
+tour_leg (some k) p = some (leg_to k p)
 
 -- the site that is remembered in a tour or none
 abbrev pub remembered : Option Tour → Option ℕ
@@ -28,15 +28,15 @@ remembered (some k) = k.last
 
 -- "The record leaves out the list's first entry if that names the site that ended the previous leg's whole list in this
 -- tour"
-abbrev pub leftOut : Option ℕ → List Entry → List Entry
-leftOut none es = es
-leftOut (some n) [] = []
-leftOut (some n) (e ∷ es) = cond (eqb e.site.number n) es (e ∷ es)
+abbrev pub left_out : Option ℕ → List Entry → List Entry
+left_out none es = es
+left_out (some n) [] = []
+left_out (some n) (e ∷ es) = cond (eqb e.site.number n) es (e ∷ es)
 
 -- the number that the last entry names, or else this one
-abbrev pub lastNumber : Option ℕ → List Entry → Option ℕ
-lastNumber o [] = o
-lastNumber o (e ∷ es) = lastNumber (some e.site.number) es
+abbrev pub last_number : Option ℕ → List Entry → Option ℕ
+last_number o [] = o
+last_number o (e ∷ es) = last_number (some e.site.number) es
 
 -- "Command 42 with a position begins a tour"
 abbrev pub begun : Position → Tour
@@ -44,9 +44,9 @@ begun p = record { corner = p; last = none }
 
 -- "this position becomes the last corner", and the site that ended this leg's whole list is remembered
 abbrev pub cornered : Position → List Entry → Tour
-cornered p es = record { corner = p; last = lastNumber none es }
+cornered p es = record { corner = p; last = last_number none es }
 
 -- so a tour goes on; without one there is none
-abbrev pub goesOn : Option Tour → Position → List Entry → Option Tour
-goesOn none p es = none
-goesOn (some k) p es = some (cornered p es)
+abbrev pub goes_on : Option Tour → Position → List Entry → Option Tour
+goes_on none p es = none
+goes_on (some k) p es = some (cornered p es)

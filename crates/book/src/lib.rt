@@ -77,11 +77,11 @@ pub struct BatchResult {
 }
 
 ghost use Rattle.std.specs.Prelude.{◌≡◌};
-ghost use Rattle.book.specs.Numbers.{causeNumber, reasonNumber};
+ghost use Rattle.book.specs.Numbers.{cause_number, reason_number};
 
 // A cause's number.
 pub fn cause_number(c: Cause) -> u8
-    ensures { result ≡ causeNumber c }
+    ensures { result ≡ cause_number c }
 {
     match c {
         Cause::NumberZero => 1,
@@ -98,7 +98,7 @@ pub fn cause_number(c: Cause) -> u8
 
 // A reason's number.
 pub fn reason_number(r: Reason) -> u32
-    ensures { result ≡ reasonNumber r }
+    ensures { result ≡ reason_number r }
 {
     match r {
         Reason::AllUsed => 0,

@@ -2,12 +2,12 @@
 -- book".
 -- Assumes nothing.
 use Rattle.std.specs.Prelude.{◌≡◌, ◌≢◌, true, false, cond, List, ℕ, ◌<◌, length, eqb}
-use Rattle.limits.specs.Limits.{maxSites}
+use Rattle.limits.specs.Limits.{max_sites}
 use Rattle.grid.specs.declared.Site.{Site}
 use Rattle.grid.specs.Position.{OnGrid, LegOnGrid}
 use Rattle.readings.specs.declared.Location.{Location}
 use Rattle.readings.specs.declared.Location.TheVariants.{InSteps}
-use Rattle.readings.specs.Location.{finiteIn, placed}
+use Rattle.readings.specs.Location.{finite_in, placed}
 use Rattle.book.specs.declared.Command.{Command}
 use Rattle.book.specs.declared.Command.TheVariants.{Add, Remove, Move, Stand, Begin, Corner, Close, Open}
 use Rattle.book.specs.declared.Cause.{Cause}
@@ -15,8 +15,8 @@ use Rattle.book.specs.declared.Cause.TheVariants.{NumberZero, OffGrid, Held, Not
 use Rattle.book.specs.declared.Cause.TheVariants.{NotFinite}
 use Rattle.book.specs.Proper.{NumberOk}
 use Rattle.book.specs.Answer.{reads}
-use Rattle.book.specs.WrittenOut.{writtenOut}
-use Rattle.table_sites.specs.Lines.{linesIn, StandsAt, StandsNowhere}
+use Rattle.book.specs.WrittenOut.{written_out}
+use Rattle.table_sites.specs.Lines.{lines_in, StandsAt, StandsNowhere}
 use Rattle.table_rules.specs.Following.{Follows}
 use Rattle.call_judge.specs.declared.Answer.{Answer}
 use Rattle.call_judge.specs.declared.Verdict.{Verdict}
@@ -38,32 +38,32 @@ answer_of (Verdict.Open k n) = Answer.Done
 
 -- a site may be inserted before record k
 pub record Insertable (k : ℕ) (p : Site) (t : List ℕ) : Type 0 where
-  pub nowhere : StandsNowhere k p.number (linesIn t)
-  pub room : length (linesIn t) < maxSites
+  pub nowhere : StandsNowhere k p.number (lines_in t)
+  pub room : length (lines_in t) < max_sites
   pub number : NumberOk p
-  pub onGrid : OnGrid p.position
+  pub on_grid : OnGrid p.position
 
 -- what was found in the table
 abbrev pub Findings : Verdict → List ℕ → Type 0
 Findings (Verdict.Refuse x) t = Unit {0}
 Findings (Verdict.Show l k) t = Unit {0}
 Findings (Verdict.Insert k p) t = Insertable k p t
-Findings (Verdict.Delete k n) t = StandsAt k n (linesIn t)
-Findings (Verdict.Place k p) t = StandsAt k p.number (linesIn t) × OnGrid p.position
+Findings (Verdict.Delete k n) t = StandsAt k n (lines_in t)
+Findings (Verdict.Place k p) t = StandsAt k p.number (lines_in t) × OnGrid p.position
 Findings (Verdict.Stand l) t = LegOnGrid l
 Findings (Verdict.Begin p) t = OnGrid p
 Findings (Verdict.Follow l j n k) t = Follows l n t
-Findings (Verdict.Close k n) t = StandsAt k n (linesIn t)
-Findings (Verdict.Open k n) t = StandsAt k n (linesIn t)
+Findings (Verdict.Close k n) t = StandsAt k n (lines_in t)
+Findings (Verdict.Open k n) t = StandsAt k n (lines_in t)
 
 -- the command that a verdict is on: any that is refused; one that changes nothing, where a list is shown; an addition
 -- or a move to readings has its steps written out; else the command itself
 abbrev pub IsOn : Verdict → Command → Type 0
 IsOn (Verdict.Refuse x) c = Unit {0}
 IsOn (Verdict.Show l k) c = reads c ≡ true
-IsOn (Verdict.Insert k p) c = writtenOut c ≡ Add p.number (InSteps p.position)
+IsOn (Verdict.Insert k p) c = written_out c ≡ Add p.number (InSteps p.position)
 IsOn (Verdict.Delete k n) c = c ≡ Remove n
-IsOn (Verdict.Place k p) c = writtenOut c ≡ Move p.number (InSteps p.position)
+IsOn (Verdict.Place k p) c = written_out c ≡ Move p.number (InSteps p.position)
 IsOn (Verdict.Stand l) c = c ≡ Stand l
 IsOn (Verdict.Begin p) c = c ≡ Begin p
 IsOn (Verdict.Follow l j n k) c = c ≡ Corner l.e
@@ -84,8 +84,8 @@ pub record Settled (v : Verdict) (c : Command) (t : List ℕ) : Type 0 where
 -- and a move refuse
 abbrev pub BadFor : Cause → ℕ → Location → Type 0
 BadFor NumberZero n l = n ≡ 0
-BadFor NotFinite n l = (n ≢ 0) × (finiteIn l ≡ false)
-BadFor OffGrid n l = (n ≢ 0) × (finiteIn l ≡ true) × ¬ OnGrid (placed l)
+BadFor NotFinite n l = (n ≢ 0) × (finite_in l ≡ false)
+BadFor OffGrid n l = (n ≢ 0) × (finite_in l ≡ true) × ¬ OnGrid (placed l)
 BadFor Held n l = ⊥
 BadFor NotHeld n l = ⊥
 BadFor Full n l = ⊥
@@ -97,8 +97,8 @@ BadFor NoTour n l = ⊥
 pub record GoodFor (s : Site) (n : ℕ) (l : Location) : Type 0 where
   pub site : s ≡ record { number = n; position = placed l }
   pub number : NumberOk s
-  pub onGrid : OnGrid s.position
-  pub is_finite : finiteIn l ≡ true
+  pub on_grid : OnGrid s.position
+  pub is_finite : finite_in l ≡ true
 
 -- and what they find
 abbrev pub TestedAs : Tested → ℕ → Location → Type 0

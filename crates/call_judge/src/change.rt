@@ -1,6 +1,6 @@
 // The changes of sites: added, removed, moved, closed, opened.
 ghost use Rattle.std.specs.Prelude.{◌≡◌, ◌≤◌};
-ghost use Rattle.limits.specs.Limits.{maxSites};
+ghost use Rattle.limits.specs.Limits.{max_sites};
 ghost use Rattle.grid.specs.Position.{OnGrid};
 ghost use Rattle.readings.specs.declared.Location.{Location};
 ghost use Rattle.book.specs.declared.Command.{Command};
@@ -43,7 +43,7 @@ fn test(n: u16, l: Location) -> Tested
 
 // A record's index in 16 bits: so a verdict is copied in machine words that no other field shares.
 fn narrow(k: usize) -> u16
-    requires { k ≤ maxSites }
+    requires { k ≤ max_sites }
     ensures { result ≡ k }
 {
     k as u16

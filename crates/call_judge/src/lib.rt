@@ -5,7 +5,7 @@ pub mod list;
 pub mod tour;
 
 ghost use Rattle.std.specs.Prelude.{◌≡◌, ◌≤◌, length};
-ghost use Rattle.list_row.specs.Vertices.{rowBytes};
+ghost use Rattle.list_row.specs.Vertices.{row_bytes};
 ghost use Rattle.table_rules.specs.Table.{Sound};
 ghost use Rattle.call_judge.specs.Verdict.{answer_of, Decided};
 
@@ -59,7 +59,7 @@ pub fn reply(v: Verdict) -> Answer
 
 // The verdict on a command.
 pub fn judge(t: &[u8], work: &mut [u8], c: Command) -> Verdict
-    requires { Sound t.now × (rowBytes ≤ length work.old) }
+    requires { Sound t.now × (row_bytes ≤ length work.old) }
     ensures { Decided result c t.now work.new }
 {
     match c {

@@ -2,8 +2,8 @@
 ghost use Rattle.std.specs.Prelude.{◌≡◌, ◌≤◌, length};
 ghost use Rattle.std.proofs.Math.Option.{some};
 ghost use Rattle.book.specs.declared.Command.{Command};
-ghost use Rattle.list_row.specs.Vertices.{rowBytes};
-ghost use Rattle.table_header.specs.Header.{legIn};
+ghost use Rattle.list_row.specs.Vertices.{row_bytes};
+ghost use Rattle.table_header.specs.Header.{leg_in};
 ghost use Rattle.table_rules.specs.Table.{Sound};
 ghost use Rattle.call_judge.specs.Verdict.{Decided, Settled};
 
@@ -14,7 +14,7 @@ use table_header::Standing;
 
 // A list: leg, site. The list of an open site has an entry, so one without an entry says that none is open.
 pub fn list(t: &[u8], work: &mut [u8], leg: Leg) -> Verdict
-    requires { Sound t.now × (rowBytes ≤ length work.old) }
+    requires { Sound t.now × (row_bytes ≤ length work.old) }
     ensures { Decided result (Command.List leg) t.now work.new }
 {
     if grid::coordinate::leg_on_grid(leg) {
@@ -39,7 +39,7 @@ pub fn stand(t: &[u8], leg: Leg) -> Verdict
 
 // The standing list of a leg: site.
 fn stored(t: &[u8], work: &mut [u8], leg: Leg) -> Verdict
-    requires { Sound t.now × (legIn t.now ≡ some leg) × (rowBytes ≤ length work.old) }
+    requires { Sound t.now × (leg_in t.now ≡ some leg) × (row_bytes ≤ length work.old) }
     ensures { Decided result Command.Print t.now work.new }
 {
     let k = table_list::load(t, work, leg);
@@ -51,7 +51,7 @@ fn stored(t: &[u8], work: &mut [u8], leg: Leg) -> Verdict
 
 // The standing list: leg, site.
 pub fn print(t: &[u8], work: &mut [u8]) -> Verdict
-    requires { Sound t.now × (rowBytes ≤ length work.old) }
+    requires { Sound t.now × (row_bytes ≤ length work.old) }
     ensures { Decided result Command.Print t.now work.new }
 {
     let s = table_header::leg(t);

@@ -3,8 +3,8 @@ ghost use Rattle.std.specs.Prelude.{◌≡◌, ◌≤◌, ◌<◌, length};
 ghost use Rattle.std.proofs.Math.Option.{some};
 ghost use Rattle.grid.specs.Position.{OnGrid};
 ghost use Rattle.book.specs.declared.Command.{Command};
-ghost use Rattle.list_row.specs.Vertices.{rowBytes};
-ghost use Rattle.table_header.specs.Header.{tourAt, tourIn};
+ghost use Rattle.list_row.specs.Vertices.{row_bytes};
+ghost use Rattle.table_header.specs.Header.{tour_at, tour_in};
 ghost use Rattle.table_rules.specs.Table.{Sound};
 ghost use Rattle.table_rules.specs.Listing.{ListsTable};
 ghost use Rattle.call_judge.specs.Verdict.{Decided, Settled, passed_by};
@@ -36,7 +36,7 @@ fn passed(first: u16, last: u16) -> u16
 
 // The verdict on a leg whose list is in the first k of the row.
 fn shown(t: &[u8], work: &[u8], leg: Leg, last: u16, k: usize) -> Verdict
-    requires sound { Sound t.now × (tourIn t.now ≡ some (tourAt leg.s last)) × OnGrid leg.e }
+    requires sound { Sound t.now × (tour_in t.now ≡ some (tour_at leg.s last)) × OnGrid leg.e }
     requires lists_table { ListsTable leg t.now work.now k × (0 < k) }
     ensures { Decided result (Command.Corner leg.e) t.now work.now }
 {
@@ -48,7 +48,7 @@ fn shown(t: &[u8], work: &[u8], leg: Leg, last: u16, k: usize) -> Verdict
 
 // The next leg of a tour that is at this corner, where this site is remembered: position, site.
 fn onward(t: &[u8], work: &mut [u8], corner: Position, last: u16, p: Position) -> Verdict
-    requires { Sound t.now × (tourIn t.now ≡ some (tourAt corner last)) × (rowBytes ≤ length work.old) }
+    requires { Sound t.now × (tour_in t.now ≡ some (tour_at corner last)) × (row_bytes ≤ length work.old) }
     ensures { Decided result (Command.Corner p) t.now work.new }
 {
     if grid::coordinate::on_grid(p) {
@@ -64,7 +64,7 @@ fn onward(t: &[u8], work: &mut [u8], corner: Position, last: u16, p: Position) -
 
 // The next leg of a tour: tour, position, site.
 pub fn corner(t: &[u8], work: &mut [u8], p: Position) -> Verdict
-    requires { Sound t.now × (rowBytes ≤ length work.old) }
+    requires { Sound t.now × (row_bytes ≤ length work.old) }
     ensures { Decided result (Command.Corner p) t.now work.new }
 {
     let tour = table_header::tour(t);

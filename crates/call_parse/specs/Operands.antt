@@ -6,7 +6,7 @@ use Rattle.book.specs.declared.Command.{Command}
 use Rattle.book.specs.declared.Shape.{Shape}
 use Rattle.book.specs.declared.Shape.TheVariants.{Nothing, Number, OnePosition, NumberPosition, TwoPositions}
 use Rattle.book.specs.declared.Shape.TheVariants.{NumberReadings}
-use Rattle.book.specs.Command.{Maker, madeAt, Form}
+use Rattle.book.specs.Command.{Maker, made_at, Form}
 use Rattle.call_parse.specs.declared.Mark.{Mark}
 use Rattle.call_parse.specs.declared.Mark.TheVariants.{Unknown, Takes}
 use Rattle.call_parse.specs.declared.Operands.{Operands}
@@ -27,7 +27,7 @@ made NumberReadings f o = f o.0 o.3
 
 -- o are the operands at byte i: each command that they make is that of the bytes
 abbrev pub Reads : Shape → List ℕ → ℕ → Operands → Type 0
-Reads x s i o = (f : Maker x) → made x f o ≡ madeAt x f s i
+Reads x s i o = (f : Maker x) → made x f o ≡ made_at x f s i
 
 -- c is the command of this form with the operands o
 abbrev pub Makes : Option Form → Operands → Command → Type 0

@@ -1,6 +1,6 @@
 // Reads the command that stands at a byte of the commands. Document 01, "Buffers and batches": the table of commands.
 ghost use Rattle.std.specs.Prelude.{◌≡◌, ◌+◌, ◌≤◌, length};
-ghost use Rattle.book.specs.Command.{operandBytes, positionAt, legAt, form_of, parseAt};
+ghost use Rattle.book.specs.Command.{operand_bytes, position_at, leg_at, form_of, parse_at};
 ghost use Rattle.call_parse.specs.Operands.{mark_of, Reads, Makes};
 
 use book::{Command, Parsed, Shape};
@@ -65,7 +65,7 @@ fn command(byte: u8, o: Operands) -> Command
 
 // The bytes that operands take.
 fn size_of(x: Shape) -> usize
-    ensures { result ≡ operandBytes x }
+    ensures { result ≡ operand_bytes x }
 {
     match x {
         Shape::Nothing => 0,
@@ -80,7 +80,7 @@ fn size_of(x: Shape) -> usize
 // The position at byte i.
 fn position_at(s: &[u8], i: usize) -> Position
     requires { i + 4 ≤ length s.now }
-    ensures { result ≡ positionAt s.now i }
+    ensures { result ≡ position_at s.now i }
 {
     let east = grid::coordinate::from_word(words::word(s, i));
     let north = grid::coordinate::from_word(words::word(s, i + 2));
@@ -93,7 +93,7 @@ fn position_at(s: &[u8], i: usize) -> Position
 // The leg at byte i.
 fn leg_at(s: &[u8], i: usize) -> Leg
     requires { i + 8 ≤ length s.now }
-    ensures { result ≡ legAt s.now i }
+    ensures { result ≡ leg_at s.now i }
 {
     let from = position_at(s, i);
     let to = position_at(s, i + 4);
@@ -102,7 +102,7 @@ fn leg_at(s: &[u8], i: usize) -> Leg
 
 // The operands at byte i.
 fn operands_at(s: &[u8], i: usize, x: Shape) -> Operands
-    requires { i + operandBytes x ≤ length s.now }
+    requires { i + operand_bytes x ≤ length s.now }
     ensures { Reads x s.now i result }
 {
     let corner = Position { east: 0, north: 0 };
@@ -143,7 +143,7 @@ fn operands_at(s: &[u8], i: usize, x: Shape) -> Operands
 
 // What stands at a byte.
 pub fn parse(s: &[u8], at: usize) -> Parsed
-    ensures { result ≡ parseAt s.now at }
+    ensures { result ≡ parse_at s.now at }
 {
     if s.len() <= at {
         return Parsed::End;

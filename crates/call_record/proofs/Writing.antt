@@ -6,23 +6,23 @@ use Prim.Native.Nat.{ℕ, ◌+◌, ◌/◌, ◌%◌, ◌<◌}
 use native.Mathlib.Omega.{arith}
 use native.Mathlib.Nat.{mod-eq_of_lt}
 use lib.ListN.{set}
-use Rattle.words.specs.Words.{putWord}
+use Rattle.words.specs.Words.{put_word}
 use Rattle.records.specs.Bytes.{bytes2, bytes4, write}
 use Rattle.book.specs.declared.Cause.{Cause}
-use Rattle.book.specs.Numbers.{causeNumber}
-use Rattle.book.specs.Reply.{refused, recordOf}
+use Rattle.book.specs.Numbers.{cause_number}
+use Rattle.book.specs.Reply.{refused, record_of}
 
 -- What `put_word` and `put_long` do.
-pub put-word-is : (b b' : List ℕ) (i x : ℕ) → x < 65536 → b' ≡ putWord b i x → b' ≡ write b i (bytes2 x)
-unfolding putWord
-put-word-is b b' i x h e =
+pub put_word_is : (b b' : List ℕ) (i x : ℕ) → x < 65536 → b' ≡ put_word b i x → b' ≡ write b i (bytes2 x)
+unfolding put_word
+put_word_is b b' i x h e =
     let g : x / 256 ≡ x / 256 % 256 = sym (mod-eq_of_lt (omega arith)) in
     e ∙ ap (λ (y : ℕ). set (set b i (x % 256)) (i + 1) y) g
 
-pub put-long-is : (b : List ℕ) (i x p q r s : ℕ) → p ≡ x % 256 → q ≡ x / 256 % 256 → r ≡ x / 65536 % 256 → s ≡ x / 16777216 % 256
+pub put_long_is : (b : List ℕ) (i x p q r s : ℕ) → p ≡ x % 256 → q ≡ x / 256 % 256 → r ≡ x / 65536 % 256 → s ≡ x / 16777216 % 256
     → set (set (set (set b i p) (i + 1) q) (i + 1 + 1) r) (i + 1 + 1 + 1) s ≡ write b i (bytes4 x)
-put-long-is b i x p q r s e f g h = λ j. set (set (set (set b i (e j)) (i + 1) (f j)) (i + 1 + 1) (g j)) (i + 1 + 1 + 1) (h j)
+put_long_is b i x p q r s e f g h = λ j. set (set (set (set b i (e j)) (i + 1) (f j)) (i + 1 + 1) (g j)) (i + 1 + 1 + 1) (h j)
 
 -- The return of `put_refusal`.
-pub refusal_is : (x : Cause) (b : List ℕ) (i n : ℕ) → n ≡ causeNumber x → set (set b i 0x21) (i + 1) n ≡ write b i (recordOf (refused x))
+pub refusal_is : (x : Cause) (b : List ℕ) (i n : ℕ) → n ≡ cause_number x → set (set b i 0x21) (i + 1) n ≡ write b i (record_of (refused x))
 refusal_is x b i n e = ap (λ (y : ℕ). set (set b i 0x21) (i + 1) y) e

@@ -14,5 +14,5 @@ pub record RatioAt (l : Leg) (t r : List ℕ) (i : ℕ) (q : Fraction) : Type 0 
   pub start : lowest q.num q.den ≡ start_at l t r i
 
 -- the bytes of an entry: the site's number n, the start s
-unfoldable pub startBytes : ℕ → Fraction → List ℕ
-startBytes n s = bytes2 n ++ bytes4 s.num ++ bytes4 s.den
+unfoldable pub start_bytes : ℕ → Fraction → List ℕ
+start_bytes n s = bytes2 n ++ bytes4 s.num ++ bytes4 s.den

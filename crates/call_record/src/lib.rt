@@ -1,15 +1,15 @@
 // The records of a report, and their sizes: 2B of an accepted change, 21 of a refusal, 3D of the list in a row.
 // Document 01, "Buffers and batches".
 ghost use Rattle.std.specs.Prelude.{◌≡◌, ◌+◌, ◌*◌, ◌-◌, ◌%◌, ◌^◌, ◌<◌, ◌≤◌, length};
-ghost use Rattle.limits.specs.Limits.{maxSites};
+ghost use Rattle.limits.specs.Limits.{max_sites};
 ghost use Rattle.grid.specs.Fraction.{lowest};
 ghost use Rattle.grid.specs.Position.{LegOnGrid};
 ghost use Rattle.list_row.specs.Vertices.{Held};
 ghost use Rattle.records.specs.Bytes.{bytes4, write};
-ghost use Rattle.records.specs.ListRecord.{entryBytes, listBytes, recordBytes, entrySize, listSize};
-ghost use Rattle.book.specs.Reply.{done, refused, recordOf, recordSize};
-ghost use Rattle.list_row.specs.Entries.{start_at, rowEntry, entriesFrom};
-ghost use Rattle.call_record.specs.Starts.{RatioAt, startBytes};
+ghost use Rattle.records.specs.ListRecord.{entry_bytes, list_bytes, record_bytes, entry_size, list_size};
+ghost use Rattle.book.specs.Reply.{done, refused, record_of, record_size};
+ghost use Rattle.list_row.specs.Entries.{start_at, row_entry, entries_from};
+ghost use Rattle.call_record.specs.Starts.{RatioAt, start_bytes};
 
 use book::Cause;
 use grid::{Fraction, Leg};
@@ -36,24 +36,24 @@ const ENTRY_SIZE: usize = 10;
 
 // The bytes of a record 3D of k entries.
 pub fn list_size(k: usize) -> usize
-    requires { k ≤ maxSites }
-    ensures { result ≡ listSize k }
+    requires { k ≤ max_sites }
+    ensures { result ≡ list_size k }
 {
     HEAD_SIZE + ENTRY_SIZE * k
 }
 
 // Writes the record of an accepted change.
 pub fn put_done(report: &mut [u8], at: usize)
-    requires { at + recordSize done ≤ length report.old }
-    ensures { report.new ≡ write report.old at (recordOf done) }
+    requires { at + record_size done ≤ length report.old }
+    ensures { report.new ≡ write report.old at (record_of done) }
 {
     report[at] = DONE_MARK;
 }
 
 // Writes the record of a refusal.
 pub fn put_refusal(cause: Cause, report: &mut [u8], at: usize)
-    requires { at + recordSize (refused cause) ≤ length report.old }
-    ensures { report.new ≡ write report.old at (recordOf (refused cause)) }
+    requires { at + record_size (refused cause) ≤ length report.old }
+    ensures { report.new ≡ write report.old at (record_of (refused cause)) }
 {
     let number = book::cause_number(cause);
     report[at] = REFUSAL_MARK;
@@ -62,7 +62,7 @@ pub fn put_refusal(cause: Cause, report: &mut [u8], at: usize)
 
 // The number of entries, as the record has it.
 fn count_of(k: usize) -> u16
-    requires { k ≤ maxSites }
+    requires { k ≤ max_sites }
     ensures { result ≡ k }
 {
     k as u16
@@ -125,8 +125,8 @@ fn put_long(b: &mut [u8], at: usize, x: u64)
 
 // Writes a site's number and its start.
 fn put_start(report: &mut [u8], at: usize, number: u16, start: Fraction)
-    requires { at + entrySize ≤ length report.old }
-    ensures { report.new ≡ write report.old at (startBytes number start) }
+    requires { at + entry_size ≤ length report.old }
+    ensures { report.new ≡ write report.old at (start_bytes number start) }
 {
     words::put_word(report, at, number);
     put_long(report, at + 2, start.num);
@@ -136,9 +136,9 @@ fn put_start(report: &mut [u8], at: usize, number: u16, start: Fraction)
 // Writes the entry of the vertex at i.
 fn put_entry(t: &[u8], row: &[u8], leg: Leg, k: usize, i: usize, report: &mut [u8], at: usize)
     requires { Held leg t.now row.now k × LegOnGrid leg × (i < k)
-        × (at + entrySize ≤ length report.old) }
+        × (at + entry_size ≤ length report.old) }
     ensures { report.new ≡ write report.old at
-        (entryBytes (rowEntry leg t.now row.now i)) }
+        (entry_bytes (row_entry leg t.now row.now i)) }
 {
     let number = list_row::number_in(t, row, i);
     let start = start_of(t, row, leg, k, i);
@@ -147,11 +147,11 @@ fn put_entry(t: &[u8], row: &[u8], leg: Leg, k: usize, i: usize, report: &mut [u
 
 // Writes n with the start p and m with the start q, both in lowest terms.
 fn put_starts(report: &mut [u8], at: usize, n: u16, m: u16, p: Fraction, q: Fraction)
-    requires { (at + 2 * entrySize ≤ length report.old) × (0 < p.den) × (0 < q.den)
+    requires { (at + 2 * entry_size ≤ length report.old) × (0 < p.den) × (0 < q.den)
         × (p.num + q.num < 2 ^ 64) }
     ensures { report.new ≡ write
-        (write report.old at (startBytes n (lowest p.num p.den)))
-        (at + entrySize) (startBytes m (lowest q.num q.den)) }
+        (write report.old at (start_bytes n (lowest p.num p.den)))
+        (at + entry_size) (start_bytes m (lowest q.num q.den)) }
 {
     let starts = grid::factor::lowest_two(p, q);
     put_start(report, at, n, starts.first);
@@ -162,10 +162,10 @@ fn put_starts(report: &mut [u8], at: usize, n: u16, m: u16, p: Fraction, q: Frac
 // after the other.
 fn put_two(t: &[u8], row: &[u8], leg: Leg, k: usize, i: usize, report: &mut [u8], at: usize)
     requires { Held leg t.now row.now k × LegOnGrid leg × (i + 1 < k)
-        × (at + 2 * entrySize ≤ length report.old) }
+        × (at + 2 * entry_size ≤ length report.old) }
     ensures { report.new ≡ write
-        (write report.old at (entryBytes (rowEntry leg t.now row.now i)))
-        (at + entrySize) (entryBytes (rowEntry leg t.now row.now (i + 1))) }
+        (write report.old at (entry_bytes (row_entry leg t.now row.now i)))
+        (at + entry_size) (entry_bytes (row_entry leg t.now row.now (i + 1))) }
 {
     let j = i + 1;
     let p = ratio_in(t, row, leg, k, i);
@@ -178,9 +178,9 @@ fn put_two(t: &[u8], row: &[u8], leg: Leg, k: usize, i: usize, report: &mut [u8]
 // Writes the entries of the first k, from the one at j on.
 fn put_entries(t: &[u8], row: &[u8], leg: Leg, j: usize, k: usize, report: &mut [u8], at: usize)
     requires { Held leg t.now row.now k × LegOnGrid leg × (j ≤ k)
-        × (at + entrySize * (k - j) ≤ length report.old) }
+        × (at + entry_size * (k - j) ≤ length report.old) }
     ensures { report.new ≡ write report.old at
-        (listBytes (entriesFrom leg t.now row.now j k)) }
+        (list_bytes (entries_from leg t.now row.now j k)) }
 {
     let mut i = j;
     while i + 1 < k {
@@ -203,10 +203,10 @@ pub fn put_list(
     at: usize,
 ) -> usize
     requires { Held leg t.now row.now k × LegOnGrid leg × (j ≤ k)
-        × (at + listSize (k - j) ≤ length report.old) }
+        × (at + list_size (k - j) ≤ length report.old) }
     ensures wrote { report.new ≡ write report.old at
-        (recordBytes (entriesFrom leg t.now row.now j k)) }
-    ensures upto { result ≡ at + listSize (k - j) }
+        (record_bytes (entries_from leg t.now row.now j k)) }
+    ensures upto { result ≡ at + list_size (k - j) }
 {
     let n = k - j;
     report[at] = LIST_MARK;

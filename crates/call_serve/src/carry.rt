@@ -1,6 +1,6 @@
 // What is to be done for a command, done.
 ghost use Rattle.std.specs.Prelude.{◌≤◌, length};
-ghost use Rattle.list_row.specs.Vertices.{rowBytes};
+ghost use Rattle.list_row.specs.Vertices.{row_bytes};
 ghost use Rattle.table_rules.specs.Table.{Sound};
 ghost use Rattle.call_judge.specs.Verdict.{Findings};
 ghost use Rattle.call_serve.specs.Serving.{Carried};
@@ -9,7 +9,7 @@ use call_judge::Verdict;
 
 // Changes the table as the book changes, at the record that was found.
 pub fn carry(t: &mut [u8], work: &mut [u8], v: Verdict)
-    requires { Sound t.old × Findings v t.old × (rowBytes ≤ length work.old) }
+    requires { Sound t.old × Findings v t.old × (row_bytes ≤ length work.old) }
     ensures { Carried v t.old t.new }
 {
     match v {

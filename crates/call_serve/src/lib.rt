@@ -3,12 +3,12 @@ pub mod carry;
 pub mod record;
 
 ghost use Rattle.std.specs.Prelude.{◌≡◌, ◌+◌, ◌≤◌, length};
-ghost use Rattle.list_row.specs.Vertices.{rowBytes};
+ghost use Rattle.list_row.specs.Vertices.{row_bytes};
 ghost use Rattle.table_rules.specs.Table.{Sound};
-ghost use Rattle.book.specs.Numbers.{reasonNumber};
-ghost use Rattle.demands.specs.Batch.{returns, returnOf};
-ghost use Rattle.book.specs.Reply.{recordSize};
-ghost use Rattle.call_judge.specs.Judged.{replyOf, RowOk};
+ghost use Rattle.book.specs.Numbers.{reason_number};
+ghost use Rattle.demands.specs.Batch.{returns, return_of};
+ghost use Rattle.book.specs.Reply.{record_size};
+ghost use Rattle.call_judge.specs.Judged.{reply_of, RowOk};
 ghost use Rattle.call_judge.specs.Verdict.{answer_of, Findings};
 ghost use Rattle.call_serve.specs.Serving.{Obeyed, Answered};
 
@@ -17,9 +17,9 @@ use call_judge::Verdict;
 
 // Writes the record of a verdict, and does what it says.
 fn obey(t: &mut [u8], work: &mut [u8], v: Verdict, report: &mut [u8], at: usize)
-    requires sound { Sound t.old × (rowBytes ≤ length work.old) }
+    requires sound { Sound t.old × (row_bytes ≤ length work.old) }
     requires findings { Findings v t.old × RowOk (answer_of v) t.old work.old
-        × (at + recordSize (replyOf (answer_of v) t.old work.old) ≤ length report.old) }
+        × (at + record_size (reply_of (answer_of v) t.old work.old) ≤ length report.old) }
     ensures { Obeyed v t.old work.old t.new
         report.old at report.new }
 {
@@ -30,7 +30,7 @@ fn obey(t: &mut [u8], work: &mut [u8], v: Verdict, report: &mut [u8], at: usize)
 
 // The result of a batch that ends here.
 fn ended(reason: Reason, used: usize, written: usize) -> BatchResult
-    ensures { returnOf result ≡ returns (reasonNumber reason) used written }
+    ensures { return_of result ≡ returns (reason_number reason) used written }
 {
     BatchResult {
         reason: reason,
@@ -41,7 +41,7 @@ fn ended(reason: Reason, used: usize, written: usize) -> BatchResult
 
 // Takes the commands in turn until one ends the batch.
 pub fn serve(t: &mut [u8], work: &mut [u8], commands: &[u8], report: &mut [u8]) -> BatchResult
-    requires { Sound t.old × (rowBytes ≤ length work.old) }
+    requires { Sound t.old × (row_bytes ≤ length work.old) }
     ensures { Answered commands.now t.old report.old
         result t.new report.new }
 {

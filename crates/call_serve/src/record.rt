@@ -1,8 +1,8 @@
 // An answer's record.
 ghost use Rattle.std.specs.Prelude.{◌≡◌, ◌+◌, ◌≤◌, length};
 ghost use Rattle.records.specs.Bytes.{write};
-ghost use Rattle.book.specs.Reply.{recordOf, recordSize};
-ghost use Rattle.call_judge.specs.Judged.{replyOf, RowOk};
+ghost use Rattle.book.specs.Reply.{record_of, record_size};
+ghost use Rattle.call_judge.specs.Judged.{reply_of, RowOk};
 ghost use Rattle.call_serve.specs.Serving.{Sized, Few};
 
 use call_judge::Answer;
@@ -22,9 +22,9 @@ pub fn size(a: Answer) -> usize
 // Writes it to the report from byte `at` on.
 pub fn put(t: &[u8], work: &[u8], a: Answer, report: &mut [u8], at: usize)
     requires { RowOk a t.now work.now
-        × (at + recordSize (replyOf a t.now work.now) ≤ length report.old) }
+        × (at + record_size (reply_of a t.now work.now) ≤ length report.old) }
     ensures { report.new
-        ≡ write report.old at (recordOf (replyOf a t.now work.now)) }
+        ≡ write report.old at (record_of (reply_of a t.now work.now)) }
 {
     match a {
         Answer::Done => call_record::put_done(report, at),

@@ -3,21 +3,21 @@
 use mathlib.Core.Path.{◌≡◌, refl}
 use native.Mathlib.Decide.{dec_le, dec_lt}
 use Rattle.words.specs.Words.{word_at}
-use Rattle.grid.specs.Position.{squaredDifference, distance}
-use Rattle.grid.specs.Coordinate.{fromWord, toWord}
-use Rattle.grid.specs.Side.{onTheRight?}
-use Rattle.grid.specs.Fraction.{gcdBy, gcdOf, lowest}
+use Rattle.grid.specs.Position.{squared_difference, distance}
+use Rattle.grid.specs.Coordinate.{from_word, to_word}
+use Rattle.grid.specs.Side.{on_the_right?}
+use Rattle.grid.specs.Fraction.{gcd_by, gcd_of, lowest}
 use Rattle.split.specs.SplitList.{rank}
-use Rattle.split.specs.SplitOf.{hides?, rightBelow?, under?, push, insert, build, splitOf}
-use Rattle.records.specs.ListRecord.{entryBytes, listBytes, recordBytes}
-use Rattle.book.specs.Book.{writeLine, strikeLine, move_line, holds, change, open_in, isClosed, openNumber, closeNumber}
-use Rattle.book.specs.Command.{form_of, parseAt}
+use Rattle.split.specs.SplitOf.{hides?, right_below?, under?, push, insert, build, split_of}
+use Rattle.records.specs.ListRecord.{entry_bytes, list_bytes, record_bytes}
+use Rattle.book.specs.Book.{write_line, strike_line, move_line, holds, change, open_in, is_closed, open_number, close_number}
+use Rattle.book.specs.Command.{form_of, parse_at}
 use Rattle.book.specs.Answer.{answer}
 use Rattle.book.specs.Run.{records, turn, run_from}
 use Rattle.demands.specs.Starred.{given, written}
-use Rattle.demands.specs.MarkLines.{markLines}
+use Rattle.demands.specs.MarkLines.{mark_lines}
 
 -- THE RECORDS OF MARKS
-pub mark-lines : given markLines ≡ written markLines
-unfolding records turn run_from parseAt form_of word_at fromWord toWord answer holds change writeLine open_in isClosed openNumber closeNumber strikeLine move_line splitOf build insert push hides? under? rightBelow? dec_le dec_lt distance squaredDifference rank onTheRight? lowest gcdOf gcdBy entryBytes listBytes recordBytes
-mark-lines = refl
+pub mark_lines_lem : given mark_lines ≡ written mark_lines
+unfolding records turn run_from parse_at form_of word_at from_word to_word answer holds change write_line open_in is_closed open_number close_number strike_line move_line split_of build insert push hides? under? right_below? dec_le dec_lt distance squared_difference rank on_the_right? lowest gcd_of gcd_by entry_bytes list_bytes record_bytes
+mark_lines_lem = refl

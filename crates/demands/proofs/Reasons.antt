@@ -6,26 +6,26 @@ use Prim.Native.Nat.{ℕ}
 use lib.Dec.{eqb}
 use Rattle.book.specs.declared.Reason.{Reason}
 use Rattle.book.specs.declared.Reason.TheVariants.{AllUsed, WrongLength, Broken, UnknownCommand, CutShort, NoRoom, BrokenStanding}
-use Rattle.book.specs.Numbers.{reasonNumber}
+use Rattle.book.specs.Numbers.{reason_number}
 
 -- the reason of a number
-reasonBy : ℕ → Reason
-reasonBy n =
+reason_by : ℕ → Reason
+reason_by n =
     cond (eqb n 0) AllUsed
     (cond (eqb n 64) WrongLength
     (cond (eqb n 65) Broken
     (cond (eqb n 66) UnknownCommand (cond (eqb n 67) CutShort (cond (eqb n 68) NoRoom BrokenStanding)))))
 
-reason-by : (x : Reason) → reasonBy (reasonNumber x) ≡ x
-unfolding reasonBy
-reason-by AllUsed = refl
-reason-by WrongLength = refl
-reason-by Broken = refl
-reason-by UnknownCommand = refl
-reason-by CutShort = refl
-reason-by NoRoom = refl
-reason-by BrokenStanding = refl
+reason_by_lem : (x : Reason) → reason_by (reason_number x) ≡ x
+unfolding reason_by
+reason_by_lem AllUsed = refl
+reason_by_lem WrongLength = refl
+reason_by_lem Broken = refl
+reason_by_lem UnknownCommand = refl
+reason_by_lem CutShort = refl
+reason_by_lem NoRoom = refl
+reason_by_lem BrokenStanding = refl
 
 -- ONE NUMBER, ONE REASON
-pub same-reason : (x y : Reason) → reasonNumber x ≡ reasonNumber y → x ≡ y
-same-reason x y e = sym (reason-by x) ∙ ap reasonBy e ∙ reason-by y
+pub same_reason : (x y : Reason) → reason_number x ≡ reason_number y → x ≡ y
+same_reason x y e = sym (reason_by_lem x) ∙ ap reason_by e ∙ reason_by_lem y

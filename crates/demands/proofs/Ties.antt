@@ -9,27 +9,27 @@ use Rattle.split.specs.SplitList.{Entry}
 use Rattle.split.specs.Ties.{TieAlong}
 use Rattle.book.specs.Book.{sites_of}
 use Rattle.book.specs.Reply.{listed}
-use Rattle.book.specs.Run.{Turn, afterAll}
-use Rattle.book.proofs.LegRecords.{EndOf, end-member}
-use Rattle.book.proofs.Lists.{shown-ends}
-use Rattle.table_rules.specs.Table.{bookOf}
+use Rattle.book.specs.Run.{Turn, after_all}
+use Rattle.book.proofs.LegRecords.{EndOf, end_member}
+use Rattle.book.proofs.Lists.{shown_ends}
+use Rattle.table_rules.specs.Table.{book_of}
 use Rattle.demands.specs.Whole.{Call}
 use Rattle.demands.specs.Demands.{Answers, Demand2}
 
 -- a list es that was answered, an entry of it, and a held site that ties with the entry's along the leg asked for
 module _ (t : List ℕ) (c : Call) (d : Demand2 t c) (past : List Turn) (u : Turn) (a : Answers t c past u) (es : List Entry) (r : u.reply ≡ listed es) (e : Entry) (m : Memᴰ e es)
-    (q : Site) (held : Memᴰ q (sites_of (afterAll (bookOf t) past))) (tie : TieAlong (d.right past u a es r).leg e.site q) where
+    (q : Site) (held : Memᴰ q (sites_of (after_all (book_of t) past))) (tie : TieAlong (d.right past u a es r).leg e.site q) where
   -- what is shown is an entry of the whole list
-  listed-whole : Memᴰ e (d.right past u a es r).whole
-  listed-whole =
+  listed_whole : Memᴰ e (d.right past u a es r).whole
+  listed_whole =
       let l = d.right past u a es r in
-      end-member es l.whole
-      (subst⁻¹ (λ (x : List Entry). EndOf x l.whole) l.shown (shown-ends (afterAll (bookOf t) past) u.command l.whole)) e m
+      end_member es l.whole
+      (subst⁻¹ (λ (x : List Entry). EndOf x l.whole) l.shown (shown_ends (after_all (book_of t) past) u.command l.whole)) e m
 
   -- "one on the right now comes before others"
-  pub right-listed : OnTheRight (d.right past u a es r).leg q.position → OnTheRight (d.right past u a es r).leg e.site.position
-  right-listed = ((d.right past u a es r).list.ties e listed-whole q held tie).side
+  pub right_listed : OnTheRight (d.right past u a es r).leg q.position → OnTheRight (d.right past u a es r).leg e.site.position
+  right_listed = ((d.right past u a es r).list.ties e listed_whole q held tie).side
 
   -- "then the lower number"
-  pub lower-listed : (OnTheRight (d.right past u a es r).leg e.site.position → OnTheRight (d.right past u a es r).leg q.position) → e.site.number ≤ q.number
-  lower-listed = ((d.right past u a es r).list.ties e listed-whole q held tie).number
+  pub lower_listed : (OnTheRight (d.right past u a es r).leg e.site.position → OnTheRight (d.right past u a es r).leg q.position) → e.site.number ≤ q.number
+  lower_listed = ((d.right past u a es r).list.ties e listed_whole q held tie).number

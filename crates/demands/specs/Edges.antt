@@ -3,9 +3,9 @@
 -- Assumes nothing.
 use Rattle.std.specs.Prelude.{List, [], ◌∷◌, ◌++◌, ℕ, ◌-◌}
 use Rattle.records.specs.Bytes.{bytes2}
-use Rattle.book.specs.Book.{emptyBook}
+use Rattle.book.specs.Book.{empty_book}
 use Rattle.book.specs.Run.{records, run}
-use Rattle.demands.specs.Starred.{oneEntry, sinceBytes}
+use Rattle.demands.specs.Starred.{one_entry, since_bytes}
 
 -- the word of a number below zero: "two signed 16-bit numbers"
 abbrev pub negative : ℕ → ℕ
@@ -21,8 +21,8 @@ middle = position 0 0
 
 -- every command that has a position: site 7 is added at p and moved to it, then come legs from p and to p, standing
 -- legs from p and to p, a tour that begins at p, and a tour from the middle to p (C-13)
-abbrev pub commandsAt : List ℕ → List ℕ
-commandsAt p =
+abbrev pub commands_at : List ℕ → List ℕ
+commands_at p =
     (0x41 ∷ bytes2 7 ++ p)
     ++ (0x4D ∷ bytes2 7 ++ p)
     ++ (0x4C ∷ p ++ middle)
@@ -36,8 +36,8 @@ commandsAt p =
 -- on the grid each is accepted, or lists site 7
 abbrev pub taken : List ℕ
 taken =
-    0x2B ∷ 0x2B ∷ oneEntry (sinceBytes 7 0 1) ++ oneEntry (sinceBytes 7 0 1)
-    ++ (0x2B ∷ 0x2B ∷ 0x2B ∷ 0x2B ∷ oneEntry (sinceBytes 7 0 1))
+    0x2B ∷ 0x2B ∷ one_entry (since_bytes 7 0 1) ++ one_entry (since_bytes 7 0 1)
+    ++ (0x2B ∷ 0x2B ∷ 0x2B ∷ 0x2B ∷ one_entry (since_bytes 7 0 1))
 
 -- off it each gets 2; the tour from the middle does begin
 abbrev pub refused2 : List ℕ
@@ -54,8 +54,8 @@ corners n =
     position n n ∷ position (negative n) n ∷ position n (negative n) ∷ position (negative n) (negative n) ∷ []
 
 -- the records that the book gives to these commands, from laying out on
-abbrev pub answersAt : List ℕ → List ℕ
-answersAt p = records (run (commandsAt p) 1000 emptyBook).turns
+abbrev pub answers_at : List ℕ → List ℕ
+answers_at p = records (run (commands_at p) 1000 empty_book).turns
 
 -- the same records four times
 abbrev pub four : List ℕ → List (List ℕ)

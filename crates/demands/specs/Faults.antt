@@ -5,30 +5,30 @@
 use Rattle.std.specs.Prelude.{◌≡◌, ◌≢◌, true, false, cond, ℕ, ◌+◌, ◌*◌, ◌≤◌, ◌<◌, length, get_or}
 use Rattle.std.proofs.Math.Option.{none, some}
 use mathlib.Core.List.{List, [], Memᴰ}
-use Rattle.limits.specs.Limits.{gridWidth, workBytes}
-use Rattle.words.specs.Words.{word_at, putWord}
+use Rattle.limits.specs.Limits.{grid_width, work_bytes}
+use Rattle.words.specs.Words.{word_at, put_word}
 use Rattle.grid.specs.declared.Leg.{Leg}
 use Rattle.grid.specs.Position.{LegOnGrid}
-use Rattle.split.specs.SplitOf.{splitOf}
-use Rattle.records.specs.ListRecord.{recordBytes}
-use Rattle.book.specs.Book.{sites_of, holds, isClosed, standingList}
-use Rattle.table_header.specs.Layout.{flagStart, legStart, lengthStart, layoutStart, layoutNumber}
-use Rattle.table_header.specs.Header.{countIn, legIn, lengthIn}
+use Rattle.split.specs.SplitOf.{split_of}
+use Rattle.records.specs.ListRecord.{record_bytes}
+use Rattle.book.specs.Book.{sites_of, holds, is_closed, standing_list}
+use Rattle.table_header.specs.Layout.{flag_start, leg_start, length_start, layout_start, layout_number}
+use Rattle.table_header.specs.Header.{count_in, leg_in, length_in}
 use Rattle.table_sites.specs.Lines.{closed_in}
 use Rattle.table_sites.specs.Rules.{SitesOk}
-use Rattle.table_standing.specs.Layout.{listStart}
-use Rattle.table_standing.specs.Standing.{standingIn, storedNumber, numbersOf}
+use Rattle.table_standing.specs.Layout.{list_start}
+use Rattle.table_standing.specs.Standing.{standing_in, stored_number, numbers_of}
 use Rattle.tree_node.specs.declared.NodeEntry.{NodeEntry}
-use Rattle.tree_node.specs.Header.{rootIn}
+use Rattle.tree_node.specs.Header.{root_in}
 use Rattle.tree_node.specs.Node.{entries}
-use Rattle.tree_rules.specs.Rooted.{leavesIn}
+use Rattle.tree_rules.specs.Rooted.{leaves_in}
 use Rattle.tree_check.specs.Tied.{Tied}
 use Rattle.table_empty.specs.EmptyTable.{zeros}
-use Rattle.table_rules.specs.Table.{bookOf, StandingOk}
+use Rattle.table_rules.specs.Table.{book_of, StandingOk}
 use Rattle.table_rules.specs.Counted.{TreeCounted}
-use Rattle.demands.specs.Batch.{returns, lengthsOk}
-use Rattle.demands.specs.Whole.{Call, MadeOn, Ran, bookOfRun, Asks, HasRoom, WroteReport}
-use Rattle.demands.specs.Demands.{RefusedWith, FreshOf, list4C}
+use Rattle.demands.specs.Batch.{returns, lengths_ok}
+use Rattle.demands.specs.Whole.{Call, MadeOn, Ran, book_of_run, Asks, HasRoom, WroteReport}
+use Rattle.demands.specs.Demands.{RefusedWith, FreshOf, list4_c}
 use Rattle.demands.specs.TourRules.{BreaksTour}
 
 -- ---- each way to break a rule
@@ -38,39 +38,39 @@ pub data BreaksWhole (t : List ℕ) : Type 0 where
   -- "a rule on sites (number 0 or held twice, position off the grid, over 512)"
   sites : ¬ SitesOk t → BreaksWhole t
   -- another layout's number
-  other-layout : word_at t layoutStart ≢ layoutNumber → BreaksWhole t
+  other_layout : word_at t layout_start ≢ layout_number → BreaksWhole t
   -- a flag of the standing leg that is neither 0 nor 1
-  other-flag : 1 < word_at t flagStart → BreaksWhole t
+  other_flag : 1 < word_at t flag_start → BreaksWhole t
   -- a coordinate without a standing leg
-  not-zero : legIn t ≡ none → (i : ℕ) → legStart ≤ i → i < lengthStart → get_or t i 0 ≢ 0 → BreaksWhole t
+  not_zero : leg_in t ≡ none → (i : ℕ) → leg_start ≤ i → i < length_start → get_or t i 0 ≢ 0 → BreaksWhole t
   -- C-13's rules
   tour : BreaksTour t → BreaksWhole t
   -- "a tree rule"
   tree : ¬ Tied t → BreaksWhole t
   -- C-19: in the record of a site, a mark that is neither that of an open one, 0, nor that of a closed one, 1
-  mark : (k : ℕ) → k < countIn t → 1 < word_at t (64 + 8 * k + 6) → BreaksWhole t
+  mark : (k : ℕ) → k < count_in t → 1 < word_at t (64 + 8 * k + 6) → BreaksWhole t
   -- a leaf entry that has not 1 for an open site, or not 0 for a closed one
-  leaf-number : (e : NodeEntry) → Memᴰ e (leavesIn t) → e.opens ≢ cond (isClosed e.reference (closed_in t)) 0 1
+  leaf_number : (e : NodeEntry) → Memᴰ e (leaves_in t) → e.opens ≢ cond (is_closed e.reference (closed_in t)) 0 1
       → BreaksWhole t
   -- C-20: "A wrong stored number counts as a broken tree rule under 65", in any entry
-  entry-number : ¬ TreeCounted (entries t) (rootIn t) → BreaksWhole t
+  entry_number : ¬ TreeCounted (entries t) (root_in t) → BreaksWhole t
   -- and that of the root
-  root-number : word_at t 5718 ≢ length (sites_of (bookOf t)) → BreaksWhole t
+  root_number : word_at t 5718 ≢ length (sites_of (book_of t)) → BreaksWhole t
 
 -- what gets 69 in a table that keeps all of those: one of these is enough
 pub data BreaksStanding (t : List ℕ) : Type 0 where
   -- "a standing leg off the grid"
-  off-grid : (l : Leg) → legIn t ≡ some l → ¬ LegOnGrid l → BreaksStanding t
+  off_grid_lem : (l : Leg) → leg_in t ≡ some l → ¬ LegOnGrid l → BreaksStanding t
   -- a list without a standing leg
-  legless : legIn t ≡ none → lengthIn t ≢ 0 → BreaksStanding t
+  legless : leg_in t ≡ none → length_in t ≢ 0 → BreaksStanding t
   -- "the standing list is empty while none is" open (C-19)
-  siteless : sites_of (bookOf t) ≡ [] → lengthIn t ≢ 0 → BreaksStanding t
+  siteless : sites_of (book_of t) ≡ [] → length_in t ≢ 0 → BreaksStanding t
   -- more entries than sites, and so any length past 512
-  too_long : length (sites_of (bookOf t)) < lengthIn t → BreaksStanding t
+  too_long : length (sites_of (book_of t)) < length_in t → BreaksStanding t
   -- a number of a site that is not held, or closed
-  not-held : (i : ℕ) → i < lengthIn t → holds (storedNumber t i) (sites_of (bookOf t)) ≡ false → BreaksStanding t
+  not_held : (i : ℕ) → i < length_in t → holds (stored_number t i) (sites_of (book_of t)) ≡ false → BreaksStanding t
   -- any other list than that of the leg
-  other-list : standingIn t ≢ numbersOf (standingList (bookOf t)) → BreaksStanding t
+  other_list : standing_in t ≢ numbers_of (standing_list (book_of t)) → BreaksStanding t
 
 -- A TABLE OF ANOTHER LAYOUT: each release writes the number of its layout at byte 14, and this one 3
 abbrev pub OtherLayout : List ℕ → Type 0
@@ -82,23 +82,23 @@ OtherLayout t = word_at t 14 ≢ 3
 -- as with 65"
 abbrev pub AllRefused : ℕ → List ℕ → Type 0
 AllRefused n t =
-    (c : Call) (t' : List ℕ) → MadeOn t c t' → lengthsOk t c.work ≡ true
-    → (c.result ≡ returns n 0 0) × (t' ≡ t) × (c.workAfter ≡ zeros workBytes) × (c.reportAfter ≡ c.report)
+    (c : Call) (t' : List ℕ) → MadeOn t c t' → lengths_ok t c.work ≡ true
+    → (c.result ≡ returns n 0 0) × (t' ≡ t) × (c.work_after ≡ zeros work_bytes) × (c.report_after ≡ c.report)
 
 -- ONE WORD OF THE STANDING LEG OR LIST WRITTEN OVER in a sound table, and what every call says then
 pub record OneWord (t : List ℕ) : Type 0 where
   -- the length of the list, by any other
-  pub length-word : (n : ℕ) → n ≢ lengthIn t → AllRefused 69 (putWord t lengthStart n)
+  pub length_word : (n : ℕ) → n ≢ length_in t → AllRefused 69 (put_word t length_start n)
   -- a number of the list, by any other
-  pub list-word : (i n : ℕ) → i < lengthIn t → n ≢ storedNumber t i → AllRefused 69 (putWord t (listStart + 2 * i) n)
+  pub list_word : (i n : ℕ) → i < length_in t → n ≢ stored_number t i → AllRefused 69 (put_word t (list_start + 2 * i) n)
   -- one of the four coordinates of the leg, by one off the grid
-  pub leg-word : legIn t ≢ none → (k n : ℕ) → k < 4 → gridWidth < n → AllRefused 69 (putWord t (legStart + 2 * k) n)
+  pub leg_word : leg_in t ≢ none → (k n : ℕ) → k < 4 → grid_width < n → AllRefused 69 (put_word t (leg_start + 2 * k) n)
   -- one of them where there is no leg, by any other
-  pub zero_word : legIn t ≡ none → (k n : ℕ) → k < 4 → n ≢ 0 → AllRefused 65 (putWord t (legStart + 2 * k) n)
+  pub zero_word : leg_in t ≡ none → (k n : ℕ) → k < 4 → n ≢ 0 → AllRefused 65 (put_word t (leg_start + 2 * k) n)
   -- the flag of the leg, by another than 0 and 1
-  pub flag_word : (n : ℕ) → 1 < n → AllRefused 65 (putWord t flagStart n)
+  pub flag_word : (n : ℕ) → 1 < n → AllRefused 65 (put_word t flag_start n)
   -- and so with a wrong length beside it: 65 comes first
-  pub both_words : (n k : ℕ) → n ≢ lengthIn t → 1 < k → AllRefused 65 (putWord (putWord t lengthStart n) flagStart k)
+  pub both_words : (n k : ℕ) → n ≢ length_in t → 1 < k → AllRefused 65 (put_word (put_word t length_start n) flag_start k)
 
 -- ---- "if the sites can still be read"
 
@@ -107,22 +107,22 @@ pub record OneWord (t : List ℕ) : Type 0 where
 -- and leave the table v
 pub record SitesRead (t : List ℕ) : Type 0 where
   -- all are accepted: the new table holds just the sites of the old, with their marks
-  pub mended : (fs : List Call) (v : List ℕ) → Ran fs v → FreshOf (bookOf t) fs
-      → ((bookOfRun fs).lines ≡ (bookOf t).lines) × ((bookOfRun fs).closed ≡ (bookOf t).closed)
+  pub mended : (fs : List Call) (v : List ℕ) → Ran fs v → FreshOf (book_of t) fs
+      → ((book_of_run fs).lines ≡ (book_of t).lines) × ((book_of_run fs).closed ≡ (book_of t).closed)
   -- and lists what it should
-  pub lists : (fs : List Call) (v : List ℕ) → Ran fs v → FreshOf (bookOf t) fs
-      → (l : Leg) → LegOnGrid l → sites_of (bookOf t) ≢ []
-      → (c : Call) (v' : List ℕ) → Asks v (list4C l) c v' → HasRoom c (recordBytes (splitOf l (sites_of (bookOf t))))
-      → WroteReport c (recordBytes (splitOf l (sites_of (bookOf t)))) × (v' ≡ v)
+  pub lists : (fs : List Call) (v : List ℕ) → Ran fs v → FreshOf (book_of t) fs
+      → (l : Leg) → LegOnGrid l → sites_of (book_of t) ≢ []
+      → (c : Call) (v' : List ℕ) → Asks v (list4_c l) c v' → HasRoom c (record_bytes (split_of l (sites_of (book_of t))))
+      → WroteReport c (record_bytes (split_of l (sites_of (book_of t)))) × (v' ≡ v)
 
 -- A FAULT in the standing leg and list of a table that the calls cs left made u of it
 pub record FaultTold (cs : List Call) (u : List ℕ) : Type 0 where
   -- the sites, their marks and the tour are those of the calls still
-  pub sites : ((bookOf u).lines ≡ (bookOfRun cs).lines) × ((bookOf u).closed ≡ (bookOfRun cs).closed)
-  pub tour : (bookOf u).tour ≡ (bookOfRun cs).tour
+  pub sites : ((book_of u).lines ≡ (book_of_run cs).lines) × ((book_of u).closed ≡ (book_of_run cs).closed)
+  pub tour : (book_of u).tour ≡ (book_of_run cs).tour
   -- they can be read
   pub read : SitesRead u
   -- 65 never comes, whatever the leg and the list are now; 69 comes where they are wrong
   pub not65 : (c : Call) (u' : List ℕ) → MadeOn u c u' → c.result.reason ≢ 65
-  pub refused : (c : Call) (u' : List ℕ) → MadeOn u c u' → lengthsOk u c.work ≡ true → ¬ StandingOk u
+  pub refused : (c : Call) (u' : List ℕ) → MadeOn u c u' → lengths_ok u c.work ≡ true → ¬ StandingOk u
       → RefusedWith 69 u c u'

@@ -5,12 +5,12 @@ use Rattle.words.specs.Words.{Only}
 use Rattle.book.specs.declared.Command.{Command}
 use Rattle.book.specs.declared.Command.TheVariants.{Add, Remove, Move, List as ListOf, Stand, Print}
 use Rattle.book.specs.declared.Command.TheVariants.{Begin, Corner, Close, Open}
-use Rattle.book.specs.Book.{Book, isClosed, change}
+use Rattle.book.specs.Book.{Book, is_closed, change}
 use Rattle.book.specs.Reply.{Reply, done, refused, listed}
 use Rattle.book.specs.Answer.{reads}
 use Rattle.book.specs.Run.{Turn}
-use Rattle.table_header.specs.Layout.{tourStart, tourEnd}
-use Rattle.table_rules.specs.Table.{Sound, bookOf}
+use Rattle.table_header.specs.Layout.{tour_start, tour_end}
+use Rattle.table_rules.specs.Table.{Sound, book_of}
 
 -- t is a sound table of the book b. Which bytes it has is the program's choice: the shape of the tree, its node ids
 -- and the order of entries and of free nodes, the bytes that docs/LAYOUT.md calls free, records and words past a
@@ -18,7 +18,7 @@ use Rattle.table_rules.specs.Table.{Sound, bookOf}
 -- (`Alike`).
 pub record Holds (t : List ℕ) (b : Book) : Type 0 where
   pub sound : Sound t
-  pub book : bookOf t ≡ b
+  pub book : book_of t ≡ b
 
 -- a 58 of a closed site, or a 4F of an open one: document 02, C-19, "doing either twice is accepted"; the second time
 -- it changes no mark
@@ -31,8 +31,8 @@ repeats b (Stand l) = false
 repeats b Print = false
 repeats b (Begin p) = false
 repeats b (Corner p) = false
-repeats b (Close n) = isClosed n b.closed
-repeats b (Open n) = not (isClosed n b.closed)
+repeats b (Close n) = is_closed n b.closed
+repeats b (Open n) = not (is_closed n b.closed)
 
 -- a command that was refused, or that changes nothing in the book b, keeps the table
 abbrev pub keeps : Book → Command → Reply → Bool
@@ -60,12 +60,12 @@ tours (Open n) = false
 
 -- it changes no byte but those of the tour in the header
 abbrev pub TourAlone : Bool → List ℕ → List ℕ → Type 0
-TourAlone true t t' = Only tourStart tourEnd t t'
+TourAlone true t t' = Only tour_start tour_end t t'
 TourAlone false t t' = Unit {0}
 
 -- what the command does: it leaves every byte, or a sound table of the changed book; 42 and 43 write the tour alone
 abbrev pub Step : List ℕ → Command → Reply → List ℕ → Type 0
-Step t c y t' = Left (keeps (bookOf t) c y) t (change c (bookOf t)) t' × TourAlone (tours c) t t'
+Step t c y t' = Left (keeps (book_of t) c y) t (change c (book_of t)) t' × TourAlone (tours c) t t'
 
 -- "table as the commands before it left it": the commands that got a record, one after the other
 pub data Chain : List ℕ → List Turn → List ℕ → Type 0 where

@@ -7,20 +7,20 @@ use Rattle.words.specs.Words.{word_at}
 use Rattle.grid.specs.Position.{OnGrid}
 use Rattle.book.specs.Tour.{Tour}
 use Rattle.book.specs.Book.{sites_of, holds}
-use Rattle.table_header.specs.Layout.{tourStart, cornerStart, tourEnd, keptStart, keptEnd}
-use Rattle.table_header.specs.Header.{tourIn}
-use Rattle.table_rules.specs.Table.{bookOf}
+use Rattle.table_header.specs.Layout.{tour_start, corner_start, tour_end, kept_start, kept_end}
+use Rattle.table_header.specs.Header.{tour_in}
+use Rattle.table_rules.specs.Table.{book_of}
 
 -- one of these is enough
 pub data BreaksTour (t : List ℕ) : Type 0 where
   -- "a stored corner off the grid"
-  off-grid : (k : Tour) → tourIn t ≡ some k → ¬ OnGrid k.corner → BreaksTour t
+  off_grid_lem : (k : Tour) → tour_in t ≡ some k → ¬ OnGrid k.corner → BreaksTour t
   -- "a remembered site that isn't held", or "that is closed" (C-19)
-  not-held : (k : Tour) (n : ℕ) → tourIn t ≡ some k → k.last ≡ some n → holds n (sites_of (bookOf t)) ≡ false
+  not_held : (k : Tour) (n : ℕ) → tour_in t ≡ some k → k.last ≡ some n → holds n (sites_of (book_of t)) ≡ false
       → BreaksTour t
   -- a flag that is neither 0 nor 1
-  other-flag : 1 < word_at t tourStart → BreaksTour t
+  other_flag : 1 < word_at t tour_start → BreaksTour t
   -- a corner or a number without a tour
-  not-zero : tourIn t ≡ none → (i : ℕ) → cornerStart ≤ i → i < tourEnd → get_or t i 0 ≢ 0 → BreaksTour t
+  not_zero : tour_in t ≡ none → (i : ℕ) → corner_start ≤ i → i < tour_end → get_or t i 0 ≢ 0 → BreaksTour t
   -- what is kept for later is not 0
-  not-kept : (i : ℕ) → keptStart ≤ i → i < keptEnd → get_or t i 0 ≢ 0 → BreaksTour t
+  not_kept : (i : ℕ) → kept_start ≤ i → i < kept_end → get_or t i 0 ≢ 0 → BreaksTour t

@@ -1,12 +1,12 @@
 -- A whole list of batch calls on a table just laid out, and the site book beside it. Document 01, "The site book".
 -- Assumes nothing.
 use Rattle.std.specs.Prelude.{◌≡◌, List, [], ◌∷◌, ◌++◌, map, ℕ, ◌≤◌, length, take}
-use Rattle.limits.specs.Limits.{workBytes}
-use Rattle.book.specs.Numbers.{reasonNumber}
-use Rattle.book.specs.Book.{Book, emptyBook}
-use Rattle.book.specs.Filling.{Fill, fillBytes}
+use Rattle.limits.specs.Limits.{work_bytes}
+use Rattle.book.specs.Numbers.{reason_number}
+use Rattle.book.specs.Book.{Book, empty_book}
+use Rattle.book.specs.Filling.{Fill, fill_bytes}
 use Rattle.book.specs.Run.{Outcome, records, call}
-use Rattle.book.specs.Listener.{Exchange, hearRecords, commandsIn}
+use Rattle.book.specs.Listener.{Exchange, hear_records, commands_in}
 use Rattle.demands.specs.Batch.{Return, Batch, LaidOut}
 
 -- a batch call as it was made and as it returned
@@ -15,12 +15,12 @@ pub record Call : Type 0 where
   pub commands : List ℕ
   pub report : List ℕ
   pub result : Return
-  pub workAfter : List ℕ
-  pub reportAfter : List ℕ
+  pub work_after : List ℕ
+  pub report_after : List ℕ
 
 -- the call was made on the table t and left the table t'
 abbrev pub MadeOn : List ℕ → Call → List ℕ → Type 0
-MadeOn t c t' = Batch t c.work c.commands c.report c.result t' c.workAfter c.reportAfter
+MadeOn t c t' = Batch t c.work c.commands c.report c.result t' c.work_after c.report_after
 
 -- "Each call gets the table as the call before left it, the first as laid out, and nobody else writes it meanwhile."
 pub data Made : List ℕ → List Call → List ℕ → Type 0 where
@@ -48,7 +48,7 @@ said c =
       reason = c.result.reason;
       used = c.result.used;
       written = c.result.written;
-      bytes = take c.result.written c.reportAfter;
+      bytes = take c.result.written c.report_after;
     }
 
 -- "It is fed each batch call's command bytes and the lengths of its work and report buffers, and nothing that the
@@ -63,49 +63,49 @@ abbrev pub asked : Call → Ask
 asked c = record { work = length c.work; commands = c.commands; room = length c.report }
 
 -- how the book takes a call where a work buffer of n bytes is asked for
-abbrev pub takenAsking : ℕ → Ask → Book → Outcome
-takenAsking n a b = call n a.work a.commands a.room b
+abbrev pub taken_asking : ℕ → Ask → Book → Outcome
+taken_asking n a b = call n a.work a.commands a.room b
 
 -- how it takes a call. Document 02, C-21: "with 64 tested against that"
 abbrev pub taken : Ask → Book → Outcome
-taken a b = takenAsking workBytes a b
+taken a b = taken_asking work_bytes a b
 
 -- what the book says
-abbrev pub saidBy : Outcome → Said
-saidBy o =
+abbrev pub said_by : Outcome → Said
+said_by o =
     record {
-      reason = reasonNumber o.reason;
+      reason = reason_number o.reason;
       used = o.used;
       written = length (records o.turns);
       bytes = records o.turns;
     }
 
 -- what the book says to a list of calls where a work buffer of n bytes is asked for
-unfoldable pub repliesAsking : ℕ → Book → List Ask → List Said
-repliesAsking n b [] = []
-repliesAsking n b (a ∷ more) = saidBy (takenAsking n a b) ∷ repliesAsking n (takenAsking n a b).book more
+unfoldable pub replies_asking : ℕ → Book → List Ask → List Said
+replies_asking n b [] = []
+replies_asking n b (a ∷ more) = said_by (taken_asking n a b) ∷ replies_asking n (taken_asking n a b).book more
 
 -- what it says to a list of calls
 abbrev pub replies : Book → List Ask → List Said
-replies b asks = repliesAsking workBytes b asks
+replies b asks = replies_asking work_bytes b asks
 
 -- the book after a list of calls
-unfoldable pub bookAfter : Book → List Ask → Book
-bookAfter b [] = b
-bookAfter b (a ∷ more) = bookAfter (taken a b).book more
+unfoldable pub book_after : Book → List Ask → Book
+book_after b [] = b
+book_after b (a ∷ more) = book_after (taken a b).book more
 
 -- the book after the calls, from laying out on
-abbrev pub bookOfRun : List Call → Book
-bookOfRun cs = bookAfter emptyBook (map asked cs)
+abbrev pub book_of_run : List Call → Book
+book_of_run cs = book_after empty_book (map asked cs)
 
 -- what a listener hears of a call: the commands in the bytes that it used, and the records that it wrote, read back
-abbrev pub heardIn : Call → List Exchange
-heardIn c = hearRecords (commandsIn c.commands c.result.used) (said c).bytes
+abbrev pub heard_in : Call → List Exchange
+heard_in c = hear_records (commands_in c.commands c.result.used) (said c).bytes
 
 -- of a list of calls, one after the other
-unfoldable pub heardOfRun : List Call → List Exchange
-heardOfRun [] = []
-heardOfRun (c ∷ cs) = heardIn c ++ heardOfRun cs
+unfoldable pub heard_of_run : List Call → List Exchange
+heard_of_run [] = []
+heard_of_run (c ∷ cs) = heard_in c ++ heard_of_run cs
 
 -- "given a 41 for each line of the book, in any order and any batches with room for the records"; C-19: "for each
 -- closed line of the book, a 58 after its 41": the asks are these commands and nothing else, with a work buffer of the
@@ -113,14 +113,14 @@ heardOfRun (c ∷ cs) = heardIn c ++ heardOfRun cs
 pub data Filled : List Ask → List Fill → Type 0 where
   none : Filled [] []
   next : {a : Ask} {asks : List Ask} {more : List Fill} (s : List Fill)
-      → a.work ≡ workBytes → a.commands ≡ fillBytes s → length s ≤ a.room
+      → a.work ≡ work_bytes → a.commands ≡ fill_bytes s → length s ≤ a.room
       → Filled asks more → Filled (a ∷ asks) (s ++ more)
 
 -- the call on the table t is just these command bytes, with a work buffer of the right length, and leaves t'
 pub record Asks (t bytes : List ℕ) (c : Call) (t' : List ℕ) : Type 0 where
   pub made : MadeOn t c t'
   pub commands : c.commands ≡ bytes
-  pub work : length c.work ≡ workBytes
+  pub work : length c.work ≡ work_bytes
 
 -- "with room enough": the record fits
 abbrev pub HasRoom : Call → List ℕ → Type 0

@@ -11,12 +11,12 @@ use lib.IntN.{ℤ, pos, negsuc, neg_ℤ, sub_ℕ, ◌+ℤ◌, ◌-ℤ◌, ◌*�
 use lib.Signed.{◌<ℤ◌, lt_z_yes}
 use mir.Syntax.{w16}
 use mir.Val.{sel, to_z}
-use Rattle.limits.specs.Limits.{halfWidth, gridWidth}
+use Rattle.limits.specs.Limits.{half_width, grid_width}
 use Rattle.grid.specs.declared.Position.{Position}
 use Rattle.grid.specs.declared.Leg.{Leg}
 use Rattle.grid.specs.Position.{OnGrid}
-use Rattle.grid.specs.Coordinate.{fromWord, wordPosition}
-use Rattle.grid.specs.Side.{crossPlus, crossMinus, OnTheRight, crossProduct, signed_of, signedWords, wayBack}
+use Rattle.grid.specs.Coordinate.{from_word, word_position}
+use Rattle.grid.specs.Side.{cross_plus, cross_minus, OnTheRight, cross_product, signed_of, signed_words, way_back}
 
 -- the product of two words
 pub words_product : (x y : ℕ) → x < 65536 → y < 65536 → x * y < 2 ^ 32
@@ -68,24 +68,24 @@ multiplied : {y z : ℤ} {a b c d : ℕ} → Difference y a b → Difference z c
 multiplied {y} {z} h k = record { is = times y z _ _ _ _ h.is k.is }
 
 -- "is below zero"
-below-zero : (z : ℤ) (a b : ℕ) → IsLess z a b → (z <ℤ pos 0 → a < b) × (a < b → z <ℤ pos 0)
-below-zero (pos n) a b h = (λ l. absurd (omega (arith, ltb→lt n 0 l.lt)), λ l. absurd (omega arith))
-below-zero (negsuc n) a b h = (λ l. omega arith, λ l. lt_z_yes tt)
+below_zero : (z : ℤ) (a b : ℕ) → IsLess z a b → (z <ℤ pos 0 → a < b) × (a < b → z <ℤ pos 0)
+below_zero (pos n) a b h = (λ l. absurd (omega (arith, ltb→lt n 0 l.lt)), λ l. absurd (omega arith))
+below_zero (negsuc n) a b h = (λ l. omega arith, λ l. lt_z_yes tt)
 
 -- a coordinate, counted from the grid's middle
-counted : (x : ℕ) → Difference (pos x -ℤ pos halfWidth) x halfWidth
-counted x = record { is = natural x halfWidth }
+counted : (x : ℕ) → Difference (pos x -ℤ pos half_width) x half_width
+counted x = record { is = natural x half_width }
 
 -- the difference of two coordinates
-across : (x y : ℕ) → Difference ((pos x -ℤ pos halfWidth) -ℤ (pos y -ℤ pos halfWidth)) (x + halfWidth) (halfWidth + y)
+across : (x y : ℕ) → Difference ((pos x -ℤ pos half_width) -ℤ (pos y -ℤ pos half_width)) (x + half_width) (half_width + y)
 across x y = subtracted (counted x) (counted y)
 
 -- a difference is one integer
-one-difference : (y z : ℤ) (a b : ℕ) → IsLess y a b → IsLess z a b → y ≡ z
-one-difference (pos m) (pos n) a b h k = ap pos (omega arith)
-one-difference (pos m) (negsuc n) a b h k = absurd (omega arith)
-one-difference (negsuc m) (pos n) a b h k = absurd (omega arith)
-one-difference (negsuc m) (negsuc n) a b h k = ap negsuc (omega arith)
+one_difference : (y z : ℤ) (a b : ℕ) → IsLess y a b → IsLess z a b → y ≡ z
+one_difference (pos m) (pos n) a b h k = ap pos (omega arith)
+one_difference (pos m) (negsuc n) a b h k = absurd (omega arith)
+one_difference (negsuc m) (pos n) a b h k = absurd (omega arith)
+one_difference (negsuc m) (negsuc n) a b h k = ap negsuc (omega arith)
 
 whole : (x : ℕ) → Difference (pos x) x 0
 whole x = record { is = omega arith }
@@ -95,42 +95,42 @@ written : (x y : ℕ) → Difference (pos x -ℤ pos y) (x + 0) (0 + y)
 written x y = subtracted (whole x) (whole y)
 
 -- THE CROSS PRODUCT multiplied out is the difference of the two sides
-pub cross-is : (l : Leg) (p : Position)
-    → crossProduct (signed_of l.s) (signed_of l.e) (signed_of p) ≡ pos (crossPlus l p) -ℤ pos (crossMinus l p)
-cross-is l p =
+pub cross_is : (l : Leg) (p : Position)
+    → cross_product (signed_of l.s) (signed_of l.e) (signed_of p) ≡ pos (cross_plus l p) -ℤ pos (cross_minus l p)
+cross_is l p =
     let first = multiplied (across l.e.east l.s.east) (across p.north l.s.north) in
     let second = multiplied (across l.e.north l.s.north) (across p.east l.s.east) in
-    let z = crossProduct (signed_of l.s) (signed_of l.e) (signed_of p) in
-    one-difference z _ (crossPlus l p + 0) (0 + crossMinus l p)
-    (same z _ _ _ _ (subtracted first second).is (omega arith)) (written (crossPlus l p) (crossMinus l p)).is
+    let z = cross_product (signed_of l.s) (signed_of l.e) (signed_of p) in
+    one_difference z _ (cross_plus l p + 0) (0 + cross_minus l p)
+    (same z _ _ _ _ (subtracted first second).is (omega arith)) (written (cross_plus l p) (cross_minus l p)).is
 
 -- RIGHT OF THE LEG exactly where the cross product "is below zero"
-pub right-by-cross : (l : Leg) (p : Position)
-    → (OnTheRight l p → crossProduct (signed_of l.s) (signed_of l.e) (signed_of p) <ℤ pos 0)
-    × (crossProduct (signed_of l.s) (signed_of l.e) (signed_of p) <ℤ pos 0 → OnTheRight l p)
+pub right_by_cross : (l : Leg) (p : Position)
+    → (OnTheRight l p → cross_product (signed_of l.s) (signed_of l.e) (signed_of p) <ℤ pos 0)
+    × (cross_product (signed_of l.s) (signed_of l.e) (signed_of p) <ℤ pos 0 → OnTheRight l p)
 unfolding OnTheRight
-right-by-cross l p =
-    let b = below-zero (pos (crossPlus l p) -ℤ pos (crossMinus l p)) _ _ (written (crossPlus l p) (crossMinus l p)).is in (
-      λ h. subst⁻¹ (λ (z : ℤ). z <ℤ pos 0) (cross-is l p) (b.1 (omega arith)),
-      λ h. let k = b.0 (subst (λ (z : ℤ). z <ℤ pos 0) (cross-is l p) h) in omega arith,
+right_by_cross l p =
+    let b = below_zero (pos (cross_plus l p) -ℤ pos (cross_minus l p)) _ _ (written (cross_plus l p) (cross_minus l p)).is in (
+      λ h. subst⁻¹ (λ (z : ℤ). z <ℤ pos 0) (cross_is l p) (b.1 (omega arith)),
+      λ h. let k = b.0 (subst (λ (z : ℤ). z <ℤ pos 0) (cross_is l p) h) in omega arith,
     )
 
 -- a coordinate on the grid is the signed number that its word stands for
-word-is : (w : ℕ) → w < 65536 → fromWord w ≤ gridWidth → IsLess (to_z w16 w) (fromWord w) halfWidth
-unfolding fromWord
-word-is w h k = go (ltb w (2 ^ 15)) (λ t. ltb→lt w (2 ^ 15) t) (λ t. nltb→le w (2 ^ 15) t)
+word_is : (w : ℕ) → w < 65536 → from_word w ≤ grid_width → IsLess (to_z w16 w) (from_word w) half_width
+unfolding from_word
+word_is w h k = go (ltb w (2 ^ 15)) (λ t. ltb→lt w (2 ^ 15) t) (λ t. nltb→le w (2 ^ 15) t)
   where
     go : (t : Bool) → (T t → w < 2 ^ 15) → (T (not t) → 2 ^ 15 ≤ w)
-        → IsLess (sel t (pos w) (negsuc (2 ^ 16 - suc w))) ((w + halfWidth) % 65536) halfWidth
+        → IsLess (sel t (pos w) (negsuc (2 ^ 16 - suc w))) ((w + half_width) % 65536) half_width
     go true f g = let l = f tt in omega arith
     go false f g = let l = g tt in omega arith
 
-signed_word : (w : ℕ) → w < 65536 → fromWord w ≤ gridWidth → pos (fromWord w) -ℤ pos halfWidth ≡ to_z w16 w
-signed_word w h k = one-difference _ _ (fromWord w) halfWidth (natural (fromWord w) halfWidth) (word-is w h k)
+signed_word : (w : ℕ) → w < 65536 → from_word w ≤ grid_width → pos (from_word w) -ℤ pos half_width ≡ to_z w16 w
+signed_word w h k = one_difference _ _ (from_word w) half_width (natural (from_word w) half_width) (word_is w h k)
 
 -- A POSITION ON THE GRID, counted from its middle, has the signed numbers of its words
-pub signed-words : (e n : ℕ) → e < 65536 → n < 65536 → OnGrid (wordPosition e n) → signed_of (wordPosition e n) ≡ signedWords e n
-signed-words e n he hn g = λ i. record { east = signed_word e he g.east i; north = signed_word n hn g.north i }
+pub signed_words_lem : (e n : ℕ) → e < 65536 → n < 65536 → OnGrid (word_position e n) → signed_of (word_position e n) ≡ signed_words e n
+signed_words_lem e n he hn g = λ i. record { east = signed_word e he g.east i; north = signed_word n hn g.north i }
 
 -- nothing is on the right of a leg of no length
 pub no_length : (p q : Position) → OnTheRight (record { s = p; e = p }) q → ⊥
@@ -138,6 +138,6 @@ unfolding OnTheRight
 no_length p q h = omega arith
 
 -- what is on the right is not on the right of the leg turned round
-pub turned_round : (l : Leg) (p : Position) → OnTheRight l p → OnTheRight (wayBack l) p → ⊥
+pub turned_round : (l : Leg) (p : Position) → OnTheRight l p → OnTheRight (way_back l) p → ⊥
 unfolding OnTheRight
 turned_round l p h k = omega arith

@@ -5,16 +5,16 @@ use mathlib.Core.Logic.{◌⊎◌, inl, inr}
 use Prim.Native.Nat.{ℕ, zero, suc, ◌+◌, ◌*◌, ◌-◌, ◌/◌, ◌%◌, ◌≤◌, ◌<◌}
 use native.Mathlib.Omega.{arith}
 use native.Mathlib.Nat.{div-add-mod, mod-lt}
-use Rattle.grid.specs.Fraction.{Divides, IsGcd, gcdBy, gcdOf}
+use Rattle.grid.specs.Fraction.{Divides, IsGcd, gcd_by, gcd_of}
 use Rattle.grid.specs.Euclid.{NearestRest}
-use Rattle.grid.proofs.Order.{cancel-le}
+use Rattle.grid.proofs.Order.{cancel_le}
 
 -- k a factor of n and of n + d is one of d
-pub rest-factor : (n d k a b : ℕ) → n ≡ k * a → n + d ≡ k * b → d ≡ k * (b - a)
-rest-factor n d zero a b ea eb = omega arith
-rest-factor n d (suc k) a b ea eb =
+pub rest_factor : (n d k a b : ℕ) → n ≡ k * a → n + d ≡ k * b → d ≡ k * (b - a)
+rest_factor n d zero a b ea eb = omega arith
+rest_factor n d (suc k) a b ea eb =
     let h : suc k * a ≤ suc k * b = omega arith in
-    let le : a ≤ b = cancel-le a b (suc k) (omega arith) (omega arith) in
+    let le : a ≤ b = cancel_le a b (suc k) (omega arith) (omega arith) in
     go (b - a) (omega arith)
   where
     go : (c : ℕ) → b ≡ a + c → d ≡ suc k * c
@@ -22,11 +22,11 @@ rest-factor n d (suc k) a b ea eb =
         let f : suc k * b ≡ suc k * (a + c) = ap (λ (x : ℕ). suc k * x) e in
         omega arith
 
-pub factor-one : (k b : ℕ) → 1 ≡ k * b → k ≡ 1
-factor-one zero b e = omega arith
-factor-one (suc zero) b e = refl
-factor-one (suc (suc k)) zero e = omega arith
-factor-one (suc (suc k)) (suc b) e = absurd (omega arith)
+pub factor_one : (k b : ℕ) → 1 ≡ k * b → k ≡ 1
+factor_one zero b e = omega arith
+factor_one (suc zero) b e = refl
+factor_one (suc (suc k)) zero e = omega arith
+factor_one (suc (suc k)) (suc b) e = absurd (omega arith)
 
 -- the two pairs have the same common factors
 pub record SameFactors (a b x y : ℕ) : Type 0 where
@@ -46,7 +46,7 @@ sum : (k n m : ℕ) → Divides k n → Divides k m → Divides k (n + m)
 sum k n m h g = record { times = h.times + g.times; is = omega (arith, h.is, g.is) }
 
 rest : (k n m : ℕ) → Divides k n → Divides k (n + m) → Divides k m
-rest k n m h g = record { times = g.times - h.times; is = rest-factor n m k h.times g.times h.is g.is }
+rest k n m h g = record { times = g.times - h.times; is = rest_factor n m k h.times g.times h.is g.is }
 
 pub same : (a b : ℕ) → SameFactors a b a b
 same a b = record { to = λ k x y. (x, y); back = λ k x y. (x, y) }
@@ -68,8 +68,8 @@ missing a b y r h s =
       back = λ k p q. s.back k p (rest k (y - r) r q (rw f p));
     }
 
-pub step-near : (a b x y r : ℕ) → 0 < y → NearestRest x y r → SameFactors a b x y → SameFactors a b y r
-step-near a b x y r h q s = go q.either (step a b x y s)
+pub step_near : (a b x y r : ℕ) → 0 < y → NearestRest x y r → SameFactors a b x y → SameFactors a b y r
+step_near a b x y r h q s = go q.either (step a b x y s)
   where
     go : (r ≡ x % y) ⊎ (r ≡ y - x % y) → SameFactors a b y (x % y) → SameFactors a b y r
     go (inl e) f = rw e f
@@ -77,26 +77,26 @@ step-near a b x y r h q s = go q.either (step a b x y s)
 
 -- the returns of `nearest_rest`
 module _ (x y : ℕ) (h : 0 < y) where
-  pub rest-near : NearestRest x y (x % y)
-  rest-near = record { below = mod-lt x {m = y} h; either = inl refl }
+  pub rest_near : NearestRest x y (x % y)
+  rest_near = record { below = mod-lt x {m = y} h; either = inl refl }
 
-  pub missing-near : y - x % y < x % y → NearestRest x y (y - x % y)
-  missing-near l = record { below = omega (arith, mod-lt x {m = y} h); either = inr refl }
+  pub missing_near : y - x % y < x % y → NearestRest x y (y - x % y)
+  missing_near l = record { below = omega (arith, mod-lt x {m = y} h); either = inr refl }
 
 pub done : (a b x : ℕ) → SameFactors a b x 0 → IsGcd a b x
 done a b x h =
     let d = h.back x (itself x) (nothing x) in
     record { left = d.0; right = d.1; greatest = λ k p q. (h.to k p q).0 }
 
-gcd-by : (k a b x y : ℕ) → y ≤ k → SameFactors a b x y → IsGcd a b (gcdBy k x y)
-unfolding gcdBy
-gcd-by zero a b x y h s = let e : y ≡ 0 = omega arith in done a b x (rw e at s)
-gcd-by (suc k) a b x zero h s = done a b x s
-gcd-by (suc k) a b x (suc y) h s = gcd-by k a b (suc y) (x % suc y) (omega (arith, mod-lt x {m = suc y} (omega arith))) (step a b x (suc y) s)
+gcd_by_lem : (k a b x y : ℕ) → y ≤ k → SameFactors a b x y → IsGcd a b (gcd_by k x y)
+unfolding gcd_by
+gcd_by_lem zero a b x y h s = let e : y ≡ 0 = omega arith in done a b x (rw e at s)
+gcd_by_lem (suc k) a b x zero h s = done a b x s
+gcd_by_lem (suc k) a b x (suc y) h s = gcd_by_lem k a b (suc y) (x % suc y) (omega (arith, mod-lt x {m = suc y} (omega arith))) (step a b x (suc y) s)
 
-pub gcd-is : (a b : ℕ) → IsGcd a b (gcdOf a b)
-unfolding gcdOf
-gcd-is a b = gcd-by b a b a b (omega arith) (same a b)
+pub gcd_is : (a b : ℕ) → IsGcd a b (gcd_of a b)
+unfolding gcd_of
+gcd_is a b = gcd_by_lem b a b a b (omega arith) (same a b)
 
 antisym : (g h s t : ℕ) → h ≡ g * s → g ≡ h * t → g ≡ h
 antisym g h zero t e f = let z : h ≡ 0 = omega arith in omega (arith, rw z at f)
@@ -104,15 +104,15 @@ antisym g h (suc s) zero e f = let z : g ≡ 0 = omega arith in omega (arith, rw
 antisym g h (suc s) (suc t) e f = omega arith
 
 -- there is one greatest common factor
-pub gcd-one : (a b g : ℕ) → IsGcd a b g → g ≡ gcdOf a b
-gcd-one a b g h =
-    let k = gcd-is a b in
+pub gcd_one : (a b g : ℕ) → IsGcd a b g → g ≡ gcd_of a b
+gcd_one a b g h =
+    let k = gcd_is a b in
     let to = k.greatest g h.left h.right in
-    let back = h.greatest (gcdOf a b) k.left k.right in
-    antisym g (gcdOf a b) to.times back.times to.is back.is
+    let back = h.greatest (gcd_of a b) k.left k.right in
+    antisym g (gcd_of a b) to.times back.times to.is back.is
 
 -- in either order
-pub gcd-flip : (a b : ℕ) → gcdOf b a ≡ gcdOf a b
-gcd-flip a b =
-    let k = gcd-is b a in
-    gcd-one a b (gcdOf b a) (record { left = k.right; right = k.left; greatest = λ d p q. k.greatest d q p })
+pub gcd_flip : (a b : ℕ) → gcd_of b a ≡ gcd_of a b
+gcd_flip a b =
+    let k = gcd_is b a in
+    gcd_one a b (gcd_of b a) (record { left = k.right; right = k.left; greatest = λ d p q. k.greatest d q p })

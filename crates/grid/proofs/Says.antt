@@ -6,13 +6,13 @@ use Rattle.grid.specs.declared.Leg.{Leg}
 use Rattle.grid.specs.Position.{OnGrid, LegOnGrid}
 use Rattle.grid.specs.Says.{Says}
 
-pub says-yes : {A : Type 0} (q : Bool) → Says q A → q ≡ true → A
-says-yes true s e = s
-says-yes false s e = absurd (true≢false (sym e))
+pub says_yes : {A : Type 0} (q : Bool) → Says q A → q ≡ true → A
+says_yes true s e = s
+says_yes false s e = absurd (true≢false (sym e))
 
-pub says-no : {A : Type 0} (q : Bool) → Says q A → q ≡ false → ¬ A
-says-no true s e = absurd (true≢false e)
-says-no false s e = s
+pub says_no : {A : Type 0} (q : Bool) → Says q A → q ≡ false → ¬ A
+says_no true s e = absurd (true≢false e)
+says_no false s e = s
 
 -- the same answer to a question of the same meaning
 pub says_map : {A B : Type 0} (q : Bool) → (A → B) → (B → A) → Says q A → Says q B
@@ -20,9 +20,9 @@ says_map true f g s = f s
 says_map false f g s = λ b. s (g b)
 
 -- a leg, whose start is on the grid: its end decides
-pub leg-both : (l : Leg) (q r : Bool) → Says q (OnGrid l.s) → q ≡ true → Says r (OnGrid l.e) → Says r (LegOnGrid l)
-leg-both l q r s e t = says_map r (λ x. record { s = says-yes q s e; e = x }) (λ x. x.e) t
+pub leg_both : (l : Leg) (q r : Bool) → Says q (OnGrid l.s) → q ≡ true → Says r (OnGrid l.e) → Says r (LegOnGrid l)
+leg_both l q r s e t = says_map r (λ x. record { s = says_yes q s e; e = x }) (λ x. x.e) t
 
 -- a leg whose start is off it
-pub leg-not : (l : Leg) (q : Bool) → Says q (OnGrid l.s) → q ≡ false → ¬ LegOnGrid l
-leg-not l q s e x = says-no q s e x.s
+pub leg_not : (l : Leg) (q : Bool) → Says q (OnGrid l.s) → q ≡ false → ¬ LegOnGrid l
+leg_not l q s e x = says_no q s e x.s

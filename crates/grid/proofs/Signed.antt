@@ -3,28 +3,28 @@
 use mathlib.Core.Path.{◌≡◌}
 use Prim.Native.Nat.{ℕ, ◌+◌, ◌-◌, ◌≤◌, ◌<◌}
 use native.Mathlib.Omega.{arith}
-use Rattle.limits.specs.Limits.{halfWidth, gridWidth}
-use Rattle.grid.specs.Coordinate.{fromWord, toWord}
+use Rattle.limits.specs.Limits.{half_width, grid_width}
+use Rattle.grid.specs.Coordinate.{from_word, to_word}
 
 -- a word from 0 up: east or north of the grid's middle
-pub positive-word : (w : ℕ) → w < 32768 → fromWord w ≡ halfWidth + w
-unfolding fromWord
-positive-word w h = omega arith
+pub positive_word : (w : ℕ) → w < 32768 → from_word w ≡ half_width + w
+unfolding from_word
+positive_word w h = omega arith
 
 -- ON THE GRID exactly up to 12,000
-pub positive-on-grid : (w : ℕ) → w < 32768 → (fromWord w ≤ gridWidth → w ≤ halfWidth) × (w ≤ halfWidth → fromWord w ≤ gridWidth)
-positive-on-grid w h = (λ k. omega (arith, positive-word w h), λ k. omega (arith, positive-word w h))
+pub positive_on_grid : (w : ℕ) → w < 32768 → (from_word w ≤ grid_width → w ≤ half_width) × (w ≤ half_width → from_word w ≤ grid_width)
+positive_on_grid w h = (λ k. omega (arith, positive_word w h), λ k. omega (arith, positive_word w h))
 
 -- ON THE GRID exactly down to -12,000
-pub negative-on-grid : (w : ℕ) → 32768 ≤ w → w < 65536 → (fromWord w ≤ gridWidth → 65536 - w ≤ halfWidth) × (65536 - w ≤ halfWidth → fromWord w ≤ gridWidth)
-unfolding fromWord
-negative-on-grid w h k = (λ g. omega arith, λ g. omega arith)
+pub negative_on_grid : (w : ℕ) → 32768 ≤ w → w < 65536 → (from_word w ≤ grid_width → 65536 - w ≤ half_width) × (65536 - w ≤ half_width → from_word w ≤ grid_width)
+unfolding from_word
+negative_on_grid w h k = (λ g. omega arith, λ g. omega arith)
 
 -- the word of a coordinate stands for it
-pub word_of : (x : ℕ) → x < 65536 → fromWord (toWord x) ≡ x
-unfolding fromWord toWord
+pub word_of : (x : ℕ) → x < 65536 → from_word (to_word x) ≡ x
+unfolding from_word to_word
 word_of x h = omega arith
 
-pub word_back : (w : ℕ) → w < 65536 → toWord (fromWord w) ≡ w
-unfolding fromWord toWord
+pub word_back : (w : ℕ) → w < 65536 → to_word (from_word w) ≡ w
+unfolding from_word to_word
 word_back w h = omega arith

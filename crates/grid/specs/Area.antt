@@ -5,7 +5,7 @@
 -- (section 4): the sum over the axes of |p - r|², for a point p, a box from s to t, and r by three cases.
 -- Assumes nothing.
 use Rattle.std.specs.Prelude.{cond, ℕ, ◌+◌, ◌*◌, ◌-◌, ◌≤◌, ltb}
-use Rattle.limits.specs.Limits.{gridWidth}
+use Rattle.limits.specs.Limits.{grid_width}
 use Rattle.grid.specs.declared.Position.{Position}
 use Rattle.grid.specs.declared.Area.{Area}
 
@@ -20,8 +20,8 @@ pub record Inside (b : Area) (p : Position) : Type 0 where
 pub record AreaOnGrid (b : Area) : Type 0 where
   pub across : b.west ≤ b.east
   pub up : b.south ≤ b.north
-  pub east : b.east ≤ gridWidth
-  pub north : b.north ≤ gridWidth
+  pub east : b.east ≤ grid_width
+  pub north : b.north ≤ grid_width
 
 -- |p - r| on one axis, where r is s if p < s, t if p > t, and p otherwise. Here s and t are lo and hi, p is x.
 unfoldable pub outside : ℕ → ℕ → ℕ → ℕ
@@ -31,22 +31,22 @@ outside lo hi x =
     0)  -- within it
 
 -- MINDIST: the squared distance of a position from a box
-unfoldable pub areaDistance : Area → Position → ℕ
-areaDistance b q =
+unfoldable pub area_distance : Area → Position → ℕ
+area_distance b q =
     outside b.west b.east q.east * outside b.west b.east q.east
     + outside b.south b.north q.north * outside b.south b.north q.north
 
 -- r itself on one axis, by the same cases
-unfoldable pub nearestOn : ℕ → ℕ → ℕ → ℕ
-nearestOn lo hi x =
+unfoldable pub nearest_on : ℕ → ℕ → ℕ → ℕ
+nearest_on lo hi x =
     cond (ltb x lo) lo  -- below the box
     (cond (ltb hi x) hi  -- above it
     x)  -- within it
 
 -- r on both axes: the position in the box that is exactly so far from q
-unfoldable pub nearestIn : Area → Position → Position
-nearestIn b q =
+unfoldable pub nearest_in : Area → Position → Position
+nearest_in b q =
     record {
-      east = nearestOn b.west b.east q.east;
-      north = nearestOn b.south b.north q.north;
+      east = nearest_on b.west b.east q.east;
+      north = nearest_on b.south b.north q.north;
     }

@@ -14,9 +14,9 @@ divisor_of zero = 1
 divisor_of (suc y) = suc y
 
 -- what a step puts in the place of x: y, or x itself once y is 0
-unfoldable pub keptOf : ℕ → ℕ → ℕ
-keptOf x zero = x
-keptOf x (suc y) = suc y
+unfoldable pub kept_of : ℕ → ℕ → ℕ
+kept_of x zero = x
+kept_of x (suc y) = suc y
 
 -- a step of Euclid's rule leads from x and y to u and v; once y is 0, it changes nothing
 pub record Stepped (x y u v : ℕ) : Type 0 where

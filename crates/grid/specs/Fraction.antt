@@ -23,12 +23,12 @@ abbrev pub Reduced : Fraction → Type 0
 Reduced t = (k a b : ℕ) → t.num ≡ k * a → t.den ≡ k * b → k ≡ 1
 
 -- "zero is 0/1"
-abbrev pub zeroFraction : Fraction
-zeroFraction = record { num = 0; den = 1 }
+abbrev pub zero_fraction : Fraction
+zero_fraction = record { num = 0; den = 1 }
 
 -- the end of a leg
-abbrev pub oneFraction : Fraction
-oneFraction = record { num = 1; den = 1 }
+abbrev pub one_fraction : Fraction
+one_fraction = record { num = 1; den = 1 }
 
 -- k divides n
 pub record Divides (k n : ℕ) : Type 0 where
@@ -45,20 +45,20 @@ pub record IsGcd (a b r : ℕ) : Type 0 where
 pub record IsLowest (n d : ℕ) (f : Fraction) : Type 0 where
   pub by : ℕ
   pub positive : 1 ≤ by
-  pub num-is : n ≡ by * f.num
-  pub den-is : d ≡ by * f.den
+  pub num_is : n ≡ by * f.num
+  pub den_is : d ≡ by * f.den
   pub reduced : Reduced f
 
 -- Euclid's rule, in at most k steps
-unfoldable pub gcdBy : ℕ → ℕ → ℕ → ℕ
-gcdBy zero a b = a
-gcdBy (suc k) a zero = a
-gcdBy (suc k) a (suc b) = gcdBy k (suc b) (a % suc b)
+unfoldable pub gcd_by : ℕ → ℕ → ℕ → ℕ
+gcd_by zero a b = a
+gcd_by (suc k) a zero = a
+gcd_by (suc k) a (suc b) = gcd_by k (suc b) (a % suc b)
 
 -- the greatest common factor
-unfoldable pub gcdOf : ℕ → ℕ → ℕ
-gcdOf a b = gcdBy b a b
+unfoldable pub gcd_of : ℕ → ℕ → ℕ
+gcd_of a b = gcd_by b a b
 
 -- n / d without common factor, computed
 unfoldable pub lowest : ℕ → ℕ → Fraction
-lowest n d = record { num = n / gcdOf n d; den = d / gcdOf n d }
+lowest n d = record { num = n / gcd_of n d; den = d / gcd_of n d }

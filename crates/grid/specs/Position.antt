@@ -3,15 +3,15 @@
 -- and `Leg` are the code's own structs (src/lib.rt).
 -- Assumes nothing.
 use Rattle.std.specs.Prelude.{ℕ, ◌+◌, ◌*◌, ◌-◌, ◌≤◌}
-use Rattle.limits.specs.Limits.{gridWidth}
+use Rattle.limits.specs.Limits.{grid_width}
 use Rattle.grid.specs.declared.Position.{Position}
 use Rattle.grid.specs.declared.Leg.{Leg}
 
 -- "A position is a pair (easting, northing) of whole numbers"; document 02, C-12: "Coordinates run from -12,000 to
 -- 12,000"
 pub record OnGrid (p : Position) : Type 0 where
-  pub east : p.east ≤ gridWidth
-  pub north : p.north ≤ gridWidth
+  pub east : p.east ≤ grid_width
+  pub north : p.north ≤ grid_width
 
 -- "A leg runs from S to E; both are positions"
 pub record LegOnGrid (l : Leg) : Type 0 where
@@ -19,9 +19,9 @@ pub record LegOnGrid (l : Leg) : Type 0 where
   pub e : OnGrid l.e
 
 -- the square of the difference of two numbers
-unfoldable pub squaredDifference : ℕ → ℕ → ℕ
-squaredDifference a b = ((a - b) + (b - a)) * ((a - b) + (b - a))
+unfoldable pub squared_difference : ℕ → ℕ → ℕ
+squared_difference a b = ((a - b) + (b - a)) * ((a - b) + (b - a))
 
 -- "Distance is compared squared: the sum of the two squared differences."
 unfoldable pub distance : Position → Position → ℕ
-distance p q = squaredDifference p.east q.east + squaredDifference p.north q.north
+distance p q = squared_difference p.east q.east + squared_difference p.north q.north

@@ -1,6 +1,6 @@
 // Coordinates of commands, which are signed 16-bit numbers, and the test of what is on the grid.
 ghost use Rattle.std.specs.Prelude.{◌≡◌};
-ghost use Rattle.grid.specs.Coordinate.{fromWord};
+ghost use Rattle.grid.specs.Coordinate.{from_word};
 ghost use Rattle.grid.specs.Position.{OnGrid, LegOnGrid};
 ghost use Rattle.grid.specs.Says.{Says};
 
@@ -8,7 +8,7 @@ use crate::{Leg, Position};
 
 // The coordinate that a signed 16-bit word stands for.
 pub fn from_word(w: u16) -> u16
-    ensures { result ≡ fromWord w }
+    ensures { result ≡ from_word w }
 {
     let sum = w as u32 + limits::HALF_WIDTH as u32;
     (sum % 65536) as u16

@@ -1,8 +1,8 @@
 // Squared distances, of two positions and of a position from a box.
 ghost use Rattle.std.specs.Prelude.{◌≡◌, ◌+◌, ◌*◌, ◌-◌, ◌≤◌};
-ghost use Rattle.limits.specs.Limits.{gridWidth, maxSquare, maxDistance};
-ghost use Rattle.grid.specs.Position.{OnGrid, squaredDifference, distance};
-ghost use Rattle.grid.specs.Area.{AreaOnGrid, outside, areaDistance};
+ghost use Rattle.limits.specs.Limits.{grid_width, max_square, max_distance};
+ghost use Rattle.grid.specs.Position.{OnGrid, squared_difference, distance};
+ghost use Rattle.grid.specs.Area.{AreaOnGrid, outside, area_distance};
 
 use crate::{Area, Position};
 
@@ -15,8 +15,8 @@ fn apart(x: u64, y: u64) -> u64
 
 // The square of the difference of two coordinates.
 fn squared_difference(x: u16, y: u16) -> u64
-    requires { (x ≤ gridWidth) × (y ≤ gridWidth) }
-    ensures { (result ≡ squaredDifference x y) × (result ≤ maxSquare) }
+    requires { (x ≤ grid_width) × (y ≤ grid_width) }
+    ensures { (result ≡ squared_difference x y) × (result ≤ max_square) }
 {
     let d = apart(x as u64, y as u64);
     d * d
@@ -25,7 +25,7 @@ fn squared_difference(x: u16, y: u16) -> u64
 // The squared distance of two positions.
 pub fn between(p: Position, q: Position) -> u64
     requires { OnGrid p × OnGrid q }
-    ensures { (result ≡ distance p q) × (result ≤ maxDistance) }
+    ensures { (result ≡ distance p q) × (result ≤ max_distance) }
 {
     let across = squared_difference(p.east, q.east);
     let up = squared_difference(p.north, q.north);
@@ -51,8 +51,8 @@ fn outside(lo: u16, hi: u16, x: u16) -> u64
 
 // The square of `outside`.
 fn squared_outside(lo: u16, hi: u16, x: u16) -> u64
-    requires { (lo ≤ hi) × (hi ≤ gridWidth) × (x ≤ gridWidth) }
-    ensures { (result ≡ outside lo hi x * outside lo hi x) × (result ≤ maxSquare) }
+    requires { (lo ≤ hi) × (hi ≤ grid_width) × (x ≤ grid_width) }
+    ensures { (result ≡ outside lo hi x * outside lo hi x) × (result ≤ max_square) }
 {
     let d = outside(lo, hi, x);
     d * d
@@ -61,7 +61,7 @@ fn squared_outside(lo: u16, hi: u16, x: u16) -> u64
 // The squared distance of a position from a box: MINDIST of the published definition.
 pub fn from_area(b: Area, q: Position) -> u64
     requires { AreaOnGrid b × OnGrid q }
-    ensures { (result ≡ areaDistance b q) × (result ≤ maxDistance) }
+    ensures { (result ≡ area_distance b q) × (result ≤ max_distance) }
 {
     let across = squared_outside(b.west, b.east, q.east);
     let up = squared_outside(b.south, b.north, q.north);

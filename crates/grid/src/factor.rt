@@ -1,7 +1,7 @@
 // Fractions without common factor.
 ghost use Rattle.std.specs.Prelude.{◌≡◌, ◌+◌, ◌^◌, ◌<◌};
-ghost use Rattle.grid.specs.Fraction.{gcdOf, lowest};
-ghost use Rattle.grid.specs.Euclid.{NearestRest, Stepped, divisor_of, keptOf};
+ghost use Rattle.grid.specs.Fraction.{gcd_of, lowest};
+ghost use Rattle.grid.specs.Euclid.{NearestRest, Stepped, divisor_of, kept_of};
 
 use crate::Fraction;
 
@@ -18,7 +18,7 @@ fn nearest_rest(x: u64, y: u64) -> u64
 // The greatest common factor, by Euclid's rule with the nearest multiple: that takes a third fewer divisions than the
 // multiple below.
 pub fn gcd(a: u64, b: u64) -> u64
-    ensures { result ≡ gcdOf a b }
+    ensures { result ≡ gcd_of a b }
 {
     let mut x = a;
     let mut y = b;
@@ -32,7 +32,7 @@ pub fn gcd(a: u64, b: u64) -> u64
 
 // n / d, divided by the greatest common factor f.
 fn divided(n: u64, d: u64, f: u64) -> Fraction
-    requires { (0 < d) × (f ≡ gcdOf d n) }
+    requires { (0 < d) × (f ≡ gcd_of d n) }
     ensures { result ≡ lowest n d }
 {
     let num = n / f;
@@ -72,7 +72,7 @@ fn divisor_of(y: u64) -> u64
 
 // What a step leaves of x: all of it after the end.
 fn kept_of(x: u64, y: u64) -> u64
-    ensures { result ≡ keptOf x y }
+    ensures { result ≡ kept_of x y }
 {
     if y == 0 { x } else { y }
 }
@@ -92,7 +92,7 @@ fn step(p: Pair) -> Pair
 // wait.
 fn gcd_two(a: Pair, b: Pair) -> Pair
     requires { a.y + b.y < 2 ^ 64 }
-    ensures { (result.x ≡ gcdOf a.x a.y) × (result.y ≡ gcdOf b.x b.y) }
+    ensures { (result.x ≡ gcd_of a.x a.y) × (result.y ≡ gcd_of b.x b.y) }
 {
     let mut p = a;
     let mut q = b;

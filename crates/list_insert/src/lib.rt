@@ -8,7 +8,7 @@ ghost use Rattle.grid.specs.Says.{Says};
 ghost use Rattle.split.specs.Hull.{Under};
 ghost use Rattle.split.specs.SplitOf.{Hides};
 ghost use Rattle.list_row.specs.Places.{HasSite};
-ghost use Rattle.list_row.specs.Vertices.{pointAt, IsVertex, placeAt, vertexIn, stack, Held, Cut};
+ghost use Rattle.list_row.specs.Vertices.{point_at, IsVertex, place_at, vertex_in, stack, Held, Cut};
 ghost use Rattle.list_insert.specs.Insertion.{RowRoom, BendsInHand, Placed, Stays, Tangent, Between};
 ghost use Rattle.list_insert.specs.Insertion.{BelowChord, Spliced, Inserted};
 
@@ -20,7 +20,7 @@ fn hides(t: &[u8], leg: Leg, u: Vertex, x: Vertex) -> bool
     requires vertex { IsVertex leg t.now u.place u × HasSite t.now u.place }
     requires vertex_2 { IsVertex leg t.now x.place x × HasSite t.now x.place }
     ensures { Says result
-        (Hides (pointAt leg t.now u.place) (pointAt leg t.now x.place)) }
+        (Hides (point_at leg t.now u.place) (point_at leg t.now x.place)) }
 {
     if x.c < u.c {
         return false;
@@ -51,9 +51,9 @@ fn bends(s: Vertex, u: Vertex, x: Vertex) -> bool
 // Whether x may stand on the first j, of which u is the last.
 fn stands(t: &[u8], row: &[u8], leg: Leg, j: usize, u: Vertex, x: Vertex) -> bool
     requires held { Held leg t.now row.now j × LegOnGrid leg × (0 < j) }
-    requires vertex { IsVertex leg t.now (placeAt row.now (j - 1)) u × IsVertex leg t.now x.place x }
+    requires vertex { IsVertex leg t.now (place_at row.now (j - 1)) u × IsVertex leg t.now x.place x }
     ensures { Says result
-        (Under (pointAt leg t.now x.place) (stack leg t.now row.now j)) }
+        (Under (point_at leg t.now x.place) (stack leg t.now row.now j)) }
 {
     if x.a <= u.a {
         return false;
@@ -80,7 +80,7 @@ fn place(t: &[u8], row: &[u8], leg: Leg, k: usize, x: Vertex) -> Spot
     requires held { Held leg t.now row.now k × LegOnGrid leg }
     requires vertex { IsVertex leg t.now x.place x × HasSite t.now x.place }
     ensures within { result.on ≤ k }
-    ensures placed { Placed (pointAt leg t.now x.place)
+    ensures placed { Placed (point_at leg t.now x.place)
         (stack leg t.now row.now k) result.add
         (stack leg t.now row.now result.on) }
 {
@@ -101,9 +101,9 @@ fn place(t: &[u8], row: &[u8], leg: Leg, k: usize, x: Vertex) -> Spot
 // Whether the vertex at i, which is right of x, stays behind it: it lies below x, and the breakpoints rise.
 fn stays(t: &[u8], row: &[u8], leg: Leg, k: usize, i: usize, x: Vertex) -> bool
     requires held { Held leg t.now row.now k × LegOnGrid leg × (i < k) }
-    requires vertex { IsVertex leg t.now x.place x × (x.a < (vertexIn leg t.now row.now i).a) }
+    requires vertex { IsVertex leg t.now x.place x × (x.a < (vertex_in leg t.now row.now i).a) }
     ensures { Says result
-        (Stays leg t.now row.now k (pointAt leg t.now x.place) i) }
+        (Stays leg t.now row.now k (point_at leg t.now x.place) i) }
 {
     let u = list_row::vertex_in(t, row, leg, k, i);
     if x.c <= u.c {
@@ -121,7 +121,7 @@ fn stays(t: &[u8], row: &[u8], leg: Leg, k: usize, i: usize, x: Vertex) -> bool
 fn right_tangent(t: &[u8], row: &[u8], leg: Leg, k: usize, n: usize, x: Vertex) -> usize
     requires { Held leg t.now row.now k × LegOnGrid leg × IsVertex leg t.now x.place x
         × Cut leg t.now row.now k x.a n }
-    ensures { Tangent leg t.now row.now k n (pointAt leg t.now x.place) result }
+    ensures { Tangent leg t.now row.now k n (point_at leg t.now x.place) result }
 {
     let mut i = n;
     while i < k {
@@ -138,9 +138,9 @@ fn right_tangent(t: &[u8], row: &[u8], leg: Leg, k: usize, n: usize, x: Vertex) 
 fn below_chord(t: &[u8], row: &[u8], leg: Leg, k: usize, j: usize, i: usize, x: Vertex) -> bool
     requires held { Held leg t.now row.now k × LegOnGrid leg × (j ≤ k) × (i ≤ k) }
     requires vertex { IsVertex leg t.now x.place x
-        × Between leg t.now row.now k j i (pointAt leg t.now x.place) }
+        × Between leg t.now row.now k j i (point_at leg t.now x.place) }
     ensures { Says result
-        (BelowChord leg t.now row.now k j i (pointAt leg t.now x.place)) }
+        (BelowChord leg t.now row.now k j i (point_at leg t.now x.place)) }
 {
     if j == 0 {
         return true;
@@ -185,7 +185,7 @@ pub fn insert(t: &[u8], work: &mut [u8], leg: Leg, k: usize, n: usize, x: Vertex
     requires held { Held leg t.now work.old k × LegOnGrid leg × RowRoom k work.old
         × Cut leg t.now work.old k x.a n }
     requires vertex { IsVertex leg t.now x.place x × HasSite t.now x.place }
-    ensures { Inserted leg t.now work.old k (pointAt leg t.now x.place)
+    ensures { Inserted leg t.now work.old k (point_at leg t.now x.place)
         work.new result }
 {
     let spot = place(t, work, leg, n, x);

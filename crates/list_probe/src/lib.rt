@@ -1,11 +1,11 @@
 // One call for tests: the record of the list of a leg over an array of site records, built with no tree.
 ghost use Rattle.std.specs.Prelude.{◌*◌, ◌≤◌, length};
-ghost use Rattle.limits.specs.Limits.{maxSites};
+ghost use Rattle.limits.specs.Limits.{max_sites};
 ghost use Rattle.grid.specs.Position.{LegOnGrid};
 ghost use Rattle.grid.specs.Says.{Says};
-ghost use Rattle.list_row.specs.Vertices.{rowBytes};
-ghost use Rattle.list_probe.specs.SiteArray.{probeBytes, sitesFrom, HasSites, Built};
-ghost use Rattle.list_probe.specs.Probing.{Orderly, Buildable, Written, legOf, Probed};
+ghost use Rattle.list_row.specs.Vertices.{row_bytes};
+ghost use Rattle.list_probe.specs.SiteArray.{probe_bytes, sites_from, HasSites, Built};
+ghost use Rattle.list_probe.specs.Probing.{Orderly, Buildable, Written, leg_of, Probed};
 
 use grid::{Leg, Position};
 
@@ -16,8 +16,8 @@ const SITE_PLACES: usize = 4;
 
 // Whether the numbers of n site records rise from 1 on and their positions are on the grid.
 fn orderly(t: &[u8], n: usize) -> bool
-    requires { (n ≤ maxSites) × (probeBytes * n ≤ length t.now) }
-    ensures { Says result (Orderly 0 (sitesFrom t.now 0 n)) }
+    requires { (n ≤ max_sites) × (probe_bytes * n ≤ length t.now) }
+    ensures { Says result (Orderly 0 (sites_from t.now 0 n)) }
 {
     let mut last = 0;
     let mut i = 0;
@@ -61,7 +61,7 @@ fn buildable(t: &[u8], n: usize, leg: Leg, room: usize) -> bool
 // Deals with n site records of 8 bytes each, which begin at byte `from`, the last one first. The list stands in the row
 // that begins the work buffer.
 fn build(t: &[u8], from: usize, n: usize, leg: Leg, work: &mut [u8]) -> usize
-    requires { HasSites t.now from n × LegOnGrid leg × (rowBytes ≤ length work.old) }
+    requires { HasSites t.now from n × LegOnGrid leg × (row_bytes ≤ length work.old) }
     ensures { Built leg t.now from n work.old work.new result }
 {
     let first = from / 2;
@@ -103,7 +103,7 @@ pub extern "C" fn probe_list(
     work: &mut [u8],
     report: &mut [u8],
 ) -> usize
-    ensures { Probed table.now n (legOf seast snorth eeast enorth) work.old
+    ensures { Probed table.now n (leg_of seast snorth eeast enorth) work.old
         work.new report.old report.new result }
 {
     let leg = Leg {

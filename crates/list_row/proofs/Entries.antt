@@ -7,50 +7,50 @@ use native.Mathlib.Omega.{arith}
 use lib.ListN.{length, drop, length-append, length-drop, drop_of_length-le}
 use lib.Seq.{drop-append-le}
 use Rattle.grid.specs.declared.Leg.{Leg}
-use Rattle.grid.specs.Fraction.{zeroFraction}
+use Rattle.grid.specs.Fraction.{zero_fraction}
 use Rattle.split.specs.SplitList.{Entry}
 use Rattle.split.specs.Hull.{Point}
-use Rattle.split.specs.SplitOf.{changeover, entriesAfter, entriesAlong, onto}
-use Rattle.list_row.specs.Vertices.{vertexIn, stack, entriesIn}
-use Rattle.list_row.specs.Entries.{rowEntry, entriesFrom}
+use Rattle.split.specs.SplitOf.{changeover, entries_after, entries_along, onto}
+use Rattle.list_row.specs.Vertices.{vertex_in, stack, entries_in}
+use Rattle.list_row.specs.Entries.{row_entry, entries_from}
 
 -- The entries of a row, one more.
-onto-acc : (h acc : List Point) → onto h acc ≡ onto h [] ++ acc
-onto-acc [] acc = refl
-onto-acc (w ∷ h) acc = onto-acc h (w ∷ acc) ∙ sym (ap (λ (y : List Point). y ++ acc) (onto-acc h (w ∷ [])) ∙ append_assoc (onto h []) (w ∷ []) acc)
+onto_acc : (h acc : List Point) → onto h acc ≡ onto h [] ++ acc
+onto_acc [] acc = refl
+onto_acc (w ∷ h) acc = onto_acc h (w ∷ acc) ∙ sym (ap (λ (y : List Point). y ++ acc) (onto_acc h (w ∷ [])) ∙ append_assoc (onto h []) (w ∷ []) acc)
 
 abbrev entry_of : Point → Point → Entry
 entry_of u v = record { site = v.site; start = changeover u v }
 
-after-snoc : (w : Point) (r : List Point) (u v : Point) → entriesAfter w (r ++ u ∷ v ∷ []) ≡ entriesAfter w (r ++ u ∷ []) ++ entry_of u v ∷ []
-after-snoc w [] u v = refl
-after-snoc w (x ∷ r) u v = ap (λ (y : List Entry). record { site = x.site; start = changeover w x } ∷ y) (after-snoc x r u v)
+after_snoc : (w : Point) (r : List Point) (u v : Point) → entries_after w (r ++ u ∷ v ∷ []) ≡ entries_after w (r ++ u ∷ []) ++ entry_of u v ∷ []
+after_snoc w [] u v = refl
+after_snoc w (x ∷ r) u v = ap (λ (y : List Entry). record { site = x.site; start = changeover w x } ∷ y) (after_snoc x r u v)
 
-entries-snoc : (r : List Point) (u v : Point) → entriesAlong (r ++ u ∷ v ∷ []) ≡ entriesAlong (r ++ u ∷ []) ++ entry_of u v ∷ []
-entries-snoc [] u v = refl
-entries-snoc (w ∷ r) u v = ap (λ (y : List Entry). record { site = w.site; start = zeroFraction } ∷ y) (after-snoc w r u v)
+entries_snoc : (r : List Point) (u v : Point) → entries_along (r ++ u ∷ v ∷ []) ≡ entries_along (r ++ u ∷ []) ++ entry_of u v ∷ []
+entries_snoc [] u v = refl
+entries_snoc (w ∷ r) u v = ap (λ (y : List Entry). record { site = w.site; start = zero_fraction } ∷ y) (after_snoc w r u v)
 
 module _ (l : Leg) (t r : List ℕ) where
-  pub entries-one : (i : ℕ) → entriesIn l t r (suc i) ≡ entriesIn l t r i ++ rowEntry l t r i ∷ []
-  entries-one zero = refl
-  entries-one (suc i) =
-      ap entriesAlong (onto-acc (stack l t r i) (vertexIn l t r i ∷ vertexIn l t r (suc i) ∷ []))
-      ∙ entries-snoc (onto (stack l t r i) []) (vertexIn l t r i) (vertexIn l t r (suc i))
-      ∙ sym (ap (λ (y : List Point). entriesAlong y ++ rowEntry l t r (suc i) ∷ []) (onto-acc (stack l t r i) (vertexIn l t r i ∷ [])))
+  pub entries_one : (i : ℕ) → entries_in l t r (suc i) ≡ entries_in l t r i ++ row_entry l t r i ∷ []
+  entries_one zero = refl
+  entries_one (suc i) =
+      ap entries_along (onto_acc (stack l t r i) (vertex_in l t r i ∷ vertex_in l t r (suc i) ∷ []))
+      ∙ entries_snoc (onto (stack l t r i) []) (vertex_in l t r i) (vertex_in l t r (suc i))
+      ∙ sym (ap (λ (y : List Point). entries_along y ++ row_entry l t r (suc i) ∷ []) (onto_acc (stack l t r i) (vertex_in l t r i ∷ [])))
 
   -- AS MANY ENTRIES AS VERTICES
-  pub entries-length : (i : ℕ) → length (entriesIn l t r i) ≡ i
-  entries-length zero = refl
-  entries-length (suc i) =
-      ap length (entries-one i) ∙ length-append (entriesIn l t r i) (rowEntry l t r i ∷ []) ∙ (omega (arith, entries-length i))
+  pub entries_length : (i : ℕ) → length (entries_in l t r i) ≡ i
+  entries_length zero = refl
+  entries_length (suc i) =
+      ap length (entries_one i) ∙ length-append (entries_in l t r i) (row_entry l t r i ∷ []) ∙ (omega (arith, entries_length i))
 
   -- from the one at j on
-  pub from-none : (j : ℕ) → entriesFrom l t r j j ≡ []
-  from-none j = drop_of_length-le (entriesIn l t r j) {i = j} (omega (arith, entries-length j))
+  pub from_none : (j : ℕ) → entries_from l t r j j ≡ []
+  from_none j = drop_of_length-le (entries_in l t r j) {i = j} (omega (arith, entries_length j))
 
-  pub from_one : (j i : ℕ) → j ≤ i → entriesFrom l t r j (suc i) ≡ entriesFrom l t r j i ++ rowEntry l t r i ∷ []
+  pub from_one : (j i : ℕ) → j ≤ i → entries_from l t r j (suc i) ≡ entries_from l t r j i ++ row_entry l t r i ∷ []
   from_one j i h =
-      ap (drop j) (entries-one i) ∙ drop-append-le j (entriesIn l t r i) (rowEntry l t r i ∷ []) (omega (arith, entries-length i))
+      ap (drop j) (entries_one i) ∙ drop-append-le j (entries_in l t r i) (row_entry l t r i ∷ []) (omega (arith, entries_length i))
 
-  pub from-length : (j i : ℕ) → length (entriesFrom l t r j i) ≡ i - j
-  from-length j i = length-drop j (entriesIn l t r i) ∙ ap (λ (n : ℕ). n - j) (entries-length i)
+  pub from_length : (j i : ℕ) → length (entries_from l t r j i) ≡ i - j
+  from_length j i = length-drop j (entries_in l t r i) ∙ ap (λ (n : ℕ). n - j) (entries_length i)

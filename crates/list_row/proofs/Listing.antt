@@ -7,20 +7,20 @@ use Rattle.grid.specs.declared.Site.{Site}
 use Rattle.grid.specs.declared.Leg.{Leg}
 use Rattle.split.specs.SplitList.{Numbered, SameSites}
 use Rattle.split.specs.Hull.{point_of}
-use Rattle.split.specs.SplitOf.{splitOf}
+use Rattle.split.specs.SplitOf.{split_of}
 use Rattle.split.specs.Skip.{ShutOut}
-use Rattle.split.proofs.Dealing.{none-dealt, skipped, hull-list}
-use Rattle.list_row.specs.Vertices.{stack, Lists, entriesIn}
+use Rattle.split.proofs.Dealing.{none_dealt, skipped, hull_list}
+use Rattle.list_row.specs.Vertices.{stack, Lists, entries_in}
 
 module _ (l : Leg) (t r : List ℕ) where
-  pub lists-none : Lists l t r 0 []
-  lists-none = none-dealt l
+  pub lists_none : Lists l t r 0 []
+  lists_none = none_dealt l
 
   -- and the computed one of the same sites in any order
-  pub lists-is : (k : ℕ) (s u : List Site) → Numbered s → Numbered u → SameSites u s → Lists l t r k s → entriesIn l t r k ≡ splitOf l u
-  lists-is k s u n m same d = hull-list l s u n m same (stack l t r k) d
+  pub lists_is : (k : ℕ) (s u : List Site) → Numbered s → Numbered u → SameSites u s → Lists l t r k s → entries_in l t r k ≡ split_of l u
+  lists_is k s u n m same d = hull_list l s u n m same (stack l t r k) d
 
   -- SKIPPED: sites at or beyond a corner that the list shuts out
-  pub lists-skipped : (k a c : ℕ) → ShutOut (stack l t r k) a c → (q : List Site)
+  pub lists_skipped : (k a c : ℕ) → ShutOut (stack l t r k) a c → (q : List Site)
       → ((p : Site) → Memᴰ p q → (a ≤ (point_of l p).a) × (c ≤ (point_of l p).c)) → (s : List Site) → Lists l t r k s → Lists l t r k (q ++ s)
-  lists-skipped k a c w q far s d = skipped l (stack l t r k) a c w q far s d
+  lists_skipped k a c w q far s d = skipped l (stack l t r k) a c w q far s d

@@ -4,25 +4,25 @@ use mathlib.Core.Path.{◌≡◌, ap}
 use mathlib.Core.Bool.{Bool, true, false}
 use Prim.Native.Nat.{ℕ, suc, ◌+◌, ◌≤◌, ◌<◌}
 use native.Mathlib.Omega.{arith}
-use Rattle.limits.specs.Limits.{maxNumber}
+use Rattle.limits.specs.Limits.{max_number}
 use Rattle.grid.specs.declared.Leg.{Leg}
 use Rattle.grid.specs.declared.Site.{Site}
 use Rattle.grid.specs.Says.{Says}
 use Rattle.grid.specs.Side.{OnTheRight}
-use Rattle.grid.proofs.Says.{says-yes, says-no}
+use Rattle.grid.proofs.Says.{says_yes, says_no}
 use Rattle.split.specs.SplitList.{rank}
-use Rattle.split.proofs.Ranks.{rank_right, rank-elsewhere}
+use Rattle.split.proofs.Ranks.{rank_right, rank_elsewhere}
 
-pub ranked-right : (l : Leg) (p : Site) (b : Bool) → Says b (OnTheRight l p.position) → b ≡ true → p.number ≡ rank l p
-ranked-right l p b s e = rank_right l p (says-yes b s e)
+pub ranked_right : (l : Leg) (p : Site) (b : Bool) → Says b (OnTheRight l p.position) → b ≡ true → p.number ≡ rank l p
+ranked_right l p b s e = rank_right l p (says_yes b s e)
 
-pub ranked-elsewhere : (l : Leg) (p : Site) (b : Bool) → Says b (OnTheRight l p.position) → b ≡ false → suc maxNumber + p.number ≡ rank l p
-ranked-elsewhere l p b s e = rank-elsewhere l p (says-no b s e)
+pub ranked_elsewhere : (l : Leg) (p : Site) (b : Bool) → Says b (OnTheRight l p.position) → b ≡ false → suc max_number + p.number ≡ rank l p
+ranked_elsewhere l p b s e = rank_elsewhere l p (says_no b s e)
 
 -- two sites, and their ranks in hand
 module _ (l : Leg) (p q x y : Site) (m n : ℕ) (hp : x ≡ p) (hq : y ≡ q) (hm : m ≡ rank l x) (hn : n ≡ rank l y) where
   pub not_first : n < m → ¬ (rank l p ≤ rank l q)
   not_first h k = omega (arith, ap (rank l) hp, ap (rank l) hq)
 
-  pub is-first : m ≤ n → rank l p ≤ rank l q
-  is-first h = omega (arith, ap (rank l) hp, ap (rank l) hq)
+  pub is_first : m ≤ n → rank l p ≤ rank l q
+  is_first h = omega (arith, ap (rank l) hp, ap (rank l) hq)

@@ -4,13 +4,13 @@ use Rattle.std.specs.Prelude.{List, ℕ, ◌<◌}
 use Rattle.grid.specs.declared.Leg.{Leg}
 use Rattle.list_row.specs.declared.Vertex.{Vertex}
 use Rattle.list_row.specs.declared.Gap.{Gap}
-use Rattle.list_row.specs.Vertices.{IsVertex, placeAt, Cut}
+use Rattle.list_row.specs.Vertices.{IsVertex, place_at, Cut}
 
 -- v stands in the first k of a row
 pub record Stands (l : Leg) (t r : List ℕ) (k : ℕ) (v : Vertex) : Type 0 where
   pub at : ℕ
   pub within : at < k
-  pub is : IsVertex l t (placeAt r at) v
+  pub is : IsVertex l t (place_at r at) v
 
 -- g has the cut at a and two vertices of the row. Which two they are needs no proof: any two serve a skip.
 pub record About (l : Leg) (t r : List ℕ) (k a : ℕ) (g : Gap) : Type 0 where

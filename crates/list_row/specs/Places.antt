@@ -7,15 +7,15 @@ use Rattle.grid.specs.declared.Site.{Site}
 use Rattle.grid.specs.Position.{OnGrid}
 
 -- the site whose record begins at a byte
-unfoldable pub siteAtByte : List ℕ → ℕ → Site
-siteAtByte t i = record { number = word_at t i; position = record { east = word_at t (i + 2); north = word_at t (i + 4) } }
+unfoldable pub site_at_byte : List ℕ → ℕ → Site
+site_at_byte t i = record { number = word_at t i; position = record { east = word_at t (i + 2); north = word_at t (i + 4) } }
 
 -- the site at a place
-abbrev pub siteAt : List ℕ → ℕ → Site
-siteAt t p = siteAtByte t (2 * p)
+abbrev pub site_at : List ℕ → ℕ → Site
+site_at t p = site_at_byte t (2 * p)
 
 -- a record stands at the place, and its position is on the grid
 pub record HasSite (t : List ℕ) (p : ℕ) : Type 0 where
   pub small : p < 65536
   pub inside : 2 * p + 6 ≤ length t
-  pub on-grid : OnGrid (siteAt t p).position
+  pub on_grid_lem : OnGrid (site_at t p).position

@@ -4,8 +4,8 @@ ghost use Rattle.std.specs.Prelude.{◌≡◌, ◌+◌, ◌*◌, ◌-◌, ◌^�
 ghost use Rattle.grid.specs.Position.{LegOnGrid};
 ghost use Rattle.grid.specs.Says.{Says};
 ghost use Rattle.split.specs.SplitList.{rank};
-ghost use Rattle.list_row.specs.Places.{siteAt, HasSite};
-ghost use Rattle.list_row.specs.Vertices.{IsVertex, placeAt, putPlace, Held, Cut, CutBetween};
+ghost use Rattle.list_row.specs.Places.{site_at, HasSite};
+ghost use Rattle.list_row.specs.Vertices.{IsVertex, place_at, put_place, Held, Cut, CutBetween};
 ghost use Rattle.list_row.specs.Gaps.{Stands, About};
 
 use grid::{Leg, Position, Site};
@@ -32,7 +32,7 @@ pub fn product(x: u32, y: u32) -> u64
 // The site at a place, wherever it lies.
 pub fn site_at(t: &[u8], p: usize) -> Site
     requires { (p < 65536) × (2 * p + 6 ≤ length t.now) }
-    ensures { result ≡ siteAt t.now p }
+    ensures { result ≡ site_at t.now p }
 {
     let base = 2 * p;
     let number = words::word(t, base);
@@ -78,7 +78,7 @@ fn rank(leg: Leg, site: Site) -> u32
 // is not listed.
 pub fn comes_first(t: &[u8], leg: Leg, p: usize, q: usize) -> bool
     requires { HasSite t.now p × HasSite t.now q }
-    ensures { Says result (rank leg (siteAt t.now p) ≤ rank leg (siteAt t.now q)) }
+    ensures { Says result (rank leg (site_at t.now p) ≤ rank leg (site_at t.now q)) }
 {
     let m = rank(leg, site_at(t, p));
     let n = rank(leg, site_at(t, q));
@@ -90,8 +90,8 @@ pub fn comes_first(t: &[u8], leg: Leg, p: usize, q: usize) -> bool
 
 // The number of the site that stands in a row at i.
 pub fn number_in(t: &[u8], row: &[u8], i: usize) -> u16
-    requires { (2 * i + 2 ≤ length row.now) × HasSite t.now (placeAt row.now i) }
-    ensures { (result ≡ (siteAt t.now (placeAt row.now i)).number) × (result < 65536) }
+    requires { (2 * i + 2 ≤ length row.now) × HasSite t.now (place_at row.now i) }
+    ensures { (result ≡ (site_at t.now (place_at row.now i)).number) × (result < 65536) }
 {
     let p = words::word(row, 2 * i) as usize;
     words::word(t, 2 * p)
@@ -100,7 +100,7 @@ pub fn number_in(t: &[u8], row: &[u8], i: usize) -> u16
 // Puts place p into a row at i.
 pub fn put_place(row: &mut [u8], i: usize, p: usize)
     requires { (2 * i + 2 ≤ length row.old) × (p < 65536) }
-    ensures { row.new ≡ putPlace row.old i p }
+    ensures { row.new ≡ put_place row.old i p }
 {
     words::put_word(row, 2 * i, p as u16);
 }
@@ -108,7 +108,7 @@ pub fn put_place(row: &mut [u8], i: usize, p: usize)
 // The vertex that stands in a row at i.
 pub fn vertex_in(t: &[u8], row: &[u8], leg: Leg, k: usize, i: usize) -> Vertex
     requires { Held leg t.now row.now k × LegOnGrid leg × (i < k) }
-    ensures { IsVertex leg t.now (placeAt row.now i) result }
+    ensures { IsVertex leg t.now (place_at row.now i) result }
 {
     let p = words::word(row, 2 * i) as usize;
     vertex_at(t, leg, p)

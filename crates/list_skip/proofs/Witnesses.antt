@@ -11,39 +11,39 @@ use Rattle.grid.specs.declared.Corner.{Corner}
 use Rattle.grid.specs.declared.Leg.{Leg}
 use Rattle.grid.specs.Says.{If}
 use Rattle.split.specs.Skip.{Shut, ShutOut}
-use Rattle.split.proofs.Skipping.{witness-shuts}
+use Rattle.split.proofs.Skipping.{witness_shuts}
 use Rattle.list_row.specs.declared.Vertex.{Vertex}
 use Rattle.list_row.specs.declared.Gap.{Gap}
-use Rattle.list_row.specs.Vertices.{vertexIn, stack, Cut}
+use Rattle.list_row.specs.Vertices.{vertex_in, stack, Cut}
 use Rattle.list_row.specs.Gaps.{Stands, About}
 use Rattle.list_row.proofs.Stacks.{in_stack}
 use Rattle.list_skip.specs.declared.Edge.{Edge}
 use Rattle.list_skip.specs.declared.Seen.{Seen}
 use Rattle.list_skip.specs.Skipping.{SmallCorner, EdgeShuts, Knows, KnowsNothing, edge_of, SeenAbout, Looked}
 
-pub if-true : {P : Type 0} (b : Bool) → b ≡ true → If b P → P
-if-true b e h = rw e at h
+pub if_true : {P : Type 0} (b : Bool) → b ≡ true → If b P → P
+if_true b e h = rw e at h
 
 -- TWO VERTICES OF THE ROW KNOW WHAT THE LIST SHUTS OUT
 module _ {l : Leg} {t r : List ℕ} {n : ℕ} where
   witness : {u v : Vertex} {a c : ℕ} → Stands l t r n u → Stands l t r n v
       → Shut (record { a = u.a; c = u.c }) (record { a = v.a; c = v.c }) a c → ShutOut (stack l t r n) a c
   witness su sv f =
-      witness-shuts record {
-        u = vertexIn l t r su.at;
-        v = vertexIn l t r sv.at;
-        has-u = in_stack l t r n su.at su.within;
-        has-v = in_stack l t r n sv.at sv.within;
-        shut = rw (su.is.a-is, su.is.c-is, sv.is.a-is, sv.is.c-is) at f;
+      witness_shuts record {
+        u = vertex_in l t r su.at;
+        v = vertex_in l t r sv.at;
+        has_u = in_stack l t r n su.at su.within;
+        has_v = in_stack l t r n sv.at sv.within;
+        shut = rw (su.is.a_is, su.is.c_is, sv.is.a_is, sv.is.c_is) at f;
       }
 
-  pub edge-knows : {u v : Vertex} → Stands l t r n u → Stands l t r n v → Knows (edge_of u v) (stack l t r n)
-  edge-knows {u} {v} su sv =
+  pub edge_knows : {u v : Vertex} → Stands l t r n u → Stands l t r n v → Knows (edge_of u v) (stack l t r n)
+  edge_knows {u} {v} su sv =
       record {
         small =
             record {
-              left = record { small-a = su.is.small.small-a; small-c = su.is.small.small-c };
-              right = record { small-a = sv.is.small.small-a; small-c = sv.is.small.small-c };
+              left = record { small_a = su.is.small.small_a; small_c = su.is.small.small_c };
+              right = record { small_a = sv.is.small.small_a; small_c = sv.is.small.small_c };
             };
         shuts = λ k h f. by f;
       }
@@ -55,7 +55,7 @@ module _ {l : Leg} {t r : List ℕ} {n : ℕ} where
 -- the return of `covers`
 pub looked : {l : Leg} {t r : List ℕ} {n : ℕ} {k : Corner} {g : Gap} {s : Seen} → SmallCorner k → About l t r n k.a g → SeenAbout g k s → Looked l t r n k s
 looked {l} {t} {r} {n} {k} {g} {s} h b w =
-    let kn : Knows s.edge (stack l t r n) = subst⁻¹ (λ (e : Edge). Knows e (stack l t r n)) w.edge (edge-knows b.left b.right) in
+    let kn : Knows s.edge (stack l t r n) = subst⁻¹ (λ (e : Edge). Knows e (stack l t r n)) w.edge (edge_knows b.left b.right) in
     record {
       shut = told s.shut w.shut kn;
       cut = subst⁻¹ (λ (x : ℕ). Cut l t r n k.a x) w.cut b.cut;
@@ -67,33 +67,33 @@ looked {l} {t} {r} {n} {k} {g} {s} h b w =
     told false f kn = tt
 
 -- of an empty row
-pub looked-none : {l : Leg} {t r : List ℕ} {n : ℕ} {k : Corner} {e : Edge} → n ≡ 0 → KnowsNothing e → Looked l t r n k (record { shut = false; cut = 0; edge = e })
-looked-none {l} {t} {r} {n} z f =
+pub looked_none : {l : Leg} {t r : List ℕ} {n : ℕ} {k : Corner} {e : Edge} → n ≡ 0 → KnowsNothing e → Looked l t r n k (record { shut = false; cut = 0; edge = e })
+looked_none {l} {t} {r} {n} z f =
     record { shut = tt; cut = record { within = omega arith; left = λ h. absurd (omega arith); right = λ i h j. absurd (omega arith) }; knows = f (stack l t r n) }
 
 -- the returns of `shuts`
 pub by_left : (e : Edge) (a c : ℕ) (b : Bool) → b ≡ true → If b (Shut e.left e.left a c) → EdgeShuts e a c
-by_left e a c b q f = inl (if-true b q f)
+by_left e a c b q f = inl (if_true b q f)
 
-pub by-edge : (e : Edge) (a c : ℕ) (b : Bool) → If b (Shut e.left e.right a c) → If b (EdgeShuts e a c)
-by-edge e a c true f = inr f
-by-edge e a c false f = tt
+pub by_edge : (e : Edge) (a c : ℕ) (b : Bool) → If b (Shut e.left e.right a c) → If b (EdgeShuts e a c)
+by_edge e a c true f = inr f
+by_edge e a c false f = tt
 
 -- nothing lies beyond the farthest point
 beyond : (x a c m n : ℕ) → a ≤ x → c ≤ x → m * x + n * x < m * a + n * c → ⊥
 beyond x a c m n h g f = omega (arith, mul-le-mul_left m h, mul-le-mul_left n g)
 
-pub knows-nothing : (x : ℕ) → x + 1 ≡ 2 ^ 31 → KnowsNothing (record { left = record { a = x; c = x }; right = record { a = x; c = x } })
-knows-nothing x q l =
+pub knows_nothing : (x : ℕ) → x + 1 ≡ 2 ^ 31 → KnowsNothing (record { left = record { a = x; c = x }; right = record { a = x; c = x } })
+knows_nothing x q l =
     record {
       small =
           record {
-            left = record { small-a = omega arith; small-c = omega arith };
-            right = record { small-a = omega arith; small-c = omega arith };
+            left = record { small_a = omega arith; small_c = omega arith };
+            right = record { small_a = omega arith; small_c = omega arith };
           };
       shuts = λ k h f. absurd (none k h f);
     }
   where
     none : (k : Corner) → SmallCorner k → EdgeShuts (record { left = record { a = x; c = x }; right = record { a = x; c = x } }) k.a k.c → ⊥
-    none k h (inl f) = beyond x k.a k.c f.m f.n (omega (arith, h.small-a)) (omega (arith, h.small-c)) f.under-u
-    none k h (inr f) = beyond x k.a k.c f.m f.n (omega (arith, h.small-a)) (omega (arith, h.small-c)) f.under-u
+    none k h (inl f) = beyond x k.a k.c f.m f.n (omega (arith, h.small_a)) (omega (arith, h.small_c)) f.under_u
+    none k h (inr f) = beyond x k.a k.c f.m f.n (omega (arith, h.small_a)) (omega (arith, h.small_c)) f.under_u

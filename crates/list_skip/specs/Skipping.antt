@@ -2,27 +2,27 @@
 -- Document 01, "The tree": "Which subtrees a search skips is the team's choice."
 -- Assumes nothing.
 use Rattle.std.specs.Prelude.{◌≡◌, ◌⊎◌, List, ◌∷◌, ℕ, ◌+◌, ◌^◌, ◌≤◌, ◌<◌}
-use Rattle.limits.specs.Limits.{maxSites}
+use Rattle.limits.specs.Limits.{max_sites}
 use Rattle.words.specs.Words.{Only}
 use Rattle.grid.specs.declared.Site.{Site}
 use Rattle.grid.specs.declared.Leg.{Leg}
 use Rattle.grid.specs.declared.Area.{Area}
 use Rattle.grid.specs.declared.Corner.{Corner}
-use Rattle.grid.specs.Area.{areaDistance}
+use Rattle.grid.specs.Area.{area_distance}
 use Rattle.grid.specs.Says.{If}
 use Rattle.split.specs.Hull.{Point, In}
 use Rattle.split.specs.Skip.{Shut, ShutOut}
 use Rattle.list_row.specs.declared.Vertex.{Vertex}
 use Rattle.list_row.specs.declared.Gap.{Gap}
-use Rattle.list_row.specs.Places.{siteAt}
-use Rattle.list_row.specs.Vertices.{pointAt, rowBytes, stack, Held, Lists, Cut}
+use Rattle.list_row.specs.Places.{site_at}
+use Rattle.list_row.specs.Vertices.{point_at, row_bytes, stack, Held, Lists, Cut}
 use Rattle.list_skip.specs.declared.Edge.{Edge}
 use Rattle.list_skip.specs.declared.Seen.{Seen}
 
 -- squared distances that 31 bits hold
 pub record SmallCorner (k : Corner) : Type 0 where
-  pub small-a : k.a < 2 ^ 31
-  pub small-c : k.c < 2 ^ 31
+  pub small_a : k.a < 2 ^ 31
+  pub small_c : k.c < 2 ^ 31
 
 -- squared distances that 31 bits hold
 pub record SmallEdge (e : Edge) : Type 0 where
@@ -61,17 +61,17 @@ pub record Looked (l : Leg) (t r : List ℕ) (n : ℕ) (k : Corner) (s : Seen) :
 
 -- k has the squared distances of S and of E from the box: no site in it is nearer
 pub record IsCorner (l : Leg) (b : Area) (k : Corner) : Type 0 where
-  pub a-is : k.a ≡ areaDistance b l.s
-  pub c-is : k.c ≡ areaDistance b l.e
+  pub a_is : k.a ≡ area_distance b l.s
+  pub c_is : k.c ≡ area_distance b l.e
   pub small : SmallCorner k
 
 -- there is room for the site at p in a row of k; in a full row it stands already
 abbrev pub Space : Leg → List ℕ → List ℕ → ℕ → ℕ → Type 0
-Space l t r k p = maxSites ≤ k → In (pointAt l t p) (stack l t r k)
+Space l t r k p = max_sites ≤ k → In (point_at l t p) (stack l t r k)
 
 -- the row r' has the list of one site more than the row r: the site at p
 pub record Dealt (l : Leg) (t r : List ℕ) (k p : ℕ) (r' : List ℕ) (n : ℕ) : Type 0 where
   pub within : n ≤ k + 1
   pub held : Held l t r' n
-  pub lists : (s : List Site) → Lists l t r k s → Lists l t r' n (siteAt t p ∷ s)
-  pub only : Only 0 rowBytes r r'
+  pub lists : (s : List Site) → Lists l t r k s → Lists l t r' n (site_at t p ∷ s)
+  pub only : Only 0 row_bytes r r'

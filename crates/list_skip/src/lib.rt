@@ -7,7 +7,7 @@ ghost use Rattle.grid.specs.Position.{LegOnGrid};
 ghost use Rattle.grid.specs.Says.{If};
 ghost use Rattle.split.specs.Skip.{Shut};
 ghost use Rattle.list_row.specs.Places.{HasSite};
-ghost use Rattle.list_row.specs.Vertices.{Small, IsVertex, rowBytes, Held, Cut};
+ghost use Rattle.list_row.specs.Vertices.{Small, IsVertex, row_bytes, Held, Cut};
 ghost use Rattle.list_skip.specs.Skipping.{SmallCorner, SmallEdge, EdgeShuts, KnowsNothing};
 ghost use Rattle.list_skip.specs.Skipping.{SeenAbout, Looked, Space, Dealt};
 
@@ -153,7 +153,7 @@ pub fn covers(t: &[u8], row: &[u8], leg: Leg, k: usize, corner: Corner, near: us
 pub fn deal_vertex(t: &[u8], leg: Leg, x: Vertex, work: &mut [u8], k: usize, n: usize) -> usize
     requires held { Held leg t.now work.old k × LegOnGrid leg × HasSite t.now x.place
         × IsVertex leg t.now x.place x }
-    requires space { Space leg t.now work.old k x.place × (rowBytes ≤ length work.old)
+    requires space { Space leg t.now work.old k x.place × (row_bytes ≤ length work.old)
         × Cut leg t.now work.old k x.a n }
     ensures { Dealt leg t.now work.old k x.place work.new result }
 {
@@ -183,7 +183,7 @@ fn look(t: &[u8], row: &[u8], leg: Leg, k: usize, corner: Corner) -> Seen
 // the search.
 pub fn deal(t: &[u8], leg: Leg, p: usize, work: &mut [u8], k: usize) -> usize
     requires held { Held leg t.now work.old k × LegOnGrid leg × HasSite t.now p }
-    requires space { Space leg t.now work.old k p × (rowBytes ≤ length work.old) }
+    requires space { Space leg t.now work.old k p × (row_bytes ≤ length work.old) }
     ensures { Dealt leg t.now work.old k p work.new result }
 {
     let x = list_row::vertex_at(t, leg, p);

@@ -9,7 +9,7 @@ use Rattle.readings.specs.declared.Location.{Location}
 use Rattle.readings.specs.declared.Location.TheVariants.{InSteps, InMetres}
 use Rattle.readings.specs.declared.Located.{Located}
 use Rattle.readings.specs.declared.Located.TheVariants.{NotFinite, At}
-use Rattle.readings.specs.Location.{position_of, Stepped, locatedAt, longAt, number_of, readingAt}
+use Rattle.readings.specs.Location.{position_of, Stepped, located_at, long_at, number_of, reading_at}
 
 -- ---- `is_finite`
 
@@ -32,8 +32,8 @@ finite-told x q f e = subst T (sym (sym f ∙ e)) tt
 
 -- ---- `reading_at`
 
-pub reading-is : (s : List ℕ) (i e n : ℕ) (x y : Float) → e ≡ longAt s i → n ≡ longAt s (i + 4)
-    → x ≡ number_of e → y ≡ number_of n → ◌≡◌ {A = Reading} (record { easting = x; northing = y }) (readingAt s i)
+pub reading-is : (s : List ℕ) (i e n : ℕ) (x y : Float) → e ≡ long_at s i → n ≡ long_at s (i + 4)
+    → x ≡ number_of e → y ≡ number_of n → ◌≡◌ {A = Reading} (record { easting = x; northing = y }) (reading_at s i)
 reading-is s i e n x y f g p q =
     λ j. record { easting = (p ∙ ap number_of f) j; northing = (q ∙ ap number_of g) j }
 
@@ -43,24 +43,24 @@ pub stepped-is : {r : Reading} {p : Position} → Stepped r p → p ≡ position
 stepped-is h = λ i. record { east = h.east.is i; north = h.north.is i }
 
 module _ (r : Reading) (q : Bool) (f : q ≡ finite r.easting) where
-  pub survey-first : q ≡ false → NotFinite ≡ locatedAt (InMetres r)
-  unfolding locatedAt
+  pub survey-first : q ≡ false → NotFinite ≡ located_at (InMetres r)
+  unfolding located_at
   survey-first e = rw (sym f ∙ e) refl
 
-  pub survey-second : q ≡ true → (t : Bool) → t ≡ finite r.northing → t ≡ false → NotFinite ≡ locatedAt (InMetres r)
-  unfolding locatedAt
+  pub survey-second : q ≡ true → (t : Bool) → t ≡ finite r.northing → t ≡ false → NotFinite ≡ located_at (InMetres r)
+  unfolding located_at
   survey-second e t g d = rw (sym f ∙ e, sym g ∙ d) refl
 
   pub survey-both : q ≡ true → (t : Bool) → t ≡ finite r.northing → t ≡ true → (p : Position) → Stepped r p
-      → At p ≡ locatedAt (InMetres r)
-  unfolding locatedAt
+      → At p ≡ located_at (InMetres r)
+  unfolding located_at
   survey-both e t g d p h = rw (sym f ∙ e, sym g ∙ d) (ap At (stepped-is h))
 
 -- ---- `locate`
 
-pub located-steps : (l : Location) (p : Position) → l ≡ InSteps p → At p ≡ locatedAt l
-unfolding locatedAt
+pub located-steps : (l : Location) (p : Position) → l ≡ InSteps p → At p ≡ located_at l
+unfolding located_at
 located-steps l p e = rw e refl
 
-pub located-metres : (l : Location) (r : Reading) (s : Located) → l ≡ InMetres r → s ≡ locatedAt (InMetres r) → s ≡ locatedAt l
+pub located-metres : (l : Location) (r : Reading) (s : Located) → l ≡ InMetres r → s ≡ located_at (InMetres r) → s ≡ located_at l
 located-metres l r s e h = rw e h

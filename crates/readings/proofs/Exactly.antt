@@ -39,9 +39,9 @@ module _ (a c b d : ℕ) (C : 0 < c) (D : 0 < d) where
   lt_no (fin false m e) (fin true n g) p q h = absurd (true≢false q.0)
 
 -- ---- whole numbers as floats
-pub whole-value : (n : ℕ) → n ≤ 2 ^ 24 → HasValue (of_int binary32 (pos n)) false n 1
+pub whole_value : (n : ℕ) → n ≤ 2 ^ 24 → HasValue (of_int binary32 (pos n)) false n 1
 unfolding of_int
-whole-value n h = round_whole binary32 false n h
+whole_value n h = round_whole binary32 false n h
 
 pub fifty : HasValue (of_bits binary32 0x42480000) false 50 1
 unfolding of_bits
@@ -49,18 +49,18 @@ fifty = (refl, refl)
 
 -- ---- what a format holds
 module _ (m : ℕ) (e : ℤ) (t : T (fits binary32 (fin false (suc m) e))) where
-  digits-few : suc m < 2 ^ 24
+  digits_few : suc m < 2 ^ 24
   unfolding fits
-  digits-few =
+  digits_few =
       let a : Bool = eqb (suc m % 2) 1 in
       let b : Bool = ltb (suc m) (2 ^ 24) in
       let c : Bool = leb (down e) (2 ^ 149) in
       let d : Bool = ltb (suc m * up e) (2 ^ 128 * down e) in
       ltb→lt (suc m) (2 ^ 24) (and_r a b (and_l (a && b) c (and_l (a && b && c) d t)))
 
-  down-small : down e ≤ 2 ^ 149
+  down_small : down e ≤ 2 ^ 149
   unfolding fits
-  down-small =
+  down_small =
       let a : Bool = eqb (suc m % 2) 1 in
       let b : Bool = ltb (suc m) (2 ^ 24) in
       let c : Bool = leb (down e) (2 ^ 149) in
@@ -68,37 +68,37 @@ module _ (m : ℕ) (e : ℤ) (t : T (fits binary32 (fin false (suc m) e))) where
       leb→le (down e) (2 ^ 149) (and_r (a && b) c (and_l (a && b && c) d t))
 
 -- r of less than 24 binary digits over 2 ^ k is a value of the format
-small-exact : (r k : ℕ) → r < 2 ^ 24 → k ≤ 149 → HasValue (round binary32 false r (2 ^ k)) false r (2 ^ k)
-small-exact r k h l =
+small_exact : (r k : ℕ) → r < 2 ^ 24 → k ≤ 149 → HasValue (round binary32 false r (2 ^ k)) false r (2 ^ k)
+small_exact r k h l =
     round_exact binary32 false r (2 ^ k) r (149 - k) (pow_pos k) h
     (lt_of_lt_of_le (shl_lt 24 (149 - k) h) (pow_mono {j = 277} (omega arith)))
     (ap (λ (y : ℕ). r * y) (sym (ap (λ (y : ℕ). 2 ^ y) (back 149 k l)) ∙ pow-add 2 (149 - k) k) ∙ sym (mul_assoc r (2 ^ (149 - k)) (2 ^ k)))
 
 exponent_small : (k : ℕ) → 2 ^ k ≤ 2 ^ 149 → k ≤ 149
-exponent_small k h = le-of-not (λ (g : 149 < k). not-le_of_lt (pow-lt g) h)
+exponent_small k h = le_of_not (λ (g : 149 < k). not-le_of_lt (pow-lt g) h)
   where
-    le-of-not : (149 < k → ⊥) → k ≤ 149
-    le-of-not f = omega (arith, f)
+    le_of_not : (149 < k → ⊥) → k ≤ 149
+    le_of_not f = omega (arith, f)
 
 -- ---- THE REMAINDER BY 100 IS EXACT
-pub rem-exact : (x : Float) → T (positive x) → T (fits binary32 x) → HasValue (rem binary32 x (of_bits binary32 0x42C80000)) false (num x % (100 * den x)) (den x)
+pub rem_exact : (x : Float) → T (positive x) → T (fits binary32 x) → HasValue (rem binary32 x (of_bits binary32 0x42C80000)) false (num x % (100 * den x)) (den x)
 unfolding rem of_bits
-rem-exact (fin false zero e) p t = absurd p
-rem-exact (fin false (suc m) (pos k)) p t =
+rem_exact (fin false zero e) p t = absurd p
+rem_exact (fin false (suc m) (pos k)) p t =
     let r = suc m * 2 ^ k % 100 in
     let h : r < 2 ^ 24 = lt_of_lt_of_le (mod-lt (suc m * 2 ^ k) {m = 100} (lit< tt)) (lit≤ tt) in
-    subst (λ (y : ℕ). HasValue (round binary32 false (y % 100) 1) false r 1) (sym (mul-one (suc m * 2 ^ k))) (small-exact r 0 h (lit≤ tt))
-rem-exact (fin false (suc m) (negsuc k)) p t =
+    subst (λ (y : ℕ). HasValue (round binary32 false (y % 100) 1) false r 1) (sym (mul-one (suc m * 2 ^ k))) (small_exact r 0 h (lit≤ tt))
+rem_exact (fin false (suc m) (negsuc k)) p t =
     let z = 2 ^ suc k in
     let r = suc m * 1 % (100 * z) in
-    let h : r < 2 ^ 24 = lt_of_le_of_lt (mod-le (suc m * 1) (100 * z)) (subst (λ (y : ℕ). y < 2 ^ 24) (sym (mul-one (suc m))) (digits-few m (negsuc k) t)) in
+    let h : r < 2 ^ 24 = lt_of_le_of_lt (mod-le (suc m * 1) (100 * z)) (subst (λ (y : ℕ). y < 2 ^ 24) (sym (mul-one (suc m))) (digits_few m (negsuc k) t)) in
     subst (λ (y : ℕ). HasValue (round binary32 false (y % (100 * z)) (z * 1)) false r z) (sym (mul-one (suc m * 1)))
-    (subst (λ (y : ℕ). HasValue (round binary32 false r y) false r z) (sym (mul-one z)) (small-exact r (suc k) h (exponent_small (suc k) (down-small m (negsuc k) t))))
+    (subst (λ (y : ℕ). HasValue (round binary32 false r y) false r z) (sym (mul-one z)) (small_exact r (suc k) h (exponent_small (suc k) (down_small m (negsuc k) t))))
 
 -- ---- the whole metres of a value below n metres
-pub metres-are : (x : Float) (n : ℕ) → T (positive x) → num x < n * den x → n < 2 ^ 64 → to_unsigned 64 x ≡ num x / den x
+pub metres_are : (x : Float) (n : ℕ) → T (positive x) → num x < n * den x → n < 2 ^ 64 → to_unsigned 64 x ≡ num x / den x
 unfolding to_unsigned
-metres-are (fin false m e) n p h l = uncapped (m * up e / down e) n (2 ^ 64) ((div-lt_iff_lt-mul (down_pos e)).1 h) l
+metres_are (fin false m e) n p h l = uncapped (m * up e / down e) n (2 ^ 64) ((div-lt_iff_lt-mul (down_pos e)).1 h) l
   where
     uncapped : (a n c : ℕ) → a < n → n < c → min a (c - 1) ≡ a
     uncapped a n c h k = omega arith
@@ -115,8 +115,8 @@ truncates (fin false m e) n p h l = (
 is_below : (a b : ℕ) → ltb a b ≡ true → a < b
 is_below a b h = ltb→lt a b (subst T (sym h) tt)
 
-is-not : (a b : ℕ) → ltb a b ≡ false → b ≤ a
-is-not a b h = nltb→le a b (subst (λ (t : Bool). T (not t)) (sym h) tt)
+is_not : (a b : ℕ) → ltb a b ≡ false → b ≤ a
+is_not a b h = nltb→le a b (subst (λ (t : Bool). T (not t)) (sym h) tt)
 
 factor : (m u : ℕ) → 0 < m * u → 0 < m
 factor zero u h = omega arith
@@ -129,13 +129,13 @@ above_zero (fin false m e) f h = lt→ltb 0 m (factor m (up e) (omega (arith, is
 above_zero (fin true m e) f h = absurd (true≢false (sym h))
 
 -- below it
-pub below-zero : (x : Float) → T (finite x) → lt x (of_bits binary32 0) ≡ true → T (positive (neg x))
+pub below_zero : (x : Float) → T (finite x) → lt x (of_bits binary32 0) ≡ true → T (positive (neg x))
 unfolding lt of_bits neg
-below-zero (fin false m e) f h = absurd (omega (arith, is_below (m * up e * 1) (0 * down e) h))
-below-zero (fin true m e) f h = lt→ltb 0 m (factor m (up e) (omega (arith, is_below 0 (m * up e * 1 + 0 * down e) h)))
+below_zero (fin false m e) f h = absurd (omega (arith, is_below (m * up e * 1) (0 * down e) h))
+below_zero (fin true m e) f h = lt→ltb 0 m (factor m (up e) (omega (arith, is_below 0 (m * up e * 1 + 0 * down e) h)))
 
 -- at it, with either sign
 pub at_zero : (x : Float) → T (finite x) → lt (of_bits binary32 0) x ≡ false → lt x (of_bits binary32 0) ≡ false → num x ≡ 0
 unfolding lt of_bits
-at_zero (fin false m e) f g h = omega (arith, is-not (0 * down e) (m * up e * 1) g)
-at_zero (fin true m e) f g h = omega (arith, is-not 0 (m * up e * 1 + 0 * down e) h)
+at_zero (fin false m e) f g h = omega (arith, is_not (0 * down e) (m * up e * 1) g)
+at_zero (fin true m e) f g h = omega (arith, is_not 0 (m * up e * 1 + 0 * down e) h)

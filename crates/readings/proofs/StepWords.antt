@@ -3,110 +3,110 @@
 use Rattle.std.proofs.Common.{◌≡◌, ℕ, ◌+◌, ◌-◌, ◌*◌, ◌%◌, ◌<◌, ◌≤◌, Bool, true, false, cond, not, T, leb, sym, refl, ap, ◌∙◌, arith, lit<, leb→le}
 use native.Mathlib.Decide.{dec_le}
 use lib.Dec.{nleb→lt}
-use Rattle.limits.specs.Limits.{halfWidth, gridWidth}
-use Rattle.grid.specs.Coordinate.{fromWord}
-use Rattle.readings.specs.Reading.{Nearest, nearestStep, beyondStep, kept, stepWord, Within}
-use Rattle.readings.proofs.Rounding.{nearest-is}
+use Rattle.limits.specs.Limits.{half_width, grid_width}
+use Rattle.grid.specs.Coordinate.{from_word}
+use Rattle.readings.specs.Reading.{Nearest, nearest_step, beyond_step, kept, step_word, Within}
+use Rattle.readings.proofs.Rounding.{nearest_is}
 
 -- ---- the nearest step, kept to the grid
-pub kept_on : (k : ℕ) → k ≤ halfWidth → kept k ≡ k
+pub kept_on : (k : ℕ) → k ≤ half_width → kept k ≡ k
 unfolding kept
-kept_on k h = go (leb k halfWidth) (nleb→lt k halfWidth)
+kept_on k h = go (leb k half_width) (nleb→lt k half_width)
   where
-    go : (b : Bool) → (T (not b) → halfWidth < k) → cond b k beyondStep ≡ k
+    go : (b : Bool) → (T (not b) → half_width < k) → cond b k beyond_step ≡ k
     go true f = refl
     go false f = absurd (omega (arith, f tt))
 
-pub kept_off : (k : ℕ) → halfWidth < k → kept k ≡ beyondStep
+pub kept_off : (k : ℕ) → half_width < k → kept k ≡ beyond_step
 unfolding kept
-kept_off k h = go (leb k halfWidth) (leb→le k halfWidth)
+kept_off k h = go (leb k half_width) (leb→le k half_width)
   where
-    go : (b : Bool) → (T b → k ≤ halfWidth) → cond b k beyondStep ≡ beyondStep
+    go : (b : Bool) → (T b → k ≤ half_width) → cond b k beyond_step ≡ beyond_step
     go true f = absurd (omega (arith, f tt))
     go false f = refl
 
-pub kept-most : (k : ℕ) → kept k ≤ beyondStep
+pub kept_most : (k : ℕ) → kept k ≤ beyond_step
 unfolding kept
-kept-most k = go (leb k halfWidth) (leb→le k halfWidth)
+kept_most k = go (leb k half_width) (leb→le k half_width)
   where
-    go : (b : Bool) → (T b → k ≤ halfWidth) → cond b k beyondStep ≤ beyondStep
+    go : (b : Bool) → (T b → k ≤ half_width) → cond b k beyond_step ≤ beyond_step
     go true f = omega (arith, f tt)
     go false f = omega arith
 
 -- the coordinates of a step's word
-pub east-of : (k : ℕ) → halfWidth + kept k ≡ fromWord (stepWord false k)
-unfolding kept stepWord fromWord
-east-of k = go (leb k halfWidth) (leb→le k halfWidth)
+pub east_of : (k : ℕ) → half_width + kept k ≡ from_word (step_word false k)
+unfolding kept step_word from_word
+east_of k = go (leb k half_width) (leb→le k half_width)
   where
-    go : (b : Bool) → (T b → k ≤ halfWidth) → halfWidth + cond b k beyondStep ≡ (cond b k beyondStep + halfWidth) % 65536
+    go : (b : Bool) → (T b → k ≤ half_width) → half_width + cond b k beyond_step ≡ (cond b k beyond_step + half_width) % 65536
     go true f = omega (arith, f tt)
     go false f = omega arith
 
-pub west-of : (k : ℕ) → kept k ≤ halfWidth → halfWidth - kept k ≡ fromWord (stepWord true k)
-unfolding kept stepWord fromWord
-west-of k h = go (leb k halfWidth) (leb→le k halfWidth) h
+pub west_of : (k : ℕ) → kept k ≤ half_width → half_width - kept k ≡ from_word (step_word true k)
+unfolding kept step_word from_word
+west_of k h = go (leb k half_width) (leb→le k half_width) h
   where
-    go : (b : Bool) → (T b → k ≤ halfWidth) → cond b k beyondStep ≤ halfWidth → halfWidth - cond b k beyondStep ≡ (cond b ((65536 - k) % 65536) beyondStep + halfWidth) % 65536
+    go : (b : Bool) → (T b → k ≤ half_width) → cond b k beyond_step ≤ half_width → half_width - cond b k beyond_step ≡ (cond b ((65536 - k) % 65536) beyond_step + half_width) % 65536
     go true f g = omega (arith, f tt)
     go false f g = omega arith
 
-pub west-off : (k : ℕ) → halfWidth < kept k → halfWidth + kept k ≡ fromWord (stepWord true k)
-unfolding kept stepWord fromWord
-west-off k h = go (leb k halfWidth) (leb→le k halfWidth) h
+pub west_off : (k : ℕ) → half_width < kept k → half_width + kept k ≡ from_word (step_word true k)
+unfolding kept step_word from_word
+west_off k h = go (leb k half_width) (leb→le k half_width) h
   where
-    go : (b : Bool) → (T b → k ≤ halfWidth) → halfWidth < cond b k beyondStep → halfWidth + cond b k beyondStep ≡ (cond b ((65536 - k) % 65536) beyondStep + halfWidth) % 65536
+    go : (b : Bool) → (T b → k ≤ half_width) → half_width < cond b k beyond_step → half_width + cond b k beyond_step ≡ (cond b ((65536 - k) % 65536) beyond_step + half_width) % 65536
     go true f g = absurd (omega (arith, f tt))
     go false f g = omega arith
 
-pub word-zero : (s : Bool) → fromWord (stepWord s 0) ≡ halfWidth
-unfolding stepWord fromWord
-word-zero true = refl
-word-zero false = refl
+pub word_zero : (s : Bool) → from_word (step_word s 0) ≡ half_width
+unfolding step_word from_word
+word_zero true = refl
+word_zero false = refl
 
 -- ---- the same without `kept`
-pub word-east : (k : ℕ) → k ≤ halfWidth → fromWord (stepWord false k) ≡ halfWidth + k
-word-east k h = sym (east-of k) ∙ ap (λ (y : ℕ). halfWidth + y) (kept_on k h)
+pub word_east : (k : ℕ) → k ≤ half_width → from_word (step_word false k) ≡ half_width + k
+word_east k h = sym (east_of k) ∙ ap (λ (y : ℕ). half_width + y) (kept_on k h)
 
-pub word-west : (k : ℕ) → k ≤ halfWidth → fromWord (stepWord true k) ≡ halfWidth - k
-word-west k h = let e = kept_on k h in sym (west-of k (omega arith)) ∙ ap (λ (y : ℕ). halfWidth - y) e
+pub word_west : (k : ℕ) → k ≤ half_width → from_word (step_word true k) ≡ half_width - k
+word_west k h = let e = kept_on k h in sym (west_of k (omega arith)) ∙ ap (λ (y : ℕ). half_width - y) e
 
-pub word-off : (s : Bool) (k : ℕ) → halfWidth < k → fromWord (stepWord s k) ≡ fromWord beyondStep
-unfolding stepWord
-word-off s k h = go (leb k halfWidth) (leb→le k halfWidth)
+pub word_off : (s : Bool) (k : ℕ) → half_width < k → from_word (step_word s k) ≡ from_word beyond_step
+unfolding step_word
+word_off s k h = go (leb k half_width) (leb→le k half_width)
   where
-    go : (b : Bool) → (T b → k ≤ halfWidth) → fromWord (cond b (cond s ((65536 - k) % 65536) k) beyondStep) ≡ fromWord beyondStep
+    go : (b : Bool) → (T b → k ≤ half_width) → from_word (cond b (cond s ((65536 - k) % 65536) k) beyond_step) ≡ from_word beyond_step
     go true f = absurd (omega (arith, f tt))
     go false f = refl
 
-pub off-far : gridWidth < fromWord beyondStep
-unfolding fromWord
-off-far = lit< tt
+pub off_far : grid_width < from_word beyond_step
+unfolding from_word
+off_far = lit< tt
 
 -- "The grid limit is tested on the step": the coordinate is on the grid exactly where the step is
-pub on-grid : (s : Bool) (k : ℕ) → fromWord (stepWord s k) ≤ gridWidth → k ≤ halfWidth
-on-grid s k h = go (dec_le k halfWidth)
+pub on_grid_lem : (s : Bool) (k : ℕ) → from_word (step_word s k) ≤ grid_width → k ≤ half_width
+on_grid_lem s k h = go (dec_le k half_width)
   where
-    go : Dec (k ≤ halfWidth) → k ≤ halfWidth
+    go : Dec (k ≤ half_width) → k ≤ half_width
     go (yes l) = l
-    go (no f) = absurd (omega (arith, word-off s k (omega arith), off-far))
+    go (no f) = absurd (omega (arith, word_off s k (omega arith), off_far))
 
-pub step-on-grid : (s : Bool) (k : ℕ) → k ≤ halfWidth → fromWord (stepWord s k) ≤ gridWidth
-step-on-grid true k h = omega (arith, word-west k h)
-step-on-grid false k h = omega (arith, word-east k h)
+pub step_on_grid : (s : Bool) (k : ℕ) → k ≤ half_width → from_word (step_word s k) ≤ grid_width
+step_on_grid true k h = omega (arith, word_west k h)
+step_on_grid false k h = omega (arith, word_east k h)
 
 -- WITHIN 50 M, EXACTLY
-near-east : (a c k : ℕ) → Nearest a c k → Within false a c (halfWidth + k)
-near-east a c k n = (omega (arith, n.below), omega (arith, n.above))
+near_east : (a c k : ℕ) → Nearest a c k → Within false a c (half_width + k)
+near_east a c k n = (omega (arith, n.below), omega (arith, n.above))
 
-near-west : (a c k x : ℕ) → x + k ≡ halfWidth → Nearest a c k → Within true a c x
-near-west a c k x e n =
+near_west : (a c k x : ℕ) → x + k ≡ half_width → Nearest a c k → Within true a c x
+near_west a c k x e n =
     let m = ap (λ (y : ℕ). y * c) e in
     (omega (arith, n.above), omega (arith, n.below))
 
-pub within_of : (s : Bool) (a c : ℕ) → 0 < c → fromWord (stepWord s (nearestStep a c)) ≤ gridWidth → Within s a c (fromWord (stepWord s (nearestStep a c)))
+pub within_of : (s : Bool) (a c : ℕ) → 0 < c → from_word (step_word s (nearest_step a c)) ≤ grid_width → Within s a c (from_word (step_word s (nearest_step a c)))
 within_of false a c C h =
-    let l = on-grid false (nearestStep a c) h in
-    rw (word-east (nearestStep a c) l) (near-east a c (nearestStep a c) (nearest-is a c C))
+    let l = on_grid_lem false (nearest_step a c) h in
+    rw (word_east (nearest_step a c) l) (near_east a c (nearest_step a c) (nearest_is a c C))
 within_of true a c C h =
-    let l = on-grid true (nearestStep a c) h in
-    rw (word-west (nearestStep a c) l) (near-west a c (nearestStep a c) (halfWidth - nearestStep a c) (omega arith) (nearest-is a c C))
+    let l = on_grid_lem true (nearest_step a c) h in
+    rw (word_west (nearest_step a c) l) (near_west a c (nearest_step a c) (half_width - nearest_step a c) (omega arith) (nearest_is a c C))

@@ -4,8 +4,8 @@
 -- All over whole numbers: a reading is a / c metres with a sign, and denominators are multiplied out.
 -- Assumes nothing.
 use Rattle.std.specs.Prelude.{ℕ, zero, suc, ◌+◌, ◌-◌, ◌*◌, ◌/◌, ◌%◌, ◌^◌, ◌≤◌, Bool, true, false, cond, ◌≢◌, nat_le, nat_lt}
-use Rattle.limits.specs.Limits.{halfWidth}
-use Rattle.grid.specs.Coordinate.{fromWord}
+use Rattle.limits.specs.Limits.{half_width}
+use Rattle.grid.specs.Coordinate.{from_word}
 
 -- ---- what a pattern of 32 bits stands for
 
@@ -48,33 +48,33 @@ pub record Nearest (a c k : ℕ) : Type 0 where
   pub half : a ≢ 100 * k * c + 50 * c
 
 -- the same as arithmetic: half a step more, cut to whole steps
-unfoldable pub nearestStep : ℕ → ℕ → ℕ
-nearestStep a c = (a + 50 * c) / (100 * c)
+unfoldable pub nearest_step : ℕ → ℕ → ℕ
+nearest_step a c = (a + 50 * c) / (100 * c)
 
 -- "a step off the grid as 32,767"
-abbrev pub beyondStep : ℕ
-beyondStep = 32767
+abbrev pub beyond_step : ℕ
+beyond_step = 32767
 
 -- k steps from the grid's middle where the grid reaches so far, else that
 unfoldable pub kept : ℕ → ℕ
-kept k = cond (nat_le k halfWidth) k beyondStep
+kept k = cond (nat_le k half_width) k beyond_step
 
 -- "the steps written out": the signed 16-bit word of the step of sign s and size k; "a step off the grid as 32,767"
-unfoldable pub stepWord : Bool → ℕ → ℕ
-stepWord s k = cond (nat_le k halfWidth) (cond s ((65536 - k) % 65536) k) beyondStep
+unfoldable pub step_word : Bool → ℕ → ℕ
+step_word s k = cond (nat_le k half_width) (cond s ((65536 - k) % 65536) k) beyond_step
 
 -- the word of the nearest step to a pattern's reading
 unfoldable pub word_of : ℕ → ℕ
-word_of b = stepWord (negative b) (nearestStep (units b) metre)
+word_of b = step_word (negative b) (nearest_step (units b) metre)
 
 -- its coordinate, counted from the grid's south-west corner
-unfoldable pub coordinateOf : ℕ → ℕ
-coordinateOf b = fromWord (word_of b)
+unfoldable pub coordinate_of : ℕ → ℕ
+coordinate_of b = from_word (word_of b)
 
 -- "it lies within 50 m of the step exactly": a / c metres, negative where the sign says so, and the step of coordinate
--- x, which is 100 * (x - halfWidth) metres
+-- x, which is 100 * (x - half_width) metres
 abbrev pub Within : Bool → ℕ → ℕ → ℕ → Type 0
 Within false a c x =
-    (100 * x * c ≤ a + 100 * halfWidth * c + 50 * c) × (a + 100 * halfWidth * c ≤ 100 * x * c + 50 * c)
+    (100 * x * c ≤ a + 100 * half_width * c + 50 * c) × (a + 100 * half_width * c ≤ 100 * x * c + 50 * c)
 Within true a c x =
-    (100 * x * c + a ≤ 100 * halfWidth * c + 50 * c) × (100 * halfWidth * c ≤ 100 * x * c + a + 50 * c)
+    (100 * x * c + a ≤ 100 * half_width * c + 50 * c) × (100 * half_width * c ≤ 100 * x * c + a + 50 * c)

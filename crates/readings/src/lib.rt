@@ -2,7 +2,7 @@
 ghost use Rattle.std.specs.Prelude.{◌≡◌, ◌+◌, ◌<◌, ◌≤◌, T, length};
 ghost use Rattle.std.specs.Float.Ieee.Scale.{finite};
 ghost use Rattle.std.specs.Float.Ieee.Positive.{positive};
-ghost use Rattle.readings.specs.Location.{steps_of, Rounded, Stepped, locatedAt, longAt, number_of, readingAt};
+ghost use Rattle.readings.specs.Location.{steps_of, Rounded, Stepped, located_at, long_at, number_of, reading_at};
 
 use grid::Position;
 
@@ -94,7 +94,7 @@ pub fn is_finite(x: f32) -> bool
 
 // Where two readings are.
 fn survey(r: Reading) -> Located
-    ensures { result ≡ locatedAt (Location.InMetres r) }
+    ensures { result ≡ located_at (Location.InMetres r) }
 {
     if is_finite(r.easting) {
         if is_finite(r.northing) {
@@ -106,7 +106,7 @@ fn survey(r: Reading) -> Located
 
 // Where a command's position is.
 pub fn locate(l: Location) -> Located
-    ensures { result ≡ locatedAt l }
+    ensures { result ≡ located_at l }
 {
     match l {
         Location::InSteps(p) => Located::At(p),
@@ -124,7 +124,7 @@ fn wide(x: u16) -> u32
 // The 32-bit number at byte i.
 fn long(s: &[u8], i: usize) -> u32
     requires { i + 4 ≤ length s.now }
-    ensures { result ≡ longAt s.now i }
+    ensures { result ≡ long_at s.now i }
 {
     let low = wide(words::word(s, i));
     let high = wide(words::word(s, i + 2));
@@ -146,7 +146,7 @@ pub fn number(bits: u32) -> f32
 // The readings at byte i.
 pub fn reading_at(s: &[u8], i: usize) -> Reading
     requires { i + 8 ≤ length s.now }
-    ensures { result ≡ readingAt s.now i }
+    ensures { result ≡ reading_at s.now i }
 {
     let easting = number(long(s, i));
     let northing = number(long(s, i + 4));

@@ -6,31 +6,31 @@ use Prim.Native.Nat.{ℕ, ◌*◌}
 use native.Mathlib.Omega.{arith}
 use lib.ListN.{length, length-append}
 use Rattle.split.specs.SplitList.{Entry}
-use Rattle.records.specs.ListRecord.{entryBytes, listBytes, recordBytes, listSize}
+use Rattle.records.specs.ListRecord.{entry_bytes, list_bytes, record_bytes, list_size}
 
 -- an entry has ten bytes
-pub entry_length : (e : Entry) → length (entryBytes e) ≡ 10
-unfolding entryBytes
+pub entry_length : (e : Entry) → length (entry_bytes e) ≡ 10
+unfolding entry_bytes
 entry_length e = refl
 
 -- the entries' bytes
-pub list_length : (es : List Entry) → length (listBytes es) ≡ 10 * length es
-unfolding listBytes
+pub list_length : (es : List Entry) → length (list_bytes es) ≡ 10 * length es
+unfolding list_bytes
 list_length [] = refl
-list_length (e ∷ es) = length-append (entryBytes e) (listBytes es) ∙ omega (arith, entry_length e, list_length es)
+list_length (e ∷ es) = length-append (entry_bytes e) (list_bytes es) ∙ omega (arith, entry_length e, list_length es)
 
 -- THE RECORD'S LENGTH
-pub record-length : (es : List Entry) → length (recordBytes es) ≡ listSize (length es)
-unfolding recordBytes
-record-length es = omega (arith, list_length es)
+pub record_length : (es : List Entry) → length (record_bytes es) ≡ list_size (length es)
+unfolding record_bytes
+record_length es = omega (arith, list_length es)
 
 -- lists behind each other
-pub list-append : (es fs : List Entry) → listBytes (es ++ fs) ≡ listBytes es ++ listBytes fs
-unfolding listBytes
-list-append [] fs = refl
-list-append (e ∷ es) fs = ap (λ (y : List ℕ). entryBytes e ++ y) (list-append es fs) ∙ sym (append_assoc (entryBytes e) (listBytes es) (listBytes fs))
+pub list_append : (es fs : List Entry) → list_bytes (es ++ fs) ≡ list_bytes es ++ list_bytes fs
+unfolding list_bytes
+list_append [] fs = refl
+list_append (e ∷ es) fs = ap (λ (y : List ℕ). entry_bytes e ++ y) (list_append es fs) ∙ sym (append_assoc (entry_bytes e) (list_bytes es) (list_bytes fs))
 
 -- one entry
-pub list-one : (e : Entry) → listBytes (e ∷ []) ≡ entryBytes e
-unfolding listBytes
-list-one e = append-nil (entryBytes e)
+pub list_one : (e : Entry) → list_bytes (e ∷ []) ≡ entry_bytes e
+unfolding list_bytes
+list_one e = append-nil (entry_bytes e)

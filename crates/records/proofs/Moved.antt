@@ -7,25 +7,25 @@ use lib.ListN.{length}
 use Rattle.grid.specs.declared.Leg.{Leg}
 use Rattle.grid.specs.declared.Site.{Site}
 use Rattle.split.specs.SplitList.{Entry}
-use Rattle.split.specs.SplitOf.{splitOf}
-use Rattle.split.specs.Moved.{movedLeg, movedSite, movedEntry}
-use Rattle.split.proofs.Moved.{moved-list}
+use Rattle.split.specs.SplitOf.{split_of}
+use Rattle.split.specs.Moved.{moved_leg, moved_site, moved_entry}
+use Rattle.split.proofs.Moved.{moved_list}
 use Rattle.records.specs.Bytes.{bytes2}
-use Rattle.records.specs.ListRecord.{entryBytes, listBytes, recordBytes}
+use Rattle.records.specs.ListRecord.{entry_bytes, list_bytes, record_bytes}
 
 module _ (k : ℕ) where
-  count-moved : (es : List Entry) → length (map (movedEntry k) es) ≡ length es
-  count-moved [] = refl
-  count-moved (e ∷ es) = ap suc (count-moved es)
+  count_moved : (es : List Entry) → length (map (moved_entry k) es) ≡ length es
+  count_moved [] = refl
+  count_moved (e ∷ es) = ap suc (count_moved es)
 
-  entries-moved : (es : List Entry) → listBytes (map (movedEntry k) es) ≡ listBytes es
-  unfolding listBytes entryBytes
-  entries-moved [] = refl
-  entries-moved (e ∷ es) = ap (λ (b : List ℕ). entryBytes e ++ b) (entries-moved es)
+  entries_moved : (es : List Entry) → list_bytes (map (moved_entry k) es) ≡ list_bytes es
+  unfolding list_bytes entry_bytes
+  entries_moved [] = refl
+  entries_moved (e ∷ es) = ap (λ (b : List ℕ). entry_bytes e ++ b) (entries_moved es)
 
   -- THE SAME RECORD, byte for byte, from every corner
-  pub moved-record : (l : Leg) (s : List Site) → recordBytes (splitOf (movedLeg k l) (map (movedSite k) s)) ≡ recordBytes (splitOf l s)
-  unfolding recordBytes
-  moved-record l s =
-      ap recordBytes (moved-list k l s)
-      ∙ (λ i. 0x3D ∷ bytes2 (count-moved (splitOf l s) i) ++ entries-moved (splitOf l s) i)
+  pub moved_record : (l : Leg) (s : List Site) → record_bytes (split_of (moved_leg k l) (map (moved_site k) s)) ≡ record_bytes (split_of l s)
+  unfolding record_bytes
+  moved_record l s =
+      ap record_bytes (moved_list k l s)
+      ∙ (λ i. 0x3D ∷ bytes2 (count_moved (split_of l s) i) ++ entries_moved (split_of l s) i)

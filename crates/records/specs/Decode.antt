@@ -3,7 +3,7 @@
 use Rattle.std.specs.Prelude.{List, [], ◌∷◌, ℕ, zero, suc, ◌+◌, ◌*◌, get_or, drop}
 use Rattle.grid.specs.declared.Fraction.{Fraction}
 use Rattle.split.specs.SplitList.{Entry}
-use Rattle.records.specs.ListRecord.{headSize, entrySize}
+use Rattle.records.specs.ListRecord.{head_size, entry_size}
 
 -- an entry as the record has it: a site's number and a start
 pub record Listed : Type 0 where
@@ -27,10 +27,10 @@ abbrev pub read_entry : List ℕ → Listed
 read_entry s = record { number = read2 s 0; start = record { num = read4 s 2; den = read4 s 6 } }
 
 -- k entries behind each other
-unfoldable pub readList : ℕ → List ℕ → List Listed
-readList zero s = []
-readList (suc k) s = read_entry s ∷ readList k (drop entrySize s)
+unfoldable pub read_list : ℕ → List ℕ → List Listed
+read_list zero s = []
+read_list (suc k) s = read_entry s ∷ read_list k (drop entry_size s)
 
 -- the record: "3D, a 16-bit count, then per entry .."
-unfoldable pub readRecord : List ℕ → List Listed
-readRecord s = readList (read2 s 1) (drop headSize s)
+unfoldable pub read_record : List ℕ → List Listed
+read_record s = read_list (read2 s 1) (drop head_size s)

@@ -6,26 +6,26 @@ use Rattle.split.specs.SplitList.{Entry}
 use Rattle.records.specs.Bytes.{bytes2, bytes4}
 
 -- an entry: the site's number, the start
-unfoldable pub entryBytes : Entry → List ℕ
-entryBytes e = bytes2 e.site.number ++ bytes4 e.start.num ++ bytes4 e.start.den
+unfoldable pub entry_bytes : Entry → List ℕ
+entry_bytes e = bytes2 e.site.number ++ bytes4 e.start.num ++ bytes4 e.start.den
 
 -- the entries in turn
-unfoldable pub listBytes : List Entry → List ℕ
-listBytes [] = []
-listBytes (e ∷ es) = entryBytes e ++ listBytes es
+unfoldable pub list_bytes : List Entry → List ℕ
+list_bytes [] = []
+list_bytes (e ∷ es) = entry_bytes e ++ list_bytes es
 
 -- the whole record
-unfoldable pub recordBytes : List Entry → List ℕ
-recordBytes es = 0x3D ∷ bytes2 (length es) ++ listBytes es
+unfoldable pub record_bytes : List Entry → List ℕ
+record_bytes es = 0x3D ∷ bytes2 (length es) ++ list_bytes es
 
 -- the bytes of mark and count
-abbrev pub headSize : ℕ
-headSize = 3
+abbrev pub head_size : ℕ
+head_size = 3
 
 -- the bytes of an entry: 2 + 4 + 4
-abbrev pub entrySize : ℕ
-entrySize = 10
+abbrev pub entry_size : ℕ
+entry_size = 10
 
 -- the bytes of a record of k entries
-abbrev pub listSize : ℕ → ℕ
-listSize k = headSize + entrySize * k
+abbrev pub list_size : ℕ → ℕ
+list_size k = head_size + entry_size * k

@@ -5,56 +5,56 @@ use mathlib.Core.List.{[], ◌∷◌}
 use mathlib.Core.Option.{none, some}
 use native.Mathlib.Decide.{dec_le, dec_lt}
 use native.Mathlib.Omega.{arith}
-use Rattle.limits.specs.Limits.{workBytes}
+use Rattle.limits.specs.Limits.{work_bytes}
 use Rattle.words.specs.Words.{word_at}
-use Rattle.grid.specs.Position.{squaredDifference, distance, LegOnGrid}
-use Rattle.grid.specs.Coordinate.{fromWord, toWord}
-use Rattle.grid.specs.Side.{onTheRight?}
-use Rattle.grid.specs.Fraction.{gcdBy, gcdOf, lowest}
+use Rattle.grid.specs.Position.{squared_difference, distance, LegOnGrid}
+use Rattle.grid.specs.Coordinate.{from_word, to_word}
+use Rattle.grid.specs.Side.{on_the_right?}
+use Rattle.grid.specs.Fraction.{gcd_by, gcd_of, lowest}
 use Rattle.split.specs.Legs.{ten}
 use Rattle.split.specs.SplitList.{rank}
-use Rattle.split.specs.SplitOf.{hides?, rightBelow?, under?, push, insert, build, splitOf}
-use Rattle.records.specs.ListRecord.{entryBytes, listBytes, recordBytes}
-use Rattle.book.specs.Book.{emptyBook, writeLine, strikeLine, holds, change, open_in, isClosed, openNumber}
-use Rattle.book.specs.Command.{form_of, parseAt}
+use Rattle.split.specs.SplitOf.{hides?, right_below?, under?, push, insert, build, split_of}
+use Rattle.records.specs.ListRecord.{entry_bytes, list_bytes, record_bytes}
+use Rattle.book.specs.Book.{empty_book, write_line, strike_line, holds, change, open_in, is_closed, open_number}
+use Rattle.book.specs.Command.{form_of, parse_at}
 use Rattle.book.specs.Answer.{answer}
 use Rattle.book.specs.Run.{records, turn, run_from}
-use Rattle.demands.specs.Whole.{replies, repliesAsking, bookAfter}
-use Rattle.replay.specs.Replayed.{ask, siteOne, siteTwo, standTen, endAsks, endReplies, tenBytes}
+use Rattle.demands.specs.Whole.{replies, replies_asking, book_after}
+use Rattle.replay.specs.Replayed.{ask, site_one, site_two, stand_ten, end_asks, end_replies, ten_bytes}
 
 -- 64, 0, 66, 67 and 68
-pub end-replies : replies emptyBook endAsks ≡ endReplies
-unfolding repliesAsking bookAfter records turn run_from parseAt form_of word_at fromWord toWord answer holds change writeLine open_in isClosed openNumber strikeLine splitOf build insert push hides? under? rightBelow? dec_le dec_lt distance squaredDifference rank onTheRight? lowest gcdOf gcdBy entryBytes listBytes recordBytes
-end-replies = refl
+pub end_replies_lem : replies empty_book end_asks ≡ end_replies
+unfolding replies_asking book_after records turn run_from parse_at form_of word_at from_word to_word answer holds change write_line open_in is_closed open_number strike_line split_of build insert push hides? under? right_below? dec_le dec_lt distance squared_difference rank on_the_right? lowest gcd_of gcd_by entry_bytes list_bytes record_bytes
+end_replies_lem = refl
 
 -- site 3 has come and gone
-pub end-lines : (bookAfter emptyBook endAsks).lines ≡ siteOne ∷ siteTwo ∷ []
-unfolding repliesAsking bookAfter records turn run_from parseAt form_of word_at fromWord toWord answer holds change writeLine open_in isClosed openNumber strikeLine splitOf build insert push hides? under? rightBelow? dec_le dec_lt distance squaredDifference rank onTheRight? lowest gcdOf gcdBy entryBytes listBytes recordBytes
-end-lines = refl
+pub end_lines : (book_after empty_book end_asks).lines ≡ site_one ∷ site_two ∷ []
+unfolding replies_asking book_after records turn run_from parse_at form_of word_at from_word to_word answer holds change write_line open_in is_closed open_number strike_line split_of build insert push hides? under? right_below? dec_le dec_lt distance squared_difference rank on_the_right? lowest gcd_of gcd_by entry_bytes list_bytes record_bytes
+end_lines = refl
 
 -- and none is closed
-pub end-closed : (bookAfter emptyBook endAsks).closed ≡ []
-unfolding repliesAsking bookAfter records turn run_from parseAt form_of word_at fromWord toWord answer holds change writeLine open_in isClosed openNumber strikeLine splitOf build insert push hides? under? rightBelow? dec_le dec_lt distance squaredDifference rank onTheRight? lowest gcdOf gcdBy entryBytes listBytes recordBytes
-end-closed = refl
+pub end_closed : (book_after empty_book end_asks).closed ≡ []
+unfolding replies_asking book_after records turn run_from parse_at form_of word_at from_word to_word answer holds change write_line open_in is_closed open_number strike_line split_of build insert push hides? under? right_below? dec_le dec_lt distance squared_difference rank on_the_right? lowest gcd_of gcd_by entry_bytes list_bytes record_bytes
+end_closed = refl
 
-pub both-open : open_in [] (siteOne ∷ siteTwo ∷ []) ≡ siteOne ∷ siteTwo ∷ []
-unfolding open_in isClosed
-both-open = refl
+pub both_open : open_in [] (site_one ∷ site_two ∷ []) ≡ site_one ∷ site_two ∷ []
+unfolding open_in is_closed
+both_open = refl
 
 -- "1 from 0/1, 2 from 37/100"
-pub ten-list : recordBytes (splitOf ten (siteOne ∷ siteTwo ∷ [])) ≡ tenBytes
-unfolding splitOf build insert push hides? under? rightBelow? dec_le dec_lt distance squaredDifference rank onTheRight? lowest gcdOf gcdBy entryBytes listBytes recordBytes
-ten-list = refl
+pub ten_list_lem : record_bytes (split_of ten (site_one ∷ site_two ∷ [])) ≡ ten_bytes
+unfolding split_of build insert push hides? under? right_below? dec_le dec_lt distance squared_difference rank on_the_right? lowest gcd_of gcd_by entry_bytes list_bytes record_bytes
+ten_list_lem = refl
 
-pub ten-on : LegOnGrid ten
-ten-on = record { s = record { east = omega arith; north = omega arith }; e = record { east = omega arith; north = omega arith } }
+pub ten_on : LegOnGrid ten
+ten_on = record { s = record { east = omega arith; north = omega arith }; e = record { east = omega arith; north = omega arith } }
 
 -- a 53 sets the leg, and adds no site
-pub stood-book : bookAfter emptyBook (ask workBytes standTen 2 ∷ []) ≡ record { lines = []; closed = []; leg = some ten; tour = none }
-unfolding repliesAsking bookAfter records turn run_from parseAt form_of word_at fromWord toWord answer holds change
-stood-book = refl
+pub stood_book : book_after empty_book (ask work_bytes stand_ten 2 ∷ []) ≡ record { lines = []; closed = []; leg = some ten; tour = none }
+unfolding replies_asking book_after records turn run_from parse_at form_of word_at from_word to_word answer holds change
+stood_book = refl
 
 -- its list is empty
-pub no-entry : splitOf ten (open_in [] []) ≡ []
-unfolding splitOf build open_in
-no-entry = refl
+pub no_entry_lem : split_of ten (open_in [] []) ≡ []
+unfolding split_of build open_in
+no_entry_lem = refl

@@ -1,7 +1,7 @@
 // Calls that end with 69 and 65, on tables that were damaged.
 ghost use Rattle.std.specs.Prelude.{◌≡◌, [], length};
-ghost use Rattle.limits.specs.Limits.{tableBytes};
-ghost use Rattle.replay.specs.Replayed.{reply, saidIn, lengthHit, LengthHit, Stood, DamageTold};
+ghost use Rattle.limits.specs.Limits.{table_bytes};
+ghost use Rattle.replay.specs.Replayed.{reply, said_in, length_hit, LengthHit, Stood, DamageTold};
 
 use crate::{Heard, small_call};
 
@@ -18,7 +18,7 @@ pub struct Damaged {
 
 // Lays out a table, writes 65,535 for the length of its standing list, and calls.
 fn hit_length(table: &mut [u8]) -> Heard
-    requires { length table.old ≡ tableBytes }
+    requires { length table.old ≡ table_bytes }
     ensures { LengthHit result table.new }
 {
     service::lay_out(table);
@@ -29,8 +29,8 @@ fn hit_length(table: &mut [u8]) -> Heard
 
 // Writes 2 for the flag of the standing leg as well, and calls.
 fn hit_flag(table: &mut [u8]) -> Heard
-    requires { table.old ≡ lengthHit }
-    ensures { saidIn result ≡ reply 65 0 [] }
+    requires { table.old ≡ length_hit }
+    ensures { said_in result ≡ reply 65 0 [] }
 {
     words::put_word(table, 2, 2);
     let print = [0x50u8];
@@ -39,8 +39,8 @@ fn hit_flag(table: &mut [u8]) -> Heard
 
 // Lays out a table, writes a coordinate of the standing leg, which it has not, and calls.
 fn hit_zeros(table: &mut [u8]) -> Heard
-    requires { length table.old ≡ tableBytes }
-    ensures { saidIn result ≡ reply 65 0 [] }
+    requires { length table.old ≡ table_bytes }
+    ensures { said_in result ≡ reply 65 0 [] }
 {
     service::lay_out(table);
     words::put_word(table, 4, 1);
@@ -50,7 +50,7 @@ fn hit_zeros(table: &mut [u8]) -> Heard
 
 // Lays out a table and sets the standing leg from (0, 0) to (10, 0).
 fn stand_ten(table: &mut [u8])
-    requires { length table.old ≡ tableBytes }
+    requires { length table.old ≡ table_bytes }
     ensures { Stood table.new }
 {
     service::lay_out(table);
@@ -60,8 +60,8 @@ fn stand_ten(table: &mut [u8])
 
 // Writes a coordinate off the grid for one of that leg, and calls.
 fn hit_leg(table: &mut [u8]) -> Heard
-    requires { length table.old ≡ tableBytes }
-    ensures { saidIn result ≡ reply 69 0 [] }
+    requires { length table.old ≡ table_bytes }
+    ensures { said_in result ≡ reply 69 0 [] }
 {
     stand_ten(table);
     words::put_word(table, 4, 24001);
@@ -71,8 +71,8 @@ fn hit_leg(table: &mut [u8]) -> Heard
 
 // Writes 1 for the length of its list, where no site is held, and calls.
 fn hit_siteless(table: &mut [u8]) -> Heard
-    requires { length table.old ≡ tableBytes }
-    ensures { saidIn result ≡ reply 69 0 [] }
+    requires { length table.old ≡ table_bytes }
+    ensures { said_in result ≡ reply 69 0 [] }
 {
     stand_ten(table);
     words::put_word(table, 12, 1);

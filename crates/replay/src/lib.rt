@@ -10,7 +10,7 @@ pub mod refresh;
 pub mod survey;
 
 ghost use Rattle.std.specs.Prelude.{◌≡◌, length};
-ghost use Rattle.limits.specs.Limits.{tableBytes, workBytes};
+ghost use Rattle.limits.specs.Limits.{table_bytes, work_bytes};
 ghost use Rattle.replay.specs.Replayed.{ask, Called, Opened, Closed, Refilled, AskedTen, Replayed};
 
 use book::BatchResult;
@@ -48,7 +48,7 @@ pub struct Row {
 
 // A call with a work buffer of its own.
 fn call(table: &mut [u8], commands: &[u8], report: &mut [u8]) -> BatchResult
-    ensures { Called (ask workBytes commands.now (length report.old))
+    ensures { Called (ask work_bytes commands.now (length report.old))
         result table.old table.new report.new }
 {
     let mut work = [0u8; limits::WORK_BYTES];
@@ -57,7 +57,7 @@ fn call(table: &mut [u8], commands: &[u8], report: &mut [u8]) -> BatchResult
 
 // A call with buffers of its own, and room for two bytes.
 fn small_call(table: &mut [u8], commands: &[u8]) -> Heard
-    ensures { Called (ask workBytes commands.now 2)
+    ensures { Called (ask work_bytes commands.now 2)
         result.result table.old table.new result.report }
 {
     let mut report = [0u8; 2];
@@ -84,7 +84,7 @@ fn short_call(table: &mut [u8], commands: &[u8]) -> Heard
 
 // Lays out a table and adds sites 1 and 2, once with too short a work buffer.
 fn begin(table: &mut [u8]) -> Opening
-    requires { length table.old ≡ tableBytes }
+    requires { length table.old ≡ table_bytes }
     ensures { Opened result table.new }
 {
     service::lay_out(table);
@@ -117,7 +117,7 @@ fn go_on(table: &mut [u8]) -> Closing
 
 // Lays out a table and adds site 2, and in another batch site 1.
 fn refill(table: &mut [u8])
-    requires { length table.old ≡ tableBytes }
+    requires { length table.old ≡ table_bytes }
     ensures { Refilled table.new }
 {
     service::lay_out(table);

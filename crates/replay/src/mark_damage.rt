@@ -1,10 +1,10 @@
 // Calls on tables that were damaged in the words of marks: the layout's number, the root's number of open sites, the
 // mark of a record, the site that a tour remembers, and the standing list.
 ghost use Rattle.std.specs.Prelude.{◌≡◌, [], length};
-ghost use Rattle.limits.specs.Limits.{tableBytes};
-ghost use Rattle.replay.specs.Replayed.{reply, saidIn};
+ghost use Rattle.limits.specs.Limits.{table_bytes};
+ghost use Rattle.replay.specs.Replayed.{reply, said_in};
 ghost use Rattle.replay.specs.ClosedLine.{RanSo};
-ghost use Rattle.replay.specs.MarkFaults.{oneAsks, namedAsks, tourAsks, Driven};
+ghost use Rattle.replay.specs.MarkFaults.{one_asks, named_asks, tour_asks, Driven};
 ghost use Rattle.replay.specs.MarkFaults.{CountsTold, MarksTold, MarkDamageTold};
 
 use crate::{Heard, call, small_call};
@@ -34,8 +34,8 @@ pub struct MarkDamaged {
 
 // Lays out a table, writes 2 for the number of its layout, and calls.
 fn hit_layout(table: &mut [u8]) -> Heard
-    requires { length table.old ≡ tableBytes }
-    ensures { saidIn result ≡ reply 65 0 [] }
+    requires { length table.old ≡ table_bytes }
+    ensures { said_in result ≡ reply 65 0 [] }
 {
     service::lay_out(table);
     words::put_word(table, 14, 2);
@@ -45,8 +45,8 @@ fn hit_layout(table: &mut [u8]) -> Heard
 
 // Lays out a table, writes 1 for its number of open sites, and calls.
 fn hit_root(table: &mut [u8]) -> Heard
-    requires { length table.old ≡ tableBytes }
-    ensures { saidIn result ≡ reply 65 0 [] }
+    requires { length table.old ≡ table_bytes }
+    ensures { said_in result ≡ reply 65 0 [] }
 {
     service::lay_out(table);
     words::put_word(table, 5718, 1);
@@ -56,8 +56,8 @@ fn hit_root(table: &mut [u8]) -> Heard
 
 // Lays out a table and adds site 1.
 fn add_first(table: &mut [u8])
-    requires { length table.old ≡ tableBytes }
-    ensures { RanSo oneAsks table.new }
+    requires { length table.old ≡ table_bytes }
+    ensures { RanSo one_asks table.new }
 {
     service::lay_out(table);
     let add = [0x41u8, 1, 0, 2, 0, 3, 0];
@@ -66,8 +66,8 @@ fn add_first(table: &mut [u8])
 
 // Writes 0 for its number of open sites, and calls.
 fn hit_held(table: &mut [u8]) -> Heard
-    requires { length table.old ≡ tableBytes }
-    ensures { saidIn result ≡ reply 65 0 [] }
+    requires { length table.old ≡ table_bytes }
+    ensures { said_in result ≡ reply 65 0 [] }
 {
     add_first(table);
     words::put_word(table, 5718, 0);
@@ -77,8 +77,8 @@ fn hit_held(table: &mut [u8]) -> Heard
 
 // Writes 2 for the mark of its site, and calls.
 fn hit_mark(table: &mut [u8]) -> Heard
-    requires { length table.old ≡ tableBytes }
-    ensures { saidIn result ≡ reply 65 0 [] }
+    requires { length table.old ≡ table_bytes }
+    ensures { said_in result ≡ reply 65 0 [] }
 {
     add_first(table);
     words::put_word(table, 70, 2);
@@ -97,8 +97,8 @@ fn drive_ten(table: &mut [u8])
 
 // Lays out a table, adds sites 1 and 2, closes 2, and drives a tour, which remembers 1.
 fn close_and_drive(table: &mut [u8])
-    requires { length table.old ≡ tableBytes }
-    ensures { RanSo tourAsks table.new }
+    requires { length table.old ≡ table_bytes }
+    ensures { RanSo tour_asks table.new }
 {
     service::lay_out(table);
     let add = [0x41u8, 1, 0, 2, 0, 3, 0, 0x41, 2, 0, 7, 0, 1, 0];
@@ -110,8 +110,8 @@ fn close_and_drive(table: &mut [u8])
 
 // Writes 2 for the site that is remembered, and calls.
 fn hit_tour(table: &mut [u8]) -> Heard
-    requires { length table.old ≡ tableBytes }
-    ensures { saidIn result ≡ reply 65 0 [] }
+    requires { length table.old ≡ table_bytes }
+    ensures { said_in result ≡ reply 65 0 [] }
 {
     close_and_drive(table);
     words::put_word(table, 22, 2);
@@ -121,8 +121,8 @@ fn hit_tour(table: &mut [u8]) -> Heard
 
 // Lays out a table, adds sites 1 and 2, sets the standing leg, and closes 2: the standing list names 1.
 fn stand_and_close(table: &mut [u8])
-    requires { length table.old ≡ tableBytes }
-    ensures { RanSo namedAsks table.new }
+    requires { length table.old ≡ table_bytes }
+    ensures { RanSo named_asks table.new }
 {
     service::lay_out(table);
     let add = [0x41u8, 1, 0, 2, 0, 3, 0, 0x41, 2, 0, 7, 0, 1, 0];
@@ -133,8 +133,8 @@ fn stand_and_close(table: &mut [u8])
 
 // Writes 2 for the number in that list, and calls.
 fn hit_list(table: &mut [u8]) -> Heard
-    requires { length table.old ≡ tableBytes }
-    ensures { saidIn result ≡ reply 69 0 [] }
+    requires { length table.old ≡ table_bytes }
+    ensures { said_in result ≡ reply 69 0 [] }
 {
     stand_and_close(table);
     words::put_word(table, 4160, 2);
@@ -144,7 +144,7 @@ fn hit_list(table: &mut [u8]) -> Heard
 
 // The first three.
 fn hit_counts(table: &mut [u8]) -> Uncounted
-    requires { length table.old ≡ tableBytes }
+    requires { length table.old ≡ table_bytes }
     ensures { CountsTold result }
 {
     let layout = hit_layout(table);
@@ -159,7 +159,7 @@ fn hit_counts(table: &mut [u8]) -> Uncounted
 
 // And the others.
 fn hit_marks(table: &mut [u8]) -> Unmarked
-    requires { length table.old ≡ tableBytes }
+    requires { length table.old ≡ table_bytes }
     ensures { MarksTold result }
 {
     let mark = hit_mark(table);

@@ -1,9 +1,9 @@
 // Batches with 58 and 4F: what is refused, what a closed site still counts for, and what ends a tour.
 ghost use Rattle.std.specs.Prelude.{◌≡◌, length};
-ghost use Rattle.limits.specs.Limits.{tableBytes, workBytes};
+ghost use Rattle.limits.specs.Limits.{table_bytes, work_bytes};
 ghost use Rattle.replay.specs.Replayed.{ask, Called};
-ghost use Rattle.replay.specs.MarkBatches.{heldBytes, noneBytes, tourBytes, endBytes};
-ghost use Rattle.replay.specs.MarkBatches.{heldPages, nonePages, tourPages, endPages};
+ghost use Rattle.replay.specs.MarkBatches.{held_bytes, none_bytes, tour_bytes, end_bytes};
+ghost use Rattle.replay.specs.MarkBatches.{held_pages, none_pages, tour_pages, end_pages};
 ghost use Rattle.replay.specs.MarkBatches.{FirstPaged, Paged, RulesTold};
 
 use crate::call;
@@ -69,7 +69,7 @@ pub struct Pages {
 
 // A call with buffers of its own, and room for 24 bytes.
 fn page_call(table: &mut [u8], commands: &[u8]) -> Page
-    ensures { Called (ask workBytes commands.now 24)
+    ensures { Called (ask work_bytes commands.now 24)
         result.result table.old table.new result.report }
 {
     let mut report = [0u8; 24];
@@ -82,7 +82,7 @@ fn page_call(table: &mut [u8], commands: &[u8]) -> Page
 
 // Lays out a table and adds sites 1 and 2. Closes and opens 0, and 9, which is not held.
 fn refuse_marks(table: &mut [u8]) -> FirstPages
-    requires { length table.old ≡ tableBytes }
+    requires { length table.old ≡ table_bytes }
     ensures { FirstPaged result table.new }
 {
     service::lay_out(table);
@@ -99,7 +99,7 @@ fn refuse_marks(table: &mut [u8]) -> FirstPages
 // Closes site 2 twice, and adds it. Moves it to (3, 0), and asks for a leg. Moves it by readings, and closes it. Asks
 // for the leg, and closes site 1.
 fn hold_closed(table: &mut [u8]) -> HeldPages
-    ensures { Paged heldBytes (heldPages result) table.old table.new }
+    ensures { Paged held_bytes (held_pages result) table.old table.new }
 {
     let count = [0x58u8, 2, 0, 0x58, 2, 0, 0x41, 2, 0, 7, 0, 1, 0];
     let counted = page_call(table, &count);
@@ -120,7 +120,7 @@ fn hold_closed(table: &mut [u8]) -> HeldPages
 // Asks for a leg and for the standing list, without one; for a leg of a tour; and for the standing list, with one,
 // before and behind a 4F of site 2.
 fn ask_none(table: &mut [u8]) -> NonePages
-    ensures { Paged noneBytes (nonePages result) table.old table.new }
+    ensures { Paged none_bytes (none_pages result) table.old table.new }
 {
     let list = [0x4Cu8, 0, 0, 0, 0, 10, 0, 0, 0, 0x50];
     let asked = page_call(table, &list);
@@ -137,7 +137,7 @@ fn ask_none(table: &mut [u8]) -> NonePages
 
 // Drives a tour with a 58 of site 1, which is closed, and a 4F of site 2, which is open; and then a 4F of site 1.
 fn tour_on(table: &mut [u8]) -> TourPages
-    ensures { Paged tourBytes (tourPages result) table.old table.new }
+    ensures { Paged tour_bytes (tour_pages result) table.old table.new }
 {
     let begin = [0x42u8, 0, 0, 0, 0, 0x58, 1, 0, 0x43, 10, 0, 0, 0];
     let begun = page_call(table, &begin);
@@ -155,7 +155,7 @@ fn tour_on(table: &mut [u8]) -> TourPages
 // Drives a tour with a 58 of site 1, which is open, and one with a move of it to where it is. Removes it twice. Adds
 // it, and asks for a leg.
 fn end_tours(table: &mut [u8]) -> EndPages
-    ensures { Paged endBytes (endPages result) table.old table.new }
+    ensures { Paged end_bytes (end_pages result) table.old table.new }
 {
     let close = [0x42u8, 0, 0, 0, 0, 0x58, 1, 0, 0x43, 10, 0, 0, 0];
     let closed = page_call(table, &close);

@@ -1,6 +1,6 @@
 // Calls that close and open a site, and add and remove one, each between two prints of the standing list.
 ghost use Rattle.std.specs.Prelude.{◌≡◌, length};
-ghost use Rattle.limits.specs.Limits.{tableBytes, workBytes};
+ghost use Rattle.limits.specs.Limits.{table_bytes, work_bytes};
 ghost use Rattle.replay.specs.Replayed.{ask, Called};
 ghost use Rattle.replay.specs.Marks.{StoodBoth, ListedPrinted, Followed, ClosedOpened, AddedRemoved, MarkTold};
 
@@ -60,7 +60,7 @@ pub struct Marked {
 
 // A call with buffers of its own, and room for a list of three entries.
 fn show(table: &mut [u8], commands: &[u8]) -> Shown
-    ensures { Called (ask workBytes commands.now 33)
+    ensures { Called (ask work_bytes commands.now 33)
         result.result table.old table.new result.report }
 {
     let mut report = [0u8; 33];
@@ -73,7 +73,7 @@ fn show(table: &mut [u8], commands: &[u8]) -> Shown
 
 // Lays out a table, adds sites 1 and 2, and sets the standing leg from (0, 0) to (10, 0).
 fn stand_both(table: &mut [u8]) -> First
-    requires { length table.old ≡ tableBytes }
+    requires { length table.old ≡ table_bytes }
     ensures { StoodBoth result table.new }
 {
     service::lay_out(table);

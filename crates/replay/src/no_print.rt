@@ -1,9 +1,9 @@
 // Prints that are refused: of a table without a standing leg, and of one with a leg and no site open.
 ghost use Rattle.std.specs.Prelude.{◌≡◌, [], ◌∷◌, length};
-ghost use Rattle.limits.specs.Limits.{tableBytes};
-ghost use Rattle.replay.specs.Replayed.{reply, saidIn};
+ghost use Rattle.limits.specs.Limits.{table_bytes};
+ghost use Rattle.replay.specs.Replayed.{reply, said_in};
 ghost use Rattle.replay.specs.ClosedLine.{RanSo};
-ghost use Rattle.replay.specs.PrintRefused.{shutAsks, PrintTold};
+ghost use Rattle.replay.specs.PrintRefused.{shut_asks, PrintTold};
 
 use crate::{Heard, small_call};
 
@@ -16,8 +16,8 @@ pub struct Unprinted {
 
 // Lays out a table, and prints its standing list.
 fn print_unset(table: &mut [u8]) -> Heard
-    requires { length table.old ≡ tableBytes }
-    ensures { saidIn result ≡ reply 0 1 (0x21 ∷ 7 ∷ []) }
+    requires { length table.old ≡ table_bytes }
+    ensures { said_in result ≡ reply 0 1 (0x21 ∷ 7 ∷ []) }
 {
     service::lay_out(table);
     let print = [0x50u8];
@@ -26,8 +26,8 @@ fn print_unset(table: &mut [u8]) -> Heard
 
 // Lays out a table, adds site 1, sets the standing leg from (0, 0) to (10, 0), and closes the site.
 fn stand_shut(table: &mut [u8])
-    requires { length table.old ≡ tableBytes }
-    ensures { RanSo shutAsks table.new }
+    requires { length table.old ≡ table_bytes }
+    ensures { RanSo shut_asks table.new }
 {
     service::lay_out(table);
     let add = [0x41u8, 1, 0, 2, 0, 3, 0];
@@ -38,8 +38,8 @@ fn stand_shut(table: &mut [u8])
 
 // Prints the standing list of that table.
 fn print_shut(table: &mut [u8]) -> Heard
-    requires { length table.old ≡ tableBytes }
-    ensures { saidIn result ≡ reply 0 1 (0x21 ∷ 6 ∷ []) }
+    requires { length table.old ≡ table_bytes }
+    ensures { said_in result ≡ reply 0 1 (0x21 ∷ 6 ∷ []) }
 {
     stand_shut(table);
     let print = [0x50u8];

@@ -1,7 +1,7 @@
 // One leg asked of a table with a closed site, and of a fresh one that was given the same lines and marks.
 ghost use Rattle.std.specs.Prelude.{◌≡◌, length};
-ghost use Rattle.limits.specs.Limits.{tableBytes};
-ghost use Rattle.replay.specs.ClosedLine.{closedAsks, freshAsks, RanSo, AskedOne, ClosedLineTold};
+ghost use Rattle.limits.specs.Limits.{table_bytes};
+ghost use Rattle.replay.specs.ClosedLine.{closed_asks, fresh_asks, RanSo, AskedOne, ClosedLineTold};
 
 use crate::{call, small_call};
 
@@ -14,8 +14,8 @@ pub struct OneLeg {
 
 // Lays out a table, adds sites 1 and 2, and closes 2.
 fn add_and_close(table: &mut [u8])
-    requires { length table.old ≡ tableBytes }
-    ensures { RanSo closedAsks table.new }
+    requires { length table.old ≡ table_bytes }
+    ensures { RanSo closed_asks table.new }
 {
     service::lay_out(table);
     let add = [0x41u8, 1, 0, 2, 0, 3, 0, 0x41, 2, 0, 7, 0, 1, 0];
@@ -26,8 +26,8 @@ fn add_and_close(table: &mut [u8])
 
 // Lays out a table, adds site 2 and then site 1, and in another batch closes 2.
 fn refill_closed(table: &mut [u8])
-    requires { length table.old ≡ tableBytes }
-    ensures { RanSo freshAsks table.new }
+    requires { length table.old ≡ table_bytes }
+    ensures { RanSo fresh_asks table.new }
 {
     service::lay_out(table);
     let add = [0x41u8, 2, 0, 7, 0, 1, 0, 0x41, 1, 0, 2, 0, 3, 0];

@@ -1,10 +1,10 @@
 // Calls with receiver readings, beside the same with the steps written out.
 ghost use Rattle.std.specs.Prelude.{◌≡◌, length};
-ghost use Rattle.limits.specs.Limits.{tableBytes, workBytes};
+ghost use Rattle.limits.specs.Limits.{table_bytes, work_bytes};
 ghost use Rattle.replay.specs.Replayed.{ask, Called};
-ghost use Rattle.replay.specs.Surveys.{survey, moveOne, addBeyond, listCut};
-ghost use Rattle.replay.specs.Surveys.{steps, moveOneSteps, addBeyondSteps, listCutSteps};
-ghost use Rattle.replay.specs.Surveys.{addZero, addInfinite, addHeld, moveZero, moveInfinite, moveAbsent};
+ghost use Rattle.replay.specs.Surveys.{survey, move_one, add_beyond, list_cut};
+ghost use Rattle.replay.specs.Surveys.{steps, move_one_steps, add_beyond_steps, list_cut_steps};
+ghost use Rattle.replay.specs.Surveys.{add_zero, add_infinite, add_held, move_zero, move_infinite, move_absent};
 ghost use Rattle.replay.specs.Surveys.{Begun, GoneOn, Run, NotTaken, BothNotTaken, SurveyTold};
 
 use crate::{Heard, call, small_call};
@@ -59,7 +59,7 @@ pub struct Surveyed {
 
 // A call with buffers of its own, and room for 24 bytes.
 fn longer_call(table: &mut [u8], commands: &[u8]) -> Longer
-    ensures { Called (ask workBytes commands.now 24)
+    ensures { Called (ask work_bytes commands.now 24)
         result.result table.old table.new result.report }
 {
     let mut report = [0u8; 24];
@@ -72,7 +72,7 @@ fn longer_call(table: &mut [u8], commands: &[u8]) -> Longer
 
 // Lays out a table, and adds site 1 at -150 m and negative zero; a print behind it finds no room.
 fn survey_first(table: &mut [u8]) -> Heard
-    requires { length table.old ≡ tableBytes }
+    requires { length table.old ≡ table_bytes }
     ensures { Begun survey result table.new }
 {
     service::lay_out(table);
@@ -83,7 +83,7 @@ fn survey_first(table: &mut [u8]) -> Heard
 // Moves site 1 to 150 m and 250 m. Adds site 3 at 1,200,050 m, with an unknown command behind it. Adds site 2 by steps
 // and asks for a leg, with a cut addition behind it.
 fn survey_on(table: &mut [u8]) -> Rest
-    ensures { GoneOn moveOne addBeyond listCut result table.old table.new }
+    ensures { GoneOn move_one add_beyond list_cut result table.old table.new }
 {
     let move_one = [0x6Du8, 1, 0, 0, 0, 22, 67, 0, 0, 122, 67];
     let used = small_call(table, &move_one);
@@ -100,7 +100,7 @@ fn survey_on(table: &mut [u8]) -> Rest
 
 // The first call with the steps written out.
 fn step_first(table: &mut [u8]) -> Heard
-    requires { length table.old ≡ tableBytes }
+    requires { length table.old ≡ table_bytes }
     ensures { Begun steps result table.new }
 {
     service::lay_out(table);
@@ -110,7 +110,7 @@ fn step_first(table: &mut [u8]) -> Heard
 
 // The others.
 fn step_on(table: &mut [u8]) -> Rest
-    ensures { GoneOn moveOneSteps addBeyondSteps listCutSteps result table.old table.new }
+    ensures { GoneOn move_one_steps add_beyond_steps list_cut_steps result table.old table.new }
 {
     let move_one = [0x4Du8, 1, 0, 2, 0, 3, 0];
     let used = small_call(table, &move_one);
@@ -127,8 +127,8 @@ fn step_on(table: &mut [u8]) -> Rest
 
 // The four calls with readings.
 fn survey_all(table: &mut [u8]) -> Readings
-    requires { length table.old ≡ tableBytes }
-    ensures { Run survey moveOne addBeyond listCut result table.new }
+    requires { length table.old ≡ table_bytes }
+    ensures { Run survey move_one add_beyond list_cut result table.new }
 {
     let full = survey_first(table);
     let rest = survey_on(table);
@@ -140,8 +140,8 @@ fn survey_all(table: &mut [u8]) -> Readings
 
 // The same four with the steps written out.
 fn step_all(table: &mut [u8]) -> Readings
-    requires { length table.old ≡ tableBytes }
-    ensures { Run steps moveOneSteps addBeyondSteps listCutSteps result table.new }
+    requires { length table.old ≡ table_bytes }
+    ensures { Run steps move_one_steps add_beyond_steps list_cut_steps result table.new }
 {
     let full = step_first(table);
     let rest = step_on(table);
@@ -154,7 +154,7 @@ fn step_all(table: &mut [u8]) -> Readings
 // Additions that are not taken: of site 0, no number and off the grid; of site 1, which is held, the same; and then
 // off the grid alone.
 fn add_badly(table: &mut [u8]) -> Refusals
-    ensures { NotTaken addZero addInfinite addHeld result table.old table.new }
+    ensures { NotTaken add_zero add_infinite add_held result table.old table.new }
 {
     let number_zero = [0x61u8, 0, 0, 0, 0, 192, 127, 144, 125, 146, 73];
     let zero = small_call(table, &number_zero);
@@ -172,7 +172,7 @@ fn add_badly(table: &mut [u8]) -> Refusals
 // Moves that are not taken: of site 0, off the grid and minus infinity; of site 9, which is not held, the same; and
 // then the largest number south.
 fn move_badly(table: &mut [u8]) -> Refusals
-    ensures { NotTaken moveZero moveInfinite moveAbsent result table.old table.new }
+    ensures { NotTaken move_zero move_infinite move_absent result table.old table.new }
 {
     let number_zero = [0x6Du8, 0, 0, 144, 125, 146, 73, 0, 0, 128, 255];
     let zero = small_call(table, &number_zero);

@@ -1,17 +1,17 @@
 // The two public calls: laying out a table, and a batch of commands on it. Document 01, "Buffers and batches".
 ghost use Rattle.std.specs.Prelude.{◌≡◌, length};
-ghost use Rattle.demands.specs.Batch.{returns, returnOf, Served, Batch, LaidOut};
-ghost use Rattle.limits.specs.Limits.{workBytes};
-ghost use Rattle.book.specs.Numbers.{reasonNumber};
+ghost use Rattle.demands.specs.Batch.{returns, return_of, Served, Batch, LaidOut};
+ghost use Rattle.limits.specs.Limits.{work_bytes};
+ghost use Rattle.book.specs.Numbers.{reason_number};
 ghost use Rattle.book.specs.Run.{run};
-ghost use Rattle.table_rules.specs.Table.{bookOf, Sound};
+ghost use Rattle.table_rules.specs.Table.{book_of, Sound};
 
 use book::{BatchResult, Reason};
 use table_admit::Admission;
 
 // Lays out an empty table.
 pub fn lay_out(table: &mut [u8]) -> Reason
-    ensures { LaidOut table.old (reasonNumber result) table.new }
+    ensures { LaidOut table.old (reason_number result) table.new }
 {
     if table.len() != limits::TABLE_BYTES {
         return Reason::WrongLength;
@@ -22,7 +22,7 @@ pub fn lay_out(table: &mut [u8]) -> Reason
 
 // The result of a call that takes no command.
 fn refused(reason: Reason) -> BatchResult
-    ensures { returnOf result ≡ returns (reasonNumber reason) 0 0 }
+    ensures { return_of result ≡ returns (reason_number reason) 0 0 }
 {
     BatchResult {
         reason: reason,
@@ -33,11 +33,11 @@ fn refused(reason: Reason) -> BatchResult
 
 // Carries out commands on a sound table, and clears the work buffer.
 fn carry_out(table: &mut [u8], work: &mut [u8], commands: &[u8], report: &mut [u8]) -> BatchResult
-    requires { Sound table.old × (length work.old ≡ workBytes) }
+    requires { Sound table.old × (length work.old ≡ work_bytes) }
     ensures { Served
-        (run commands.now (length report.old) (bookOf table.old))
+        (run commands.now (length report.old) (book_of table.old))
         table.old report.old
-        (returnOf result) table.new work.new report.new }
+        (return_of result) table.new work.new report.new }
 {
     let r = call_serve::serve(table, work, commands, report);
     table_empty::clear(work);
@@ -48,7 +48,7 @@ fn carry_out(table: &mut [u8], work: &mut [u8], commands: &[u8], report: &mut [u
 // except after 64.
 pub fn batch(table: &mut [u8], work: &mut [u8], commands: &[u8], report: &mut [u8]) -> BatchResult
     ensures { Batch table.old work.old commands.now report.old
-        (returnOf result) table.new work.new report.new }
+        (return_of result) table.new work.new report.new }
 {
     let admission = table_admit::admit(table, work);
     match admission {

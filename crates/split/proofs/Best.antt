@@ -10,8 +10,8 @@ use native.Mathlib.Decide.{dec_lt}
 use native.Mathlib.Omega.{arith}
 use Rattle.split.specs.Hull.{Point, value, rise, fall, Beats, In, Convex, IsHull}
 use Rattle.split.specs.SplitOf.{onto}
-use Rattle.split.proofs.HullLaws.{under-step}
-use Rattle.split.proofs.Points.{gap, turn, beats-less}
+use Rattle.split.proofs.HullLaws.{under_step}
+use Rattle.split.proofs.Points.{gap, turn, beats_less}
 
 abbrev pub Precedes : ℕ → ℕ → Point → Point → Type 0
 Precedes m n p q = (value m n p < value m n q) ⊎ ((value m n p ≡ value m n q) × (p.order ≤ q.order))
@@ -25,9 +25,9 @@ abbrev Sole : ℕ → ℕ → Point → List Point → Type 0
 Sole m n v l = (x : Point) → In x l → (x ≡ v) ⊎ (value m n v < value m n x)
 
 module _ (m n : ℕ) (pm : 0 < m) (pn : 0 < n) (v q : Point) where
-  sole-beats : (x : Point) → (x ≡ v) ⊎ (value m n v < value m n x) → Beats m n x q → Beats m n v q
-  sole-beats x (inl e) b = rw e at b
-  sole-beats x (inr h) b = beats-less (omega (arith, b.low))
+  sole_beats : (x : Point) → (x ≡ v) ⊎ (value m n v < value m n x) → Beats m n x q → Beats m n v q
+  sole_beats x (inl e) b = rw e at b
+  sole_beats x (inr h) b = beats_less (omega (arith, b.low))
 
   -- A weight a little further left, where v is still the lowest: there a point of v's value with a lower a would show.
   near : (x : Point) → (x ≡ v) ⊎ (value m n v < value m n x) → value m n q ≤ value m n v
@@ -41,18 +41,18 @@ module _ (m n : ℕ) (pm : 0 < m) (pn : 0 < n) (v q : Point) where
       let e : value m n q ≤ value m n v = omega arith in
       inr (
         omega (arith, b.low),
-        b.then-order e (le_of_mul-le-mul_left {k = n} (omega (arith, mul-le-mul_left m (h e))) pn),
+        b.then_order e (le_of_mul-le-mul_left {k = n} (omega (arith, mul-le-mul_left m (h e))) pn),
       )
 
-pub sole-best : (m n : ℕ) → 0 < m → 0 < n → {Q l : List Point} (v : Point) → IsHull Q l → In v l → Sole m n v l → Best m n v Q
-sole-best m n pm pn {Q} v h i sole = record { member = h.sub v i; first = first }
+pub sole_best : (m n : ℕ) → 0 < m → 0 < n → {Q l : List Point} (v : Point) → IsHull Q l → In v l → Sole m n v l → Best m n v Q
+sole_best m n pm pn {Q} v h i sole = record { member = h.sub v i; first = first }
   where
     first : (q : Point) → In q Q → Precedes m n v q
     first q iq =
         let (x, ix, bx) = h.covers m n pm pn q iq in
         let (y, iy, by) = h.covers (suc v.a * m + 1) (suc v.a * n) (omega arith) (omega (arith, mul-le-mul_left v.a pn)) q iq in
         before m n pm pn v q
-        (sole-beats m n pm pn v q x (sole x ix) bx)
+        (sole_beats m n pm pn v q x (sole x ix) bx)
         (λ e. near m n pm pn v q y (sole y iy) e by.low)
         (dec_lt (value m n v) (value m n q))
 
@@ -61,13 +61,13 @@ abbrev pub Lower : ℕ → ℕ → Point → List Point → Type 0
 Lower m n v [] = Unit {0}
 Lower m n v (u ∷ l) = value m n v < value m n u
 
-pub convex-prefix : (r l : List Point) → Convex (onto r l) → Convex l
-convex-prefix [] l h = h
-convex-prefix (w ∷ r) l h = (convex-prefix r (w ∷ l) h).1
+pub convex_prefix : (r l : List Point) → Convex (onto r l) → Convex l
+convex_prefix [] l h = h
+convex_prefix (w ∷ r) l h = (convex_prefix r (w ∷ l) h).1
 
-onto-cases : (r l : List Point) (x : Point) → In x (onto r l) → In x r ⊎ In x l
-onto-cases [] l x i = inr i
-onto-cases (w ∷ r) l x i = go (onto-cases r (w ∷ l) x i)
+onto_cases : (r l : List Point) (x : Point) → In x (onto r l) → In x r ⊎ In x l
+onto_cases [] l x i = inr i
+onto_cases (w ∷ r) l x i = go (onto_cases r (w ∷ l) x i)
   where
     go : In x r ⊎ In x (w ∷ l) → In x (w ∷ r) ⊎ In x l
     go (inl j) = inl (Memᴰ.tail j)
@@ -76,40 +76,40 @@ onto-cases (w ∷ r) l x i = go (onto-cases r (w ∷ l) x i)
 
 module _ (m n : ℕ) (pm : 0 < m) where
   -- Lower than the vertex before, lower than all before.
-  before-all : (v : Point) (l : List Point) → Convex (v ∷ l) → Lower m n v l → (x : Point) → In x l → value m n v < value m n x
-  before-all v (u ∷ l) h k x (Memᴰ.head e) = rw e k
-  before-all v (u ∷ s ∷ l) h k x (Memᴰ.tail i) =
-      let t = turn m n pm (under-step l h.1.0) h.0.0 h.0.1 (omega arith) in
-      omega (arith, before-all u (s ∷ l) h.1 t x i)
+  before_all : (v : Point) (l : List Point) → Convex (v ∷ l) → Lower m n v l → (x : Point) → In x l → value m n v < value m n x
+  before_all v (u ∷ l) h k x (Memᴰ.head e) = rw e k
+  before_all v (u ∷ s ∷ l) h k x (Memᴰ.tail i) =
+      let t = turn m n pm (under_step l h.1.0) h.0.0 h.0.1 (omega arith) in
+      omega (arith, before_all u (s ∷ l) h.1 t x i)
 
   -- Lower than the vertex after, lower than all after.
-  after-all : (r : List Point) (v : Point) (l : List Point) → Convex (onto r (v ∷ l)) → Lower m n v r → (x : Point) → In x r → value m n v < value m n x
-  after-all (w ∷ r) v l h k x (Memᴰ.head e) = rw e k
-  after-all (w ∷ w' ∷ r) v l h k x (Memᴰ.tail i) =
-      omega (arith, after-all (w' ∷ r) w (v ∷ l) h (rises (dec_lt (value m n w) (value m n w'))) x i)
+  after_all_lem : (r : List Point) (v : Point) (l : List Point) → Convex (onto r (v ∷ l)) → Lower m n v r → (x : Point) → In x r → value m n v < value m n x
+  after_all_lem (w ∷ r) v l h k x (Memᴰ.head e) = rw e k
+  after_all_lem (w ∷ w' ∷ r) v l h k x (Memᴰ.tail i) =
+      omega (arith, after_all_lem (w' ∷ r) w (v ∷ l) h (rises (dec_lt (value m n w) (value m n w'))) x i)
     where
       cv : Convex (w' ∷ w ∷ v ∷ l)
-      cv = convex-prefix r (w' ∷ w ∷ v ∷ l) h
+      cv = convex_prefix r (w' ∷ w ∷ v ∷ l) h
 
       rises : Dec (value m n w < value m n w') → value m n w < value m n w'
       rises (yes d) = d
       rises (no d) =
-          let t = turn m n pm (under-step l cv.1.0) cv.0.0 cv.0.1 (omega arith) in
+          let t = turn m n pm (under_step l cv.1.0) cv.0.0 cv.0.1 (omega arith) in
           omega arith
 
-pub onto-keeps : (r l : List Point) (x : Point) → In x l → In x (onto r l)
-onto-keeps [] l x i = i
-onto-keeps (w ∷ r) l x i = onto-keeps r (w ∷ l) x (Memᴰ.tail i)
+pub onto_keeps : (r l : List Point) (x : Point) → In x l → In x (onto r l)
+onto_keeps [] l x i = i
+onto_keeps (w ∷ r) l x i = onto_keeps r (w ∷ l) x (Memᴰ.tail i)
 
-lower-best : (m n : ℕ) → 0 < m → 0 < n → {Q : List Point} (r : List Point) (v : Point) (l : List Point)
+lower_best : (m n : ℕ) → 0 < m → 0 < n → {Q : List Point} (r : List Point) (v : Point) (l : List Point)
     → IsHull Q (onto r (v ∷ l)) → Lower m n v r → Lower m n v l → Best m n v Q
-lower-best m n pm pn r v l h kr kl =
-    sole-best m n pm pn v h (onto-keeps r (v ∷ l) v (Memᴰ.head refl)) (λ x i. go x (onto-cases r (v ∷ l) x i))
+lower_best m n pm pn r v l h kr kl =
+    sole_best m n pm pn v h (onto_keeps r (v ∷ l) v (Memᴰ.head refl)) (λ x i. go x (onto_cases r (v ∷ l) x i))
   where
     go : (x : Point) → In x r ⊎ In x (v ∷ l) → (x ≡ v) ⊎ (value m n v < value m n x)
-    go x (inl i) = inr (after-all m n pm r v l h.convex kr x i)
+    go x (inl i) = inr (after_all_lem m n pm r v l h.convex kr x i)
     go x (inr (Memᴰ.head e)) = inl e
-    go x (inr (Memᴰ.tail i)) = inr (before-all m n pm v l (convex-prefix r (v ∷ l) h.convex) kl x i)
+    go x (inr (Memᴰ.tail i)) = inr (before_all m n pm v l (convex_prefix r (v ∷ l) h.convex) kl x i)
 
 -- The weight is past the breakpoint of v and the vertex before it; it is short of that of v and the vertex after it.
 abbrev pub Past : ℕ → ℕ → Point → List Point → Type 0
@@ -120,16 +120,16 @@ abbrev pub Short : ℕ → ℕ → Point → List Point → Type 0
 Short m n v [] = Unit {0}
 Short m n v (w ∷ r) = n * fall v w < m * rise v w
 
-past-lower : (m n : ℕ) (v : Point) (l : List Point) → Convex (v ∷ l) → Past m n v l → Lower m n v l
-past-lower m n v [] h k = tt
-past-lower m n v (u ∷ l) h k = omega (arith, gap m n (under-step l h.0))
+past_lower : (m n : ℕ) (v : Point) (l : List Point) → Convex (v ∷ l) → Past m n v l → Lower m n v l
+past_lower m n v [] h k = tt
+past_lower m n v (u ∷ l) h k = omega (arith, gap m n (under_step l h.0))
 
-short-lower : (m n : ℕ) (r : List Point) (v : Point) (l : List Point) → Convex (onto r (v ∷ l)) → Short m n v r → Lower m n v r
-short-lower m n [] v l h k = tt
-short-lower m n (w ∷ r) v l h k = omega (arith, gap m n (under-step l (convex-prefix r (w ∷ v ∷ l) h).0))
+short_lower : (m n : ℕ) (r : List Point) (v : Point) (l : List Point) → Convex (onto r (v ∷ l)) → Short m n v r → Lower m n v r
+short_lower m n [] v l h k = tt
+short_lower m n (w ∷ r) v l h k = omega (arith, gap m n (under_step l (convex_prefix r (w ∷ v ∷ l) h).0))
 
 -- Strictly between its two breakpoints a vertex is Best.
-pub stretch-best : (m n : ℕ) → 0 < m → 0 < n → {Q : List Point} (r : List Point) (v : Point) (l : List Point)
+pub stretch_best : (m n : ℕ) → 0 < m → 0 < n → {Q : List Point} (r : List Point) (v : Point) (l : List Point)
     → IsHull Q (onto r (v ∷ l)) → Short m n v r → Past m n v l → Best m n v Q
-stretch-best m n pm pn r v l h kr kl =
-    lower-best m n pm pn r v l h (short-lower m n r v l h.convex kr) (past-lower m n v l (convex-prefix r (v ∷ l) h.convex) kl)
+stretch_best m n pm pn r v l h kr kl =
+    lower_best m n pm pn r v l h (short_lower m n r v l h.convex kr) (past_lower m n v l (convex_prefix r (v ∷ l) h.convex) kl)

@@ -1,6 +1,6 @@
 -- No denominator of a split list passes 2,304,000,000.
 -- Assumes nothing.
-use Rattle.limits.specs.Limits.{maxDenominator}
+use Rattle.limits.specs.Limits.{max_denominator}
 use mathlib.Core.Path.{◌≡◌, ap, sym, subst, ◌∙◌}
 use mathlib.Core.List.Memᴰ
 use mathlib.Core.List.{List, [], ◌∷◌, Memᴰ}
@@ -13,30 +13,30 @@ use Rattle.grid.specs.declared.Leg.{Leg}
 use Rattle.grid.specs.declared.Site.{Site}
 use Rattle.grid.specs.Fraction.{IsFraction, Below, Reduced}
 use Rattle.grid.specs.Position.{LegOnGrid, distance}
-use Rattle.grid.proofs.Order.{cancel-eq, Common, common, mid, mid-fraction}
+use Rattle.grid.proofs.Order.{cancel_eq, Common, common, mid, mid_fraction}
 use Rattle.split.specs.Hull.{weigh}
 use Rattle.split.specs.SplitList.{Leads, Entry, end_of, Stretches, IsSplitList, Numbered, SitesOnGrid}
 use Rattle.split.specs.Bounds.{Bounded}
-use Rattle.split.proofs.Bounds.{on-grid-bounded}
+use Rattle.split.proofs.Bounds.{on_grid_bounded}
 use Rattle.split.proofs.Closed.{closed}
-use Rattle.split.proofs.Ranks.{rank-number}
-use Rattle.split.proofs.Unique.{end-fraction}
-use Rattle.split.proofs.Ties.{tie-along}
-use Rattle.split.proofs.Weights.{Weights, weights, weigh-le}
+use Rattle.split.proofs.Ranks.{rank_number}
+use Rattle.split.proofs.Unique.{end_fraction}
+use Rattle.split.proofs.Ties.{tie_along}
+use Rattle.split.proofs.Weights.{Weights, weights, weigh_le}
 
 -- a start is below 1
-pub start-below : (l : Leg) (s : List Site) (es : List Entry) → Stretches l s es → (f : Entry) → Memᴰ f es → f.start.num < f.start.den
-start-below l s es h f (Memᴰ.head {x = e} {xs = rest} q) = subst (λ (g : Entry). g.start.num < g.start.den) (sym q) h.0.below1
-start-below l s es h f (Memᴰ.tail {x = e} {xs = rest} m) = start-below l s rest h.1 f m
+pub start_below : (l : Leg) (s : List Site) (es : List Entry) → Stretches l s es → (f : Entry) → Memᴰ f es → f.start.num < f.start.den
+start_below l s es h f (Memᴰ.head {x = e} {xs = rest} q) = subst (λ (g : Entry). g.start.num < g.start.den) (sym q) h.0.below1
+start_below l s es h f (Memᴰ.tail {x = e} {xs = rest} m) = start_below l s rest h.1 f m
 
-le-times : (r b x : ℕ) → x ≡ r * b → 1 ≤ x → b ≤ x
-le-times zero b x e p = absurd (omega arith)
-le-times (suc r) b x e p = omega arith
+le_times : (r b x : ℕ) → x ≡ r * b → 1 ≤ x → b ≤ x
+le_times zero b x e p = absurd (omega arith)
+le_times (suc r) b x e p = omega arith
 
 -- two sites that tie at c, one nearer to the start
-tie-bound : (m a1 c1 a2 c2 : ℕ) (c : Fraction) → c.den ≡ m + c.num → 1 ≤ m → 1 ≤ c.num → Reduced c
+tie_bound : (m a1 c1 a2 c2 : ℕ) (c : Fraction) → c.den ≡ m + c.num → 1 ≤ m → 1 ≤ c.num → Reduced c
     → m * a1 + c.num * c1 ≡ m * a2 + c.num * c2 → a1 < a2 → c.den ≤ a2 + c1
-tie-bound m a1 c1 a2 c2 c e pm pn red t lt = go (dec_le c1 c2)
+tie_bound m a1 c1 a2 c2 c e pm pn red t lt = go (dec_le c1 c2)
   where
     fits : (n0 m0 : ℕ) → a2 ≡ a1 + n0 → c1 ≡ c2 + m0 → 1 ≤ n0 → c.den ≤ a2 + c1
     fits n0 m0 ea ec p0 =
@@ -48,9 +48,9 @@ tie-bound m a1 c1 a2 c2 c e pm pn red t lt = go (dec_le c1 c2)
       where
         bound : Common c.num c.den n0 (m0 + n0) → c.den ≤ a2 + c1
         bound r =
-            let one : r.left ≡ 1 = red r.left r.top r.bottom r.a-is r.b-is in
-            let d : c.den ≡ 1 * r.bottom = r.b-is ∙ ap (λ (k : ℕ). k * r.bottom) one in
-            omega (arith, le-times r.right r.bottom (m0 + n0) r.d-is (omega arith))
+            let one : r.left ≡ 1 = red r.left r.top r.bottom r.a_is r.b_is in
+            let d : c.den ≡ 1 * r.bottom = r.b_is ∙ ap (λ (k : ℕ). k * r.bottom) one in
+            omega (arith, le_times r.right r.bottom (m0 + n0) r.d_is (omega arith))
 
     go : Dec (c1 ≤ c2) → c.den ≤ a2 + c1
     go (yes h) = absurd (omega (arith, mul-le-mul_left c.num h, mul-lt-mul_of_pos_left lt pm))
@@ -61,10 +61,10 @@ pos_of x y zero h = absurd (omega arith)
 pos_of x y (suc k) h = omega arith
 
 rest_eq : (m n a1 a2 c1 c2 : ℕ) → a1 ≡ a2 → m * a1 + n * c1 ≡ m * a2 + n * c2 → 1 ≤ n → c1 ≡ c2
-rest_eq m n a1 a2 c1 c2 e t p = cancel-eq c1 c2 n p (omega (arith, ap (λ (x : ℕ). m * x) e))
+rest_eq m n a1 a2 c1 c2 e t p = cancel_eq c1 c2 n p (omega (arith, ap (λ (x : ℕ). m * x) e))
 
-module _ (l : Leg) (s : List Site) (numbered : Numbered s) (onLeg : LegOnGrid l) (onGrid : SitesOnGrid s) where
-  next : (e f : Entry) (fs : List Entry) → Stretches l s (e ∷ f ∷ fs) → f.start.den ≤ maxDenominator
+module _ (l : Leg) (s : List Site) (numbered : Numbered s) (onLeg : LegOnGrid l) (on_grid : SitesOnGrid s) where
+  next : (e f : Entry) (fs : List Entry) → Stretches l s (e ∷ f ∷ fs) → f.start.den ≤ max_denominator
   unfolding weigh
   next e f fs h = go (dec_lt (A x) (A y)) (dec_lt (A y) (A x))
     where
@@ -84,13 +84,13 @@ module _ (l : Leg) (s : List Site) (numbered : Numbered s) (onLeg : LegOnGrid l)
       c = f.start
 
       fe : IsFraction e.start
-      fe = end-fraction l s (e ∷ f ∷ fs) h
+      fe = end_fraction l s (e ∷ f ∷ fs) h
 
       fc : IsFraction c
-      fc = end-fraction l s (f ∷ fs) h.1
+      fc = end_fraction l s (f ∷ fs) h.1
 
       fz : IsFraction (end_of fs)
-      fz = end-fraction l s fs h.1.1
+      fz = end_fraction l s fs h.1.1
 
       ec : Below e.start c
       ec = h.0.rises
@@ -99,19 +99,19 @@ module _ (l : Leg) (s : List Site) (numbered : Numbered s) (onLeg : LegOnGrid l)
       cz = h.1.0.rises
 
       left : Leads l s (mid e.start c) x
-      left = h.0.leads _ (mid-fraction _ _ fe fc) (omega (arith, ec)) (omega (arith, ec))
+      left = h.0.leads _ (mid_fraction _ _ fe fc) (omega (arith, ec)) (omega (arith, ec))
 
       right : Leads l s (mid c (end_of fs)) y
-      right = h.1.0.leads _ (mid-fraction _ _ fc fz) (omega (arith, cz)) (omega (arith, cz))
+      right = h.1.0.leads _ (mid_fraction _ _ fc fz) (omega (arith, cz)) (omega (arith, cz))
 
       w : Weights c (c.den - c.num)
       w = weights c fc
 
       xy : weigh l (c.den - c.num) c.num x ≤ weigh l (c.den - c.num) c.num y
-      xy = weigh-le l c _ w x y (closed l s e (f ∷ fs) h c fc (record { from_start = omega (arith, ec); to_end = omega arith }) y right.held)
+      xy = weigh_le l c _ w x y (closed l s e (f ∷ fs) h c fc (record { from_start = omega (arith, ec); to_end = omega arith }) y right.held)
 
       yx : weigh l (c.den - c.num) c.num y ≤ weigh l (c.den - c.num) c.num x
-      yx = weigh-le l c _ w y x (closed l s f fs h.1 c fc (record { from_start = omega arith; to_end = omega (arith, cz) }) x left.held)
+      yx = weigh_le l c _ w y x (closed l s f fs h.1 c fc (record { from_start = omega arith; to_end = omega (arith, cz) }) x left.held)
 
       below : c.num < c.den
       below = h.1.0.below1
@@ -120,38 +120,38 @@ module _ (l : Leg) (s : List Site) (numbered : Numbered s) (onLeg : LegOnGrid l)
       above = pos_of _ e.start.den c.num ec
 
       bounds : (p : Site) → Memᴰ p s → Bounded l p
-      bounds p m = on-grid-bounded l p onLeg (onGrid p m)
+      bounds p m = on_grid_bounded l p onLeg (on_grid p m)
 
       same : A x ≡ A y → C x ≡ C y → ⊥
       same a b =
           h.0.changes
-          (rank-number l x y (numbered.small x left.held) (numbered.small y right.held)
-          (omega (arith, left.least y right.held (tie-along l x y a b _ (mid-fraction _ _ fe fc)), right.least x left.held (tie-along l y x (sym a) (sym b) _ (mid-fraction _ _ fc fz)))))
+          (rank_number l x y (numbered.small x left.held) (numbered.small y right.held)
+          (omega (arith, left.least y right.held (tie_along l x y a b _ (mid_fraction _ _ fe fc)), right.least x left.held (tie_along l y x (sym a) (sym b) _ (mid_fraction _ _ fc fz)))))
 
-      go : Dec (A x < A y) → Dec (A y < A x) → c.den ≤ maxDenominator
+      go : Dec (A x < A y) → Dec (A y < A x) → c.den ≤ max_denominator
       go (yes a) q =
           omega (
             arith,
-            tie-bound (c.den - c.num) (A x) (C x) (A y) (C y) c (omega (arith, below)) (omega (arith, below)) above h.1.0.reduced (omega (arith, xy, yx)) a,
-            (bounds x left.held).from-e,
-            (bounds y right.held).from-s,
+            tie_bound (c.den - c.num) (A x) (C x) (A y) (C y) c (omega (arith, below)) (omega (arith, below)) above h.1.0.reduced (omega (arith, xy, yx)) a,
+            (bounds x left.held).from_e,
+            (bounds y right.held).from_s,
           )
       go (no a) (yes b) =
           omega (
             arith,
-            tie-bound (c.den - c.num) (A y) (C y) (A x) (C x) c (omega (arith, below)) (omega (arith, below)) above h.1.0.reduced (omega (arith, xy, yx)) b,
-            (bounds y right.held).from-e,
-            (bounds x left.held).from-s,
+            tie_bound (c.den - c.num) (A y) (C y) (A x) (C x) c (omega (arith, below)) (omega (arith, below)) above h.1.0.reduced (omega (arith, xy, yx)) b,
+            (bounds y right.held).from_e,
+            (bounds x left.held).from_s,
           )
       go (no a) (no b) = absurd (same (omega arith) (rest_eq (c.den - c.num) c.num (A x) (A y) (C x) (C y) (omega arith) (omega (arith, xy, yx)) above))
 
-  all : (es : List Entry) → Stretches l s es → (e : Entry) → e.start.den ≤ maxDenominator → Stretches l s (e ∷ es)
-      → (f : Entry) → Memᴰ f (e ∷ es) → f.start.den ≤ maxDenominator
+  all : (es : List Entry) → Stretches l s es → (e : Entry) → e.start.den ≤ max_denominator → Stretches l s (e ∷ es)
+      → (f : Entry) → Memᴰ f (e ∷ es) → f.start.den ≤ max_denominator
   all es k e b h f (Memᴰ.head q) = rw q b
   all [] k e b h f (Memᴰ.tail m) = absurd (Memᴰ.not-nil m)
   all (g ∷ gs) k e b h f (Memᴰ.tail m) = all gs k.1 g (next e g gs h) k f m
 
   -- NO DENOMINATOR PASSES 2,304,000,000
-  pub bounded : (es : List Entry) → IsSplitList l s es → (f : Entry) → Memᴰ f es → f.start.den ≤ maxDenominator
+  pub bounded : (es : List Entry) → IsSplitList l s es → (f : Entry) → Memᴰ f es → f.start.den ≤ max_denominator
   bounded [] h f m = absurd (Memᴰ.not-nil m)
   bounded (e ∷ es) h f m = all es h.rules.1 e (rw h.opens (omega arith)) h.rules f m

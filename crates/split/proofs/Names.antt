@@ -1,4 +1,4 @@
--- What a list names at a fraction: oneFraction site more changes it only to that site, oneFraction site less only where that site stood.
+-- What a list names at a fraction: one_fraction site more changes it only to that site, one_fraction site less only where that site stood.
 -- Assumes nothing.
 use mathlib.Core.Path.{subst, ap, ◌≡◌, refl, sym, ◌∙◌}
 use mathlib.Core.Logic.{◌⊎◌, inl, inr, ⊎_map}
@@ -12,70 +12,70 @@ use native.Mathlib.Omega.{arith}
 use Rattle.grid.specs.declared.Fraction.{Fraction}
 use Rattle.grid.specs.declared.Leg.{Leg}
 use Rattle.grid.specs.declared.Site.{Site}
-use Rattle.grid.specs.Fraction.{IsFraction, Below, NotAbove, oneFraction}
-use Rattle.grid.proofs.Order.{not-above-below, Shared, overlap, mid, mid-fraction}
-use Rattle.split.specs.SplitList.{Leads, Entry, Stretches, IsSplitList, Numbered, or_else, nameFrom, name_at}
-use Rattle.split.proofs.Unique.{end-fraction, one_number}
+use Rattle.grid.specs.Fraction.{IsFraction, Below, NotAbove, one_fraction}
+use Rattle.grid.proofs.Order.{not_above_below, Shared, overlap, mid, mid_fraction}
+use Rattle.split.specs.SplitList.{Leads, Entry, Stretches, IsSplitList, Numbered, or_else, name_from, name_at}
+use Rattle.split.proofs.Unique.{end_fraction, one_number}
 
 -- p leads from a to b, and a and b lie at t: t is a, or t and b are 1
 pub record LeadsNear (l : Leg) (s : List Site) (t : Fraction) (p : Site) : Type 0 where
   pub a : Fraction
   pub b : Fraction
-  pub a-frac : IsFraction a
-  pub b-frac : IsFraction b
+  pub a_frac : IsFraction a
+  pub b_frac : IsFraction b
   pub rises : Below a b
   pub leads : (u : Fraction) → IsFraction u → Below a u → Below u b → Leads l s u p
-  pub right : Below t oneFraction → (a ≡ t)
-  pub left : NotAbove oneFraction t → (b ≡ oneFraction)
+  pub right : Below t one_fraction → (a ≡ t)
+  pub left : NotAbove one_fraction t → (b ≡ one_fraction)
 
--- no fraction below 1 lies above oneFraction that is not
-past : (f t : Fraction) → ¬ (f.num * t.den ≤ t.num * f.den) → NotAbove oneFraction t → f.num < f.den → ⊥
+-- no fraction below 1 lies above one_fraction that is not
+past : (f t : Fraction) → ¬ (f.num * t.den ≤ t.num * f.den) → NotAbove one_fraction t → f.num < f.den → ⊥
 past f t h k b =
     let c : f.num ≤ f.den = omega arith in
     let d : t.den ≤ t.num = omega arith in
     omega (arith, mul-le-mul_right t.den c, mul-le-mul_left f.den d)
 
 module _ (l : Leg) (s : List Site) (t : Fraction) (ft : IsFraction t) where
-  named-leads : (es : List Entry) (e : Entry) → Stretches l s (e ∷ es) → NotAbove e.start t → LeadsNear l s t (nameFrom t e es)
-  unfolding nameFrom
-  named-leads [] e h le = go (dec_lt (t.num * 1) (1 * t.den))
+  named_leads : (es : List Entry) (e : Entry) → Stretches l s (e ∷ es) → NotAbove e.start t → LeadsNear l s t (name_from t e es)
+  unfolding name_from
+  named_leads [] e h le = go (dec_lt (t.num * 1) (1 * t.den))
     where
       go : Dec (t.num * 1 < 1 * t.den) → LeadsNear l s t e.site
       go (yes k) =
           record {
             a = t;
-            b = oneFraction;
-            a-frac = ft;
-            b-frac = omega arith;
+            b = one_fraction;
+            a_frac = ft;
+            b_frac = omega arith;
             rises = k;
-            leads = λ u fu x y. h.0.leads u fu (omega (arith, not-above-below e.start t u (end-fraction l s (e ∷ []) h).positive le x)) (omega (arith, y));
+            leads = λ u fu x y. h.0.leads u fu (omega (arith, not_above_below e.start t u (end_fraction l s (e ∷ []) h).positive le x)) (omega (arith, y));
             right = λ z. refl;
             left = λ z. absurd (omega arith);
           }
       go (no k) =
           record {
             a = e.start;
-            b = oneFraction;
-            a-frac = end-fraction l s (e ∷ []) h;
-            b-frac = omega arith;
+            b = one_fraction;
+            a_frac = end_fraction l s (e ∷ []) h;
+            b_frac = omega arith;
             rises = h.0.rises;
             leads = λ u fu x y. h.0.leads u fu (omega (arith, x)) (omega (arith, y));
             right = λ z. absurd (omega arith);
             left = λ z. refl;
           }
-  named-leads (f ∷ fs) e h le = go (dec_le (f.start.num * t.den) (t.num * f.start.den)) (named-leads fs f h.1)
+  named_leads (f ∷ fs) e h le = go (dec_le (f.start.num * t.den) (t.num * f.start.den)) (named_leads fs f h.1)
     where
-      go : (d : Dec (f.start.num * t.den ≤ t.num * f.start.den)) → (NotAbove f.start t → LeadsNear l s t (nameFrom t f fs)) → LeadsNear l s t (or_else d (nameFrom t f fs) e.site)
+      go : (d : Dec (f.start.num * t.den ≤ t.num * f.start.den)) → (NotAbove f.start t → LeadsNear l s t (name_from t f fs)) → LeadsNear l s t (or_else d (name_from t f fs) e.site)
       go (yes k) ih = ih k
       go (no k) ih =
           let below : f.start.num < f.start.den = h.1.0.below1 in
           record {
             a = t;
             b = f.start;
-            a-frac = ft;
-            b-frac = end-fraction l s (f ∷ fs) h.1;
+            a_frac = ft;
+            b_frac = end_fraction l s (f ∷ fs) h.1;
             rises = omega arith;
-            leads = λ u fu x y. h.0.leads u fu (omega (arith, not-above-below e.start t u (end-fraction l s (e ∷ f ∷ fs) h).positive le x)) (omega (arith, y));
+            leads = λ u fu x y. h.0.leads u fu (omega (arith, not_above_below e.start t u (end_fraction l s (e ∷ f ∷ fs) h).positive le x)) (omega (arith, y));
             right = λ z. refl;
             left = λ z. absurd (past f.start t k z below);
           }
@@ -87,8 +87,8 @@ together l s u t p q h k = go (dec_lt (t.num * 1) (1 * t.den))
   where
     met : Below h.a k.b → Below k.a h.b → (v : Fraction) × Leads l s v p × Leads l u v q
     met x y =
-        let i : Shared h.a h.b k.a k.b = overlap h.a h.b k.a k.b h.a-frac h.b-frac k.a-frac k.b-frac h.rises k.rises x y in
-        (i.at, h.leads i.at i.frac i.after-s i.before-a, k.leads i.at i.frac i.after-t i.before-b)
+        let i : Shared h.a h.b k.a k.b = overlap h.a h.b k.a k.b h.a_frac h.b_frac k.a_frac k.b_frac h.rises k.rises x y in
+        (i.at, h.leads i.at i.frac i.after_s i.before_a, k.leads i.at i.frac i.after_t i.before_b)
 
     go : Dec (t.num * 1 < 1 * t.den) → (v : Fraction) × Leads l s v p × Leads l u v q
     go (yes z) =
@@ -103,8 +103,8 @@ fewer p s h =
     record { small = λ q m. h.small q (Memᴰ.tail m); one = λ a b x y. h.one a b (Memᴰ.tail x) (Memᴰ.tail y) }
 
 -- of s and of s with p: the same leader, or p
-same-or-new : (l : Leg) (s : List Site) (p : Site) → Numbered (p ∷ s) → (t : Fraction) (x y : Site) → Leads l s t x → Leads l (p ∷ s) t y → (y ≡ x) ⊎ (y ≡ p)
-same-or-new l s p numbered t x y hx hy = go (Memᴰ.cases_cons hy.held)
+same_or_new : (l : Leg) (s : List Site) (p : Site) → Numbered (p ∷ s) → (t : Fraction) (x y : Site) → Leads l s t x → Leads l (p ∷ s) t y → (y ≡ x) ⊎ (y ≡ p)
+same_or_new l s p numbered t x y hx hy = go (Memᴰ.cases_cons hy.held)
   where
     go : (y ≡ p) ⊎ Memᴰ y s → (y ≡ x) ⊎ (y ≡ p)
     go (inl e) = inr e
@@ -113,27 +113,27 @@ same-or-new l s p numbered t x y hx hy = go (Memᴰ.cases_cons hy.held)
         inl (numbered.one y x (Memᴰ.tail m) (Memᴰ.tail hx.held) (one_number l s (fewer p s numbered) t y x old hx))
 
 -- p leads somewhere
-leads-somewhere : (l : Leg) (s : List Site) (t : Fraction) (p : Site) → LeadsNear l s t p → Memᴰ p s
-leads-somewhere l s t p h =
-    (h.leads (mid h.a h.b) (mid-fraction h.a h.b h.a-frac h.b-frac) (omega (arith, h.rises)) (omega (arith, h.rises))).held
+leads_somewhere : (l : Leg) (s : List Site) (t : Fraction) (p : Site) → LeadsNear l s t p → Memᴰ p s
+leads_somewhere l s t p h =
+    (h.leads (mid h.a h.b) (mid_fraction h.a h.b h.a_frac h.b_frac) (omega (arith, h.rises)) (omega (arith, h.rises))).held
 
 -- the list's name at t leads near t
-list-leads : (l : Leg) (s : List Site) (e : Entry) (es : List Entry) → IsSplitList l s (e ∷ es) → (t : Fraction) → IsFraction t → LeadsNear l s t (nameFrom t e es)
-list-leads l s e es h t ft = named-leads l s t ft es e h.rules (rw h.opens (omega arith))
+list_leads : (l : Leg) (s : List Site) (e : Entry) (es : List Entry) → IsSplitList l s (e ∷ es) → (t : Fraction) → IsFraction t → LeadsNear l s t (name_from t e es)
+list_leads l s e es h t ft = named_leads l s t ft es e h.rules (rw h.opens (omega arith))
 
 -- ONE SITE MORE: at every fraction the new list names what the old one names, or the new site
 pub added : (l : Leg) (s : List Site) (p : Site) → Numbered (p ∷ s) → (es fs : List Entry) → IsSplitList l s es → IsSplitList l (p ∷ s) fs
     → (t : Fraction) → IsFraction t → (name_at t fs ≡ name_at t es) ⊎ (name_at t fs ≡ some p)
 added l s p numbered es [] h k t ft = absurd (Memᴰ.not-nil (subst (λ (x : List Site). Memᴰ p x) k.opens (Memᴰ.head refl)))
-added l s p numbered [] (f ∷ fs) h k t ft = inr (ap some (go (Memᴰ.cases_cons (leads-somewhere l (p ∷ s) t _ (list-leads l (p ∷ s) f fs k t ft)))))
+added l s p numbered [] (f ∷ fs) h k t ft = inr (ap some (go (Memᴰ.cases_cons (leads_somewhere l (p ∷ s) t _ (list_leads l (p ∷ s) f fs k t ft)))))
   where
-    go : (nameFrom t f fs ≡ p) ⊎ Memᴰ (nameFrom t f fs) s → nameFrom t f fs ≡ p
+    go : (name_from t f fs ≡ p) ⊎ Memᴰ (name_from t f fs) s → name_from t f fs ≡ p
     go (inl e) = e
-    go (inr m) = absurd (Memᴰ.not-nil (subst (λ (x : List Site). Memᴰ (nameFrom t f fs) x) h.opens m))
-added l s p numbered (e ∷ es) (f ∷ fs) h k t ft = ⊎_map (ap some) (ap some) (same-or-new l s p numbered v.0 (nameFrom t e es) (nameFrom t f fs) v.1 v.2)
+    go (inr m) = absurd (Memᴰ.not-nil (subst (λ (x : List Site). Memᴰ (name_from t f fs) x) h.opens m))
+added l s p numbered (e ∷ es) (f ∷ fs) h k t ft = ⊎_map (ap some) (ap some) (same_or_new l s p numbered v.0 (name_from t e es) (name_from t f fs) v.1 v.2)
   where
-    v : (v : Fraction) × Leads l s v (nameFrom t e es) × Leads l (p ∷ s) v (nameFrom t f fs)
-    v = together l s (p ∷ s) t (nameFrom t e es) (nameFrom t f fs) (list-leads l s e es h t ft) (list-leads l (p ∷ s) f fs k t ft)
+    v : (v : Fraction) × Leads l s v (name_from t e es) × Leads l (p ∷ s) v (name_from t f fs)
+    v = together l s (p ∷ s) t (name_from t e es) (name_from t f fs) (list_leads l s e es h t ft) (list_leads l (p ∷ s) f fs k t ft)
 
 -- ONE SITE LESS: at every fraction the new list names what the old one names, or the old one named the site that is gone
 pub removed : (l : Leg) (s : List Site) (p : Site) → Numbered (p ∷ s) → (es fs : List Entry) → IsSplitList l (p ∷ s) es → IsSplitList l s fs

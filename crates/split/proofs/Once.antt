@@ -11,16 +11,16 @@ use Rattle.grid.specs.declared.Fraction.{Fraction}
 use Rattle.grid.specs.declared.Leg.{Leg}
 use Rattle.grid.specs.declared.Site.{Site}
 use Rattle.grid.specs.Fraction.{IsFraction, Below}
-use Rattle.grid.proofs.Order.{below-trans, mid, mid-fraction}
+use Rattle.grid.proofs.Order.{below_trans, mid, mid_fraction}
 use Rattle.split.specs.SplitList.{Leads, Entry, end_of, Stretches, IsSplitList, Numbered}
-use Rattle.split.proofs.Between.{leads-between}
-use Rattle.split.proofs.Unique.{end-fraction, one_number}
+use Rattle.split.proofs.Between.{leads_between}
+use Rattle.split.proofs.Unique.{end_fraction, one_number}
 
 -- one leader left and right of another's fraction has the other's number
 three : (l : Leg) (s : List Site) → Numbered s → (t u v : Fraction) (p q : Site) → IsFraction t → IsFraction u → IsFraction v → Below t u → Below u v
     → Leads l s t p → Leads l s u q → Leads l s v p → p.number ≡ q.number
 three l s numbered t u v p q ft fu fv tu uv ht hu hv =
-    let k : Leads l s u p = leads-between l t u v ft fu fv tu uv s p ht hv in
+    let k : Leads l s u p = leads_between l t u v ft fu fv tu uv s p ht hv in
     one_number l s numbered u p q k hu
 
 -- a fraction after u at which p leads
@@ -34,28 +34,28 @@ module _ (l : Leg) (s : List Site) (numbered : Numbered s) where
   -- inside the first stretch
   first : (e : Entry) (es : List Entry) → Stretches l s (e ∷ es) → Later l s e.start e.site
   first e es h =
-      let fs : IsFraction e.start = end-fraction l s (e ∷ es) h in
-      let fe : IsFraction (end_of es) = end-fraction l s es h.1 in
+      let fs : IsFraction e.start = end_fraction l s (e ∷ es) h in
+      let fe : IsFraction (end_of es) = end_fraction l s es h.1 in
       let r : Below e.start (end_of es) = h.0.rises in
       record {
         at = mid e.start (end_of es);
-        frac = mid-fraction _ _ fs fe;
+        frac = mid_fraction _ _ fs fe;
         after = omega arith;
-        leads = h.0.leads _ (mid-fraction _ _ fs fe) (omega arith) (omega arith);
+        leads = h.0.leads _ (mid_fraction _ _ fs fe) (omega arith) (omega arith);
       }
 
-  after-end : (es : List Entry) → Stretches l s es → (f : Entry) → Memᴰ f es → (u : Fraction) → IsFraction u → Below u (end_of es) → Later l s u f.site
-  after-end es h f (Memᴰ.head {x} {xs} e) u fu b =
+  after_end : (es : List Entry) → Stretches l s es → (f : Entry) → Memᴰ f es → (u : Fraction) → IsFraction u → Below u (end_of es) → Later l s u f.site
+  after_end es h f (Memᴰ.head {x} {xs} e) u fu b =
       let r : Later l s x.start x.site = first x xs h in
       record {
         at = r.at;
         frac = r.frac;
-        after = below-trans u x.start r.at fu.positive r.frac.positive b r.after;
+        after = below_trans u x.start r.at fu.positive r.frac.positive b r.after;
         leads = subst (λ (g : Entry). Leads l s r.at g.site) (sym e) r.leads;
       }
-  after-end es h f (Memᴰ.tail {x} {xs} m) u fu b =
-      after-end xs h.1 f m u fu
-      (below-trans u x.start (end_of xs) fu.positive (end-fraction l s xs h.1).positive b h.0.rises)
+  after_end es h f (Memᴰ.tail {x} {xs} m) u fu b =
+      after_end xs h.1 f m u fu
+      (below_trans u x.start (end_of xs) fu.positive (end_fraction l s xs h.1).positive b h.0.rises)
 
   -- an entry's site is not that of a later one
   pub once : (e : Entry) (es : List Entry) → Stretches l s (e ∷ es) → (f : Entry) → Memᴰ f es → e.site ≢ f.site
@@ -63,13 +63,13 @@ module _ (l : Leg) (s : List Site) (numbered : Numbered s) where
   once e (g ∷ gs) h f m z = go (Memᴰ.cases_cons m)
     where
       fe : IsFraction e.start
-      fe = end-fraction l s (e ∷ g ∷ gs) h
+      fe = end_fraction l s (e ∷ g ∷ gs) h
 
       fg : IsFraction g.start
-      fg = end-fraction l s (g ∷ gs) h.1
+      fg = end_fraction l s (g ∷ gs) h.1
 
       fz : IsFraction (end_of gs)
-      fz = end-fraction l s gs h.1.1
+      fz = end_fraction l s gs h.1.1
 
       eg : Below e.start g.start
       eg = h.0.rises
@@ -78,7 +78,7 @@ module _ (l : Leg) (s : List Site) (numbered : Numbered s) where
       gz = h.1.0.rises
 
       ez : Below e.start (end_of gs)
-      ez = below-trans e.start g.start (end_of gs) fe.positive fz.positive eg gz
+      ez = below_trans e.start g.start (end_of gs) fe.positive fz.positive eg gz
 
       t : Fraction
       t = mid e.start g.start
@@ -87,10 +87,10 @@ module _ (l : Leg) (s : List Site) (numbered : Numbered s) where
       u = mid g.start (end_of gs)
 
       ft : IsFraction t
-      ft = mid-fraction e.start g.start fe fg
+      ft = mid_fraction e.start g.start fe fg
 
       fu : IsFraction u
-      fu = mid-fraction g.start (end_of gs) fg fz
+      fu = mid_fraction g.start (end_of gs) fg fz
 
       ht : Leads l s t e.site
       ht = h.0.leads t ft (omega arith) (omega arith)
@@ -101,7 +101,7 @@ module _ (l : Leg) (s : List Site) (numbered : Numbered s) where
       go : (f ≡ g) ⊎ Memᴰ f gs → ⊥
       go (inl q) = h.0.changes (ap (λ (p : Site). p.number) (z ∙ ap (λ (x : Entry). x.site) q))
       go (inr m') =
-          let r : Later l s u f.site = after-end gs h.1.1 f m' u fu (omega arith) in
+          let r : Later l s u f.site = after_end gs h.1.1 f m' u fu (omega arith) in
           h.0.changes
           (three l s numbered t u r.at e.site g.site ft fu r.frac (omega (arith, eg, gz, ez)) r.after ht hu
           (subst (λ (p : Site). Leads l s r.at p) (sym z) r.leads))
@@ -128,9 +128,9 @@ without s p (Memᴰ.tail {x} {xs} m) = go (without xs p m)
         pick q d (inr n) = Memᴰ.tail (w.keeps q n d)
 
 -- what is listed is held
-listed-held : (l : Leg) (s : List Site) → Numbered s → (es : List Entry) → Stretches l s es → (f : Entry) → Memᴰ f es → Memᴰ f.site s
-listed-held l s numbered es h f (Memᴰ.head {x} {xs} e) = subst (λ (g : Entry). Memᴰ g.site s) (sym e) (first l s numbered x xs h).leads.held
-listed-held l s numbered es h f (Memᴰ.tail {x} {xs} m) = listed-held l s numbered xs h.1 f m
+listed_held : (l : Leg) (s : List Site) → Numbered s → (es : List Entry) → Stretches l s es → (f : Entry) → Memᴰ f es → Memᴰ f.site s
+listed_held l s numbered es h f (Memᴰ.head {x} {xs} e) = subst (λ (g : Entry). Memᴰ g.site s) (sym e) (first l s numbered x xs h).leads.held
+listed_held l s numbered es h f (Memᴰ.tail {x} {xs} m) = listed_held l s numbered xs h.1 f m
 
 count : (l : Leg) (s u : List Site) → Numbered s → (es : List Entry) → Stretches l s es → ((f : Entry) → Memᴰ f es → Memᴰ f.site u) → length es ≤ length u
 count l s u numbered [] h m = zero-le
@@ -146,4 +146,4 @@ count l s u numbered (e ∷ es) h m = go (without u e.site (m e (Memᴰ.head ref
 
 -- AT MOST AS MANY ENTRIES AS SITES
 pub few : (l : Leg) (s : List Site) → Numbered s → (es : List Entry) → IsSplitList l s es → length es ≤ length s
-few l s numbered es h = count l s s numbered es h.rules (listed-held l s numbered es h.rules)
+few l s numbered es h = count l s s numbered es h.rules (listed_held l s numbered es h.rules)

@@ -6,27 +6,27 @@ use mathlib.Core.List.Memᴰ
 use mathlib.Core.List.{List, [], ◌∷◌, Memᴰ}
 use Prim.Native.Nat.{◌*◌, ◌^◌, ◌≤◌, ◌<◌}
 use native.Mathlib.Omega.{arith}
-use Rattle.limits.specs.Limits.{maxNumber}
+use Rattle.limits.specs.Limits.{max_number}
 use Rattle.grid.specs.declared.Site.{Site}
 use native.Mathlib.Decide.{dec_le, dec_lt}
-use Rattle.grid.specs.Position.{squaredDifference, distance, OnGrid}
-use Rattle.grid.specs.Side.{onTheRight?}
-use Rattle.grid.specs.Fraction.{gcdBy, gcdOf, lowest}
+use Rattle.grid.specs.Position.{squared_difference, distance, OnGrid}
+use Rattle.grid.specs.Side.{on_the_right?}
+use Rattle.grid.specs.Fraction.{gcd_by, gcd_of, lowest}
 use Rattle.split.specs.SplitList.{rank, Entry, Numbered}
-use Rattle.split.specs.SplitOf.{hides?, rightBelow?, under?, push, insert, build, splitOf}
-use Rattle.split.specs.Legs.{legs, tiedLegs, listed, computed, longest, longestSites, diagonal, diagonalSites}
-use Rattle.split.proofs.Exists.{split-is}
-use Rattle.split.proofs.Comparisons.{starts-compared, comparison-fits}
+use Rattle.split.specs.SplitOf.{hides?, right_below?, under?, push, insert, build, split_of}
+use Rattle.split.specs.Legs.{legs, tied_legs, listed, computed, longest, longest_sites, diagonal, diagonal_sites}
+use Rattle.split.proofs.Exists.{split_is}
+use Rattle.split.proofs.Comparisons.{starts_compared, comparison_fits}
 
 -- THE STARRED LEGS
 pub starred : computed legs ≡ listed legs
-unfolding splitOf build insert push hides? under? rightBelow? dec_le dec_lt distance squaredDifference rank onTheRight? lowest gcdOf gcdBy
+unfolding split_of build insert push hides? under? right_below? dec_le dec_lt distance squared_difference rank on_the_right? lowest gcd_of gcd_by
 starred = refl
 
 -- TIES ALONG THE WHOLE LEG
-pub tied-legs : computed tiedLegs ≡ listed tiedLegs
-unfolding splitOf build insert push hides? under? rightBelow? dec_le dec_lt distance squaredDifference rank onTheRight? lowest gcdOf gcdBy
-tied-legs = refl
+pub tied_legs_lem : computed tied_legs ≡ listed tied_legs
+unfolding split_of build insert push hides? under? right_below? dec_le dec_lt distance squared_difference rank on_the_right? lowest gcd_of gcd_by
+tied_legs_lem = refl
 
 -- two sites
 module _ (p q : Site) where
@@ -35,10 +35,10 @@ module _ (p q : Site) where
   either A ap aq x (Memᴰ.tail (Memᴰ.head e)) = subst A (sym e) aq
   either A ap aq x (Memᴰ.tail (Memᴰ.tail m)) = absurd (Memᴰ.not-nil m)
 
-  pair-numbered : p.number < q.number → q.number ≤ maxNumber → Numbered (p ∷ q ∷ [])
-  pair-numbered rising most =
+  pair_numbered : p.number < q.number → q.number ≤ max_number → Numbered (p ∷ q ∷ [])
+  pair_numbered rising most =
       record {
-        small = either (λ (x : Site). x.number ≤ maxNumber) (omega arith) most;
+        small = either (λ (x : Site). x.number ≤ max_number) (omega arith) most;
         one = λ x y mx my. either (λ (x : Site). x.number ≡ y.number → x ≡ y)
             (either (λ (y : Site). p.number ≡ y.number → p ≡ y) (λ e. refl) (λ e. absurd (omega arith)) y my)
             (either (λ (y : Site). q.number ≡ y.number → q ≡ y) (λ e. absurd (omega arith)) (λ e. refl) y my)
@@ -46,20 +46,20 @@ module _ (p q : Site) where
       }
 
 -- THE STARTS OF TWO OF THESE LISTS, compared: 63 bits hold both products
-pub compared : (e f : Entry) → Memᴰ e (splitOf longest longestSites) → Memᴰ f (splitOf diagonal diagonalSites)
+pub compared : (e f : Entry) → Memᴰ e (split_of longest longest_sites) → Memᴰ f (split_of diagonal diagonal_sites)
     → (e.start.num * f.start.den < 2 ^ 63) × (f.start.num * e.start.den < 2 ^ 63)
 compared e f me mf =
-    comparison-fits e.start f.start
-    (starts-compared longest diagonal longestSites diagonalSites n m (omega arith) (omega arith)
+    comparison_fits e.start f.start
+    (starts_compared longest diagonal longest_sites diagonal_sites n m (omega arith) (omega arith)
     (either _ _ OnGridSite (omega arith) (omega arith))
     (either _ _ OnGridSite (omega arith) (omega arith))
-    _ _ (split-is longest longestSites n) (split-is diagonal diagonalSites m) e f me mf)
+    _ _ (split_is longest longest_sites n) (split_is diagonal diagonal_sites m) e f me mf)
   where
     OnGridSite : Site → Type 0
     OnGridSite p = OnGrid p.position
 
-    n : Numbered longestSites
-    n = pair-numbered _ _ (omega arith) (omega arith)
+    n : Numbered longest_sites
+    n = pair_numbered _ _ (omega arith) (omega arith)
 
-    m : Numbered diagonalSites
-    m = pair-numbered _ _ (omega arith) (omega arith)
+    m : Numbered diagonal_sites
+    m = pair_numbered _ _ (omega arith) (omega arith)

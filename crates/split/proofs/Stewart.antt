@@ -5,8 +5,8 @@ use Prim.Native.Nat.{ℕ, ◌+◌, ◌*◌, ◌-◌}
 use native.Mathlib.Omega.{arith}
 use Rattle.grid.specs.declared.Leg.{Leg}
 use Rattle.grid.specs.declared.Site.{Site}
-use Rattle.grid.specs.Position.{squaredDifference, distance}
-use Rattle.grid.proofs.Squares.{difference-expanded}
+use Rattle.grid.specs.Position.{squared_difference, distance}
+use Rattle.grid.proofs.Squares.{difference_expanded}
 use Rattle.split.specs.Hull.{weigh}
 use Rattle.split.specs.SplitList.{along, distance_at}
 
@@ -14,11 +14,11 @@ module _ (m n p s e : ℕ) where
   cross : ((m + n) * p) * (m * s + n * e) ≡ m * m * (p * s) + n * n * (p * e) + m * n * (p * s + p * e)
   cross = omega arith
 
-  square-site : ((m + n) * p) * ((m + n) * p) ≡ m * m * (p * p) + n * n * (p * p) + 2 * (m * n * (p * p))
-  square-site = omega arith
+  square_site : ((m + n) * p) * ((m + n) * p) ≡ m * m * (p * p) + n * n * (p * p) + 2 * (m * n * (p * p))
+  square_site = omega arith
 
-  square-leg : (m * s + n * e) * (m * s + n * e) ≡ m * m * (s * s) + n * n * (e * e) + 2 * (m * n * (s * e))
-  square-leg = omega arith
+  square_leg : (m * s + n * e) * (m * s + n * e) ≡ m * m * (s * s) + n * n * (e * e) + 2 * (m * n * (s * e))
+  square_leg = omega arith
 
   -- the square of the difference, multiplied out by the weights
   spread : (x : ℕ)
@@ -28,7 +28,7 @@ module _ (m n p s e : ℕ) where
   spread x h =
       let k : x + 2 * (m * m * (p * s) + n * n * (p * e) + m * n * (p * s + p * e))
       ≡ (m * m * (p * p) + n * n * (p * p) + 2 * (m * n * (p * p))) + (m * m * (s * s) + n * n * (e * e) + 2 * (m * n * (s * e)))
-      = rw (cross, square-site, square-leg) at h in
+      = rw (cross, square_site, square_leg) at h in
       omega arith
 
 one_way : (m n p s e x l a c : ℕ)
@@ -48,14 +48,14 @@ one_way m n p s e x l a c hx hl ha hc =
     )
 
 -- Stewart's theorem in one coordinate
-one-coordinate : (m n p s e : ℕ)
-    → squaredDifference ((m + n) * p) (m * s + n * e) + m * n * squaredDifference s e ≡ (m + n) * (m * squaredDifference p s + n * squaredDifference p e)
-one-coordinate m n p s e =
+one_coordinate : (m n p s e : ℕ)
+    → squared_difference ((m + n) * p) (m * s + n * e) + m * n * squared_difference s e ≡ (m + n) * (m * squared_difference p s + n * squared_difference p e)
+one_coordinate m n p s e =
     one_way m n p s e _ _ _ _
-    (spread m n p s e _ (difference-expanded ((m + n) * p) (m * s + n * e)))
-    (difference-expanded s e)
-    (difference-expanded p s)
-    (difference-expanded p e)
+    (spread m n p s e _ (difference_expanded ((m + n) * p) (m * s + n * e)))
+    (difference_expanded s e)
+    (difference_expanded p s)
+    (difference_expanded p e)
 
 pub stewart : (l : Leg) (m n : ℕ) (p : Site)
     → distance_at l (record { num = n; den = m + n }) p + m * n * distance l.s l.e ≡ (m + n) * weigh l m n p
@@ -65,6 +65,6 @@ stewart l m n p =
     rw k
     (omega (
       arith,
-      one-coordinate m n p.position.east l.s.east l.e.east,
-      one-coordinate m n p.position.north l.s.north l.e.north,
+      one_coordinate m n p.position.east l.s.east l.e.east,
+      one_coordinate m n p.position.north l.s.north l.e.north,
     ))

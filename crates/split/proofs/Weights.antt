@@ -10,8 +10,8 @@ use Rattle.grid.specs.declared.Leg.{Leg}
 use Rattle.grid.specs.declared.Site.{Site}
 use Rattle.grid.specs.Fraction.{IsFraction, Below, NotAbove}
 use Rattle.grid.specs.Position.{distance}
-use Rattle.grid.proofs.Order.{cancel-le}
-use Rattle.split.specs.Hull.{weigh, weighAt}
+use Rattle.grid.proofs.Order.{cancel_le}
+use Rattle.split.specs.Hull.{weigh, weigh_at}
 use Rattle.split.specs.SplitList.{distance_at}
 use Rattle.split.proofs.Stewart.{stewart}
 
@@ -24,19 +24,19 @@ pub weights : (t : Fraction) → IsFraction t → Weights t (t.den - t.num)
 weights t h = omega arith
 
 module _ (l : Leg) (t : Fraction) (m : ℕ) (w : Weights t m) where
-  stewart-at : (p : Site) → distance_at l t p + m * t.num * distance l.s l.e ≡ t.den * weigh l m t.num p
-  stewart-at p =
+  stewart_at : (p : Site) → distance_at l t p + m * t.num * distance l.s l.e ≡ t.den * weigh l m t.num p
+  stewart_at p =
       let e : ◌≡◌ {A = Fraction} (record { num = t.num; den = m + t.num }) t = λ i. record { num = t.num; den = sym w.parts i } in
       subst (λ (u : Fraction). distance_at l u p + m * t.num * distance l.s l.e ≡ u.den * weigh l m t.num p) e (stewart l m t.num p)
 
-  pub weigh-le : (p q : Site) → distance_at l t p ≤ distance_at l t q → weigh l m t.num p ≤ weigh l m t.num q
-  weigh-le p q h = cancel-le _ _ t.den w.positive (omega (arith, stewart-at p, stewart-at q))
+  pub weigh_le : (p q : Site) → distance_at l t p ≤ distance_at l t q → weigh l m t.num p ≤ weigh l m t.num q
+  weigh_le p q h = cancel_le _ _ t.den w.positive (omega (arith, stewart_at p, stewart_at q))
 
-  pub far-le : (p q : Site) → weigh l m t.num p ≤ weigh l m t.num q → distance_at l t p ≤ distance_at l t q
-  far-le p q h = omega (arith, mul-le-mul_left t.den h, stewart-at p, stewart-at q)
+  pub far_le : (p q : Site) → weigh l m t.num p ≤ weigh l m t.num q → distance_at l t p ≤ distance_at l t q
+  far_le p q h = omega (arith, mul-le-mul_left t.den h, stewart_at p, stewart_at q)
 
-  pub far-eq : (p q : Site) → weigh l m t.num p ≡ weigh l m t.num q → distance_at l t p ≡ distance_at l t q
-  far-eq p q h = omega (arith, far-le p q (omega arith), far-le q p (omega arith))
+  pub far_eq : (p q : Site) → weigh l m t.num p ≡ weigh l m t.num q → distance_at l t p ≡ distance_at l t q
+  far_eq p q h = omega (arith, far_le p q (omega arith), far_le q p (omega arith))
 
   -- strictly nearer, by the weights
   pub nearer : (p q : Site) → weigh l m t.num p < weigh l m t.num q → distance_at l t p < distance_at l t q
@@ -44,27 +44,27 @@ module _ (l : Leg) (t : Fraction) (m : ℕ) (w : Weights t m) where
     where
       go : Dec (distance_at l t p < distance_at l t q) → distance_at l t p < distance_at l t q
       go (yes k) = k
-      go (no k) = absurd (omega (arith, weigh-le q p (omega arith)))
+      go (no k) = absurd (omega (arith, weigh_le q p (omega arith)))
 
 -- the weights of a sum
-pub weigh-mix : (l : Leg) (a m n b x y : ℕ) (p : Site) → weigh l (a * m + b * x) (a * n + b * y) p ≡ a * weigh l m n p + b * weigh l x y p
+pub weigh_mix : (l : Leg) (a m n b x y : ℕ) (p : Site) → weigh l (a * m + b * x) (a * n + b * y) p ≡ a * weigh l m n p + b * weigh l x y p
 unfolding weigh
-weigh-mix l a m n b x y p = omega arith
+weigh_mix l a m n b x y p = omega arith
 
-pub weigh-times : (l : Leg) (a m n : ℕ) (p : Site) → weigh l (a * m) (a * n) p ≡ a * weigh l m n p
+pub weigh_times : (l : Leg) (a m n : ℕ) (p : Site) → weigh l (a * m) (a * n) p ≡ a * weigh l m n p
 unfolding weigh
-weigh-times l a m n p = omega arith
+weigh_times l a m n p = omega arith
 
 -- a fraction between two others, by weights: c times the middle is a times the left and b times the right
 pub record Between (m1 n1 m2 n2 m3 n3 : ℕ) : Type 0 where
   pub a : ℕ
   pub b : ℕ
   pub c : ℕ
-  pub a-is : a + n2 * m3 ≡ n3 * m2
-  pub b-is : b + n1 * m2 ≡ n2 * m1
-  pub c-is : c + n1 * m3 ≡ n3 * m1
-  pub m-is : c * m2 ≡ a * m1 + b * m3
-  pub n-is : c * n2 ≡ a * n1 + b * n3
+  pub a_is : a + n2 * m3 ≡ n3 * m2
+  pub b_is : b + n1 * m2 ≡ n2 * m1
+  pub c_is : c + n1 * m3 ≡ n3 * m1
+  pub m_is : c * m2 ≡ a * m1 + b * m3
+  pub n_is : c * n2 ≡ a * n1 + b * n3
 
 between : (m1 n1 m2 n2 m3 n3 : ℕ) → n1 * m2 ≤ n2 * m1 → n2 * m3 ≤ n3 * m2 → n1 * m3 ≤ n3 * m1 → Between m1 n1 m2 n2 m3 n3
 between m1 n1 m2 n2 m3 n3 h k g =
@@ -76,30 +76,30 @@ between m1 n1 m2 n2 m3 n3 h k g =
           a = a;
           b = b;
           c = c;
-          a-is = ea;
-          b-is = eb;
-          c-is = ec;
-          m-is = omega (arith, ap (λ (x : ℕ). x * m1) ea, ap (λ (x : ℕ). x * m3) eb, ap (λ (x : ℕ). x * m2) ec);
-          n-is = omega (arith, ap (λ (x : ℕ). x * n1) ea, ap (λ (x : ℕ). x * n3) eb, ap (λ (x : ℕ). x * n2) ec);
+          a_is = ea;
+          b_is = eb;
+          c_is = ec;
+          m_is = omega (arith, ap (λ (x : ℕ). x * m1) ea, ap (λ (x : ℕ). x * m3) eb, ap (λ (x : ℕ). x * m2) ec);
+          n_is = omega (arith, ap (λ (x : ℕ). x * n1) ea, ap (λ (x : ℕ). x * n3) eb, ap (λ (x : ℕ). x * n2) ec);
         }
 
 -- what is weighed at the middle, by what is weighed left and right
-pub weigh-between : (l : Leg) (m1 n1 m2 n2 m3 n3 : ℕ) (r : Between m1 n1 m2 n2 m3 n3) (p : Site)
+pub weigh_between : (l : Leg) (m1 n1 m2 n2 m3 n3 : ℕ) (r : Between m1 n1 m2 n2 m3 n3) (p : Site)
     → r.c * weigh l m2 n2 p ≡ r.a * weigh l m1 n1 p + r.b * weigh l m3 n3 p
-weigh-between l m1 n1 m2 n2 m3 n3 r p =
-    sym (weigh-times l r.c m2 n2 p)
-    ∙ ap (λ (x : ℕ). weigh l x (r.c * n2) p) r.m-is
-    ∙ ap (λ (x : ℕ). weigh l (r.a * m1 + r.b * m3) x p) r.n-is
-    ∙ weigh-mix l r.a m1 n1 r.b m3 n3 p
+weigh_between l m1 n1 m2 n2 m3 n3 r p =
+    sym (weigh_times l r.c m2 n2 p)
+    ∙ ap (λ (x : ℕ). weigh l x (r.c * n2) p) r.m_is
+    ∙ ap (λ (x : ℕ). weigh l (r.a * m1 + r.b * m3) x p) r.n_is
+    ∙ weigh_mix l r.a m1 n1 r.b m3 n3 p
 
 -- the order of fractions by weights
-before-weights : (s t : Fraction) (m x : ℕ) → Weights s m → Weights t x → Below s t → s.num * x < t.num * m
-before-weights s t m x ws wt h =
+before_weights : (s t : Fraction) (m x : ℕ) → Weights s m → Weights t x → Below s t → s.num * x < t.num * m
+before_weights s t m x ws wt h =
     let k : s.num * (x + t.num) < t.num * (m + s.num) = rw (← wt.parts, ← ws.parts) h in
     omega arith
 
-upto-weights : (s t : Fraction) (m x : ℕ) → Weights s m → Weights t x → NotAbove s t → s.num * x ≤ t.num * m
-upto-weights s t m x ws wt h =
+upto_weights : (s t : Fraction) (m x : ℕ) → Weights s m → Weights t x → NotAbove s t → s.num * x ≤ t.num * m
+upto_weights s t m x ws wt h =
     let k : s.num * (x + t.num) ≤ t.num * (m + s.num) = rw (← wt.parts, ← ws.parts) h in
     omega arith
 
@@ -108,19 +108,19 @@ pub record Mix (l : Leg) (t u v : Fraction) : Type 0 where
   pub a : ℕ
   pub b : ℕ
   pub c : ℕ
-  pub a-pos : Below u v → 1 ≤ a
-  pub b-pos : Below t u → 1 ≤ b
+  pub a_pos : Below u v → 1 ≤ a
+  pub b_pos : Below t u → 1 ≤ b
   pub c_pos : 1 ≤ c
-  pub mixed : (p : Site) → c * weighAt l u p ≡ a * weighAt l t p + b * weighAt l v p
+  pub mixed : (p : Site) → c * weigh_at l u p ≡ a * weigh_at l t p + b * weigh_at l v p
 
 pub mix : (l : Leg) (t u v : Fraction) → IsFraction t → IsFraction u → IsFraction v → NotAbove t u → NotAbove u v → Below t v → Mix l t u v
-unfolding weighAt
+unfolding weigh_at
 mix l t u v ft fu fv tu uv tv =
     go
     (between (t.den - t.num) t.num (u.den - u.num) u.num (v.den - v.num) v.num
-    (upto-weights t u _ _ (weights t ft) (weights u fu) tu)
-    (upto-weights u v _ _ (weights u fu) (weights v fv) uv)
-    (omega (arith, before-weights t v _ _ (weights t ft) (weights v fv) tv)))
+    (upto_weights t u _ _ (weights t ft) (weights u fu) tu)
+    (upto_weights u v _ _ (weights u fu) (weights v fv) uv)
+    (omega (arith, before_weights t v _ _ (weights t ft) (weights v fv) tv)))
   where
     go : Between (t.den - t.num) t.num (u.den - u.num) u.num (v.den - v.num) v.num → Mix l t u v
     go r =
@@ -128,35 +128,35 @@ mix l t u v ft fu fv tu uv tv =
           a = r.a;
           b = r.b;
           c = r.c;
-          a-pos = λ h. omega (arith, r.a-is, before-weights u v _ _ (weights u fu) (weights v fv) h);
-          b-pos = λ h. omega (arith, r.b-is, before-weights t u _ _ (weights t ft) (weights u fu) h);
-          c_pos = omega (arith, r.c-is, before-weights t v _ _ (weights t ft) (weights v fv) tv);
-          mixed = λ p. weigh-between l _ _ _ _ _ _ r p;
+          a_pos = λ h. omega (arith, r.a_is, before_weights u v _ _ (weights u fu) (weights v fv) h);
+          b_pos = λ h. omega (arith, r.b_is, before_weights t u _ _ (weights t ft) (weights u fu) h);
+          c_pos = omega (arith, r.c_is, before_weights t v _ _ (weights t ft) (weights v fv) tv);
+          mixed = λ p. weigh_between l _ _ _ _ _ _ r p;
         }
 
 module _ (l : Leg) (t : Fraction) (f : IsFraction t) (p q : Site) where
-  pub at-le : distance_at l t p ≤ distance_at l t q → weighAt l t p ≤ weighAt l t q
-  unfolding weighAt
-  at-le = weigh-le l t (t.den - t.num) (weights t f) p q
+  pub at_le : distance_at l t p ≤ distance_at l t q → weigh_at l t p ≤ weigh_at l t q
+  unfolding weigh_at
+  at_le = weigh_le l t (t.den - t.num) (weights t f) p q
 
-  pub at-far : weighAt l t p ≤ weighAt l t q → distance_at l t p ≤ distance_at l t q
-  unfolding weighAt
-  at-far = far-le l t (t.den - t.num) (weights t f) p q
+  pub at_far : weigh_at l t p ≤ weigh_at l t q → distance_at l t p ≤ distance_at l t q
+  unfolding weigh_at
+  at_far = far_le l t (t.den - t.num) (weights t f) p q
 
 module _ (l : Leg) (t : Fraction) (f : IsFraction t) (p q : Site) where
-  pub at-eq : distance_at l t p ≡ distance_at l t q → weighAt l t p ≡ weighAt l t q
-  at-eq e = omega (arith, at-le l t f p q (omega arith), at-le l t f q p (omega arith))
+  pub at_eq : distance_at l t p ≡ distance_at l t q → weigh_at l t p ≡ weigh_at l t q
+  at_eq e = omega (arith, at_le l t f p q (omega arith), at_le l t f q p (omega arith))
 
-  pub at-far-eq : weighAt l t p ≡ weighAt l t q → distance_at l t p ≡ distance_at l t q
-  at-far-eq e = omega (arith, at-far l t f p q (omega arith), at-far l t f q p (omega arith))
+  pub at_far_eq : weigh_at l t p ≡ weigh_at l t q → distance_at l t p ≡ distance_at l t q
+  at_far_eq e = omega (arith, at_far l t f p q (omega arith), at_far l t f q p (omega arith))
 
-  pub at_lt : distance_at l t p < distance_at l t q → weighAt l t p < weighAt l t q
-  at_lt h = go (dec_lt (weighAt l t p) (weighAt l t q))
+  pub at_lt : distance_at l t p < distance_at l t q → weigh_at l t p < weigh_at l t q
+  at_lt h = go (dec_lt (weigh_at l t p) (weigh_at l t q))
     where
-      go : Dec (weighAt l t p < weighAt l t q) → weighAt l t p < weighAt l t q
+      go : Dec (weigh_at l t p < weigh_at l t q) → weigh_at l t p < weigh_at l t q
       go (yes k) = k
-      go (no k) = absurd (omega (arith, at-far l t f q p (omega arith)))
+      go (no k) = absurd (omega (arith, at_far l t f q p (omega arith)))
 
-  pub at-nearer : weighAt l t p < weighAt l t q → distance_at l t p < distance_at l t q
-  unfolding weighAt
-  at-nearer = nearer l t (t.den - t.num) (weights t f) p q
+  pub at_nearer : weigh_at l t p < weigh_at l t q → distance_at l t p < distance_at l t q
+  unfolding weigh_at
+  at_nearer = nearer l t (t.den - t.num) (weights t f) p q

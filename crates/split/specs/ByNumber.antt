@@ -7,20 +7,20 @@ use Rattle.grid.specs.declared.Site.{Site}
 use Rattle.grid.specs.declared.Leg.{Leg}
 use Rattle.split.specs.SplitList.{Entry}
 use Rattle.split.specs.Ties.{TieAlong, FirstBy}
-use Rattle.split.specs.Hull.{Point, pointWith}
-use Rattle.split.specs.SplitOf.{build, entriesOf}
+use Rattle.split.specs.Hull.{Point, point_with}
+use Rattle.split.specs.SplitOf.{build, entries_of}
 
 -- a site as a point, where the number decides a tie
-abbrev pub numberPoint : Leg → Site → Point
-numberPoint l p = pointWith l p.number p
+abbrev pub number_point : Leg → Site → Point
+number_point l p = point_with l p.number p
 
 -- sites as such points
-abbrev pub numberPoints : Leg → List Site → List Point
-numberPoints l s = map (numberPoint l) s
+abbrev pub number_points : Leg → List Site → List Point
+number_points l s = map (number_point l) s
 
 -- THE SPLIT LIST BEFORE C-11, computed
-unfoldable pub splitByNumber : Leg → List Site → List Entry
-splitByNumber l s = entriesOf (build (numberPoints l s))
+unfoldable pub split_by_number : Leg → List Site → List Entry
+split_by_number l s = entries_of (build (number_points l s))
 
 -- "the least-numbered": of the sites that tie with it along the whole leg, each entry's site has the lowest number
 abbrev pub LowestOfTies : Leg → List Site → List Entry → Type 0

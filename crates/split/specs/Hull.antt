@@ -19,12 +19,12 @@ pub record Point : Type 0 where
   pub site : Site
 
 -- a site as a point, where k decides a tie
-abbrev pub pointWith : Leg → ℕ → Site → Point
-pointWith l k p = record { a = distance p.position l.s; c = distance p.position l.e; order = k; site = p }
+abbrev pub point_with : Leg → ℕ → Site → Point
+point_with l k p = record { a = distance p.position l.s; c = distance p.position l.e; order = k; site = p }
 
 -- a site as a point
 abbrev pub point_of : Leg → Site → Point
-point_of l p = pointWith l (rank l p) p
+point_of l p = point_with l (rank l p) p
 
 -- sites as points
 abbrev pub points : Leg → List Site → List Point
@@ -40,8 +40,8 @@ unfoldable pub weigh : Leg → ℕ → ℕ → Site → ℕ
 weigh l m n p = m * distance p.position l.s + n * distance p.position l.e
 
 -- what is weighed at t
-unfoldable pub weighAt : Leg → Fraction → Site → ℕ
-weighAt l t p = weigh l (t.den - t.num) t.num p
+unfoldable pub weigh_at : Leg → Fraction → Site → ℕ
+weigh_at l t p = weigh l (t.den - t.num) t.num p
 
 -- how far v lies to the right of u
 abbrev pub rise : Point → Point → ℕ
@@ -63,8 +63,8 @@ Bends s u v = rise s u * fall u v < rise u v * fall s u
 -- p comes before q at the weights m, n: by value, then by c, then by order
 pub record Beats (m n : ℕ) (p q : Point) : Type 0 where
   pub low : value m n p ≤ value m n q
-  pub then-c : value m n q ≤ value m n p → p.c ≤ q.c
-  pub then-order : value m n q ≤ value m n p → q.c ≤ p.c → p.order ≤ q.order
+  pub then_c : value m n q ≤ value m n p → p.c ≤ q.c
+  pub then_order : value m n q ≤ value m n p → q.c ≤ p.c → p.order ≤ q.order
 
 -- p is one of l
 abbrev pub In : Point → List Point → Type 0

@@ -2,13 +2,13 @@
 -- document 02 has it: leg, sites, list.
 -- Assumes nothing.
 use Rattle.std.specs.Prelude.{List, [], ◌∷◌, ℕ, ◌+◌, ◌-◌}
-use Rattle.limits.specs.Limits.{halfWidth}
+use Rattle.limits.specs.Limits.{half_width}
 use Rattle.grid.specs.declared.Position.{Position}
 use Rattle.grid.specs.declared.Site.{Site}
 use Rattle.grid.specs.declared.Leg.{Leg}
-use Rattle.grid.specs.Side.{wayBack}
+use Rattle.grid.specs.Side.{way_back}
 use Rattle.split.specs.SplitList.{Entry}
-use Rattle.split.specs.SplitOf.{splitOf}
+use Rattle.split.specs.SplitOf.{split_of}
 
 -- one leg to try
 pub record Try : Type 0 where
@@ -18,19 +18,19 @@ pub record Try : Type 0 where
 
 -- so far east and north of the grid's middle
 abbrev pub at : ℕ → ℕ → Position
-at e n = record { east = halfWidth + e; north = halfWidth + n }
+at e n = record { east = half_width + e; north = half_width + n }
 
 -- so far east and south of it
-abbrev pub atSouth : ℕ → ℕ → Position
-atSouth e n = record { east = halfWidth + e; north = halfWidth - n }
+abbrev pub at_south : ℕ → ℕ → Position
+at_south e n = record { east = half_width + e; north = half_width - n }
 
 -- so far west and north of it
-abbrev pub atWest : ℕ → ℕ → Position
-atWest e n = record { east = halfWidth - e; north = halfWidth + n }
+abbrev pub at_west : ℕ → ℕ → Position
+at_west e n = record { east = half_width - e; north = half_width + n }
 
 -- so far west and south of it
-abbrev pub atSouthWest : ℕ → ℕ → Position
-atSouthWest e n = record { east = halfWidth - e; north = halfWidth - n }
+abbrev pub at_south_west : ℕ → ℕ → Position
+at_south_west e n = record { east = half_width - e; north = half_width - n }
 
 -- site k
 abbrev pub site : ℕ → Position → Site
@@ -50,19 +50,19 @@ ten = leg (at 0 0) (at 10 0)
 
 -- "Leg (-8000,-8000) to (8000,8000)"
 abbrev pub diagonal : Leg
-diagonal = leg (atSouthWest 8000 8000) (at 8000 8000)
+diagonal = leg (at_south_west 8000 8000) (at 8000 8000)
 
 -- "site 1 at its start and 2 at its end"
-abbrev pub diagonalSites : List Site
-diagonalSites = site 1 (atSouthWest 8000 8000) ∷ site 2 (at 8000 8000) ∷ []
+abbrev pub diagonal_sites : List Site
+diagonal_sites = site 1 (at_south_west 8000 8000) ∷ site 2 (at 8000 8000) ∷ []
 
 -- from corner to corner of the grid: (-12000,-12000) to (12000,12000)
 abbrev pub longest : Leg
-longest = leg (atSouthWest 12000 12000) (at 12000 12000)
+longest = leg (at_south_west 12000 12000) (at 12000 12000)
 
 -- site 1 one step off its start and 2 at its end
-abbrev pub longestSites : List Site
-longestSites = site 1 (atSouthWest 11999 12000) ∷ site 2 (at 12000 12000) ∷ []
+abbrev pub longest_sites : List Site
+longest_sites = site 1 (at_south_west 11999 12000) ∷ site 2 (at 12000 12000) ∷ []
 
 -- a line of the table
 abbrev pub try : Leg → List Site → List Entry → Try
@@ -80,32 +80,32 @@ try l s es = record { leg = l; sites = s; list = es }
 abbrev pub legs : List Try
 legs =
     try ten (site 1 (at 2 3) ∷ site 2 (at 7 1) ∷ []) (since (site 1 (at 2 3)) 0 1 ∷ since (site 2 (at 7 1)) 37 100 ∷ [])
-    ∷ try ten (site 1 (at 2 3) ∷ site 2 (at 7 1) ∷ site 3 (atSouth 9 4) ∷ []) (since (site 1 (at 2 3)) 0 1 ∷ since (site 2 (at 7 1)) 37 100 ∷ [])
+    ∷ try ten (site 1 (at 2 3) ∷ site 2 (at 7 1) ∷ site 3 (at_south 9 4) ∷ []) (since (site 1 (at 2 3)) 0 1 ∷ since (site 2 (at 7 1)) 37 100 ∷ [])
     ∷ try ten (site 1 (at 2 3) ∷ []) (since (site 1 (at 2 3)) 0 1 ∷ [])
-    ∷ try ten (site 2 (at 3 4) ∷ site 5 (atSouth 3 4) ∷ []) (since (site 5 (atSouth 3 4)) 0 1 ∷ [])
+    ∷ try ten (site 2 (at 3 4) ∷ site 5 (at_south 3 4) ∷ []) (since (site 5 (at_south 3 4)) 0 1 ∷ [])
     ∷ try ten (site 1 (at 0 0) ∷ site 2 (at 10 0) ∷ site 3 (at 5 5) ∷ []) (since (site 1 (at 0 0)) 0 1 ∷ since (site 2 (at 10 0)) 1 2 ∷ [])
-    ∷ try ten (site 1 (atWest 2 0) ∷ site 2 (at 2 0) ∷ []) (since (site 2 (at 2 0)) 0 1 ∷ [])
+    ∷ try ten (site 1 (at_west 2 0) ∷ site 2 (at 2 0) ∷ []) (since (site 2 (at 2 0)) 0 1 ∷ [])
     ∷ try ten (site 1 (at 8 0) ∷ site 2 (at 12 0) ∷ []) (since (site 1 (at 8 0)) 0 1 ∷ [])
     ∷ try (leg (at 4 4) (at 4 4)) (site 7 (at 4 5) ∷ site 3 (at 5 4) ∷ []) (since (site 3 (at 5 4)) 0 1 ∷ [])
-    ∷ try diagonal diagonalSites (since (site 1 (atSouthWest 8000 8000)) 0 1 ∷ since (site 2 (at 8000 8000)) 1 2 ∷ [])
-    ∷ try longest longestSites (since (site 1 (atSouthWest 11999 12000)) 0 1 ∷ since (site 2 (at 12000 12000)) 1151999999 2303952000 ∷ [])
+    ∷ try diagonal diagonal_sites (since (site 1 (at_south_west 8000 8000)) 0 1 ∷ since (site 2 (at 8000 8000)) 1 2 ∷ [])
+    ∷ try longest longest_sites (since (site 1 (at_south_west 11999 12000)) 0 1 ∷ since (site 2 (at 12000 12000)) 1151999999 2303952000 ∷ [])
     ∷ []
 
 -- ties along the whole leg, by C-11's rule: the starred leg turned round; two on the right, and two on the left; on the
 -- line itself, on the leg and beyond it; two on each side; a slanted leg; two stretches, each with a site on either
 -- side; a leg of no length, where nothing is on the right
-abbrev pub tiedLegs : List Try
-tiedLegs =
-    try (wayBack ten) (site 2 (at 3 4) ∷ site 5 (atSouth 3 4) ∷ []) (since (site 2 (at 3 4)) 0 1 ∷ [])
-    ∷ try ten (site 5 (atSouth 3 4) ∷ site 2 (atSouth 3 4) ∷ []) (since (site 2 (atSouth 3 4)) 0 1 ∷ [])
+abbrev pub tied_legs : List Try
+tied_legs =
+    try (way_back ten) (site 2 (at 3 4) ∷ site 5 (at_south 3 4) ∷ []) (since (site 2 (at 3 4)) 0 1 ∷ [])
+    ∷ try ten (site 5 (at_south 3 4) ∷ site 2 (at_south 3 4) ∷ []) (since (site 2 (at_south 3 4)) 0 1 ∷ [])
     ∷ try ten (site 5 (at 3 4) ∷ site 2 (at 3 4) ∷ []) (since (site 2 (at 3 4)) 0 1 ∷ [])
     ∷ try ten (site 5 (at 3 0) ∷ site 2 (at 3 0) ∷ []) (since (site 2 (at 3 0)) 0 1 ∷ [])
     ∷ try ten (site 5 (at 12 0) ∷ site 2 (at 12 0) ∷ []) (since (site 2 (at 12 0)) 0 1 ∷ [])
-    ∷ try ten (site 1 (at 3 4) ∷ site 9 (atSouth 3 4) ∷ site 2 (at 3 4) ∷ site 7 (atSouth 3 4) ∷ [])
-    (since (site 7 (atSouth 3 4)) 0 1 ∷ [])
-    ∷ try (leg (at 0 0) (at 4 2)) (site 2 (at 1 3) ∷ site 5 (atSouth 3 1) ∷ []) (since (site 5 (atSouth 3 1)) 0 1 ∷ [])
-    ∷ try ten (site 1 (at 2 3) ∷ site 2 (at 7 1) ∷ site 3 (atSouth 2 3) ∷ site 4 (atSouth 7 1) ∷ [])
-    (since (site 3 (atSouth 2 3)) 0 1 ∷ since (site 4 (atSouth 7 1)) 37 100 ∷ [])
+    ∷ try ten (site 1 (at 3 4) ∷ site 9 (at_south 3 4) ∷ site 2 (at 3 4) ∷ site 7 (at_south 3 4) ∷ [])
+    (since (site 7 (at_south 3 4)) 0 1 ∷ [])
+    ∷ try (leg (at 0 0) (at 4 2)) (site 2 (at 1 3) ∷ site 5 (at_south 3 1) ∷ []) (since (site 5 (at_south 3 1)) 0 1 ∷ [])
+    ∷ try ten (site 1 (at 2 3) ∷ site 2 (at 7 1) ∷ site 3 (at_south 2 3) ∷ site 4 (at_south 7 1) ∷ [])
+    (since (site 3 (at_south 2 3)) 0 1 ∷ since (site 4 (at_south 7 1)) 37 100 ∷ [])
     ∷ try (leg (at 4 4) (at 4 4)) (site 2 (at 4 5) ∷ site 1 (at 4 3) ∷ site 3 (at 5 4) ∷ [])
     (since (site 1 (at 4 3)) 0 1 ∷ [])
     ∷ []
@@ -118,4 +118,4 @@ listed (t ∷ ts) = t.list ∷ listed ts
 -- the lists as they are computed
 abbrev pub computed : List Try → List (List Entry)
 computed [] = []
-computed (t ∷ ts) = splitOf t.leg t.sites ∷ computed ts
+computed (t ∷ ts) = split_of t.leg t.sites ∷ computed ts

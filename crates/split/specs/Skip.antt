@@ -6,8 +6,8 @@ use Rattle.grid.specs.declared.Corner.{Corner}
 use Rattle.split.specs.Hull.{Point, value, In}
 
 -- a point by its squared distances alone
-abbrev pub cornerOf : Point → Corner
-cornerOf p = record { a = p.a; c = p.c }
+abbrev pub corner_of : Point → Corner
+corner_of p = record { a = p.a; c = p.c }
 
 -- u is as far left as the corner (a, c), v as low, and at one weight both are below it
 pub record Shut (u v : Corner) (a c : ℕ) : Type 0 where
@@ -15,8 +15,8 @@ pub record Shut (u v : Corner) (a c : ℕ) : Type 0 where
   pub n : ℕ
   pub left : u.a ≤ a
   pub low : v.c ≤ c
-  pub under-u : m * u.a + n * u.c < m * a + n * c
-  pub under-v : m * v.a + n * v.c < m * a + n * c
+  pub under_u : m * u.a + n * u.c < m * a + n * c
+  pub under_v : m * v.a + n * v.c < m * a + n * c
 
 -- at every weight strictly inside the leg a point of the list is below the corner
 pub record ShutOut (l : List Point) (a c : ℕ) : Type 0 where
@@ -26,6 +26,6 @@ pub record ShutOut (l : List Point) (a c : ℕ) : Type 0 where
 pub record Witness (l : List Point) (a c : ℕ) : Type 0 where
   pub u : Point
   pub v : Point
-  pub has-u : In u l
-  pub has-v : In v l
-  pub shut : Shut (cornerOf u) (cornerOf v) a c
+  pub has_u : In u l
+  pub has_v : In v l
+  pub shut : Shut (corner_of u) (corner_of v) a c

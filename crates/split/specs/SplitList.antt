@@ -5,13 +5,13 @@ use Rattle.std.specs.Prelude.{◌≡◌, ◌≢◌, ℕ, suc, ◌+◌, ◌*◌, 
 use Rattle.std.proofs.Math.Option.{Option, none, some}
 use mathlib.Core.List.{List, [], ◌∷◌, Memᴰ}
 use Rattle.std.proofs.Math.Decide.{dec_le}
-use Rattle.limits.specs.Limits.{maxNumber}
+use Rattle.limits.specs.Limits.{max_number}
 use Rattle.grid.specs.declared.Site.{Site}
 use Rattle.grid.specs.declared.Leg.{Leg}
 use Rattle.grid.specs.declared.Fraction.{Fraction}
-use Rattle.grid.specs.Position.{squaredDifference, OnGrid}
-use Rattle.grid.specs.Side.{onTheRight?}
-use Rattle.grid.specs.Fraction.{IsFraction, Below, NotAbove, Reduced, zeroFraction, oneFraction}
+use Rattle.grid.specs.Position.{squared_difference, OnGrid}
+use Rattle.grid.specs.Side.{on_the_right?}
+use Rattle.grid.specs.Fraction.{IsFraction, Below, NotAbove, Reduced, zero_fraction, one_fraction}
 
 -- "Fraction t .. stands for S + t(E - S)": one coordinate of that point, times the denominator of t
 unfoldable pub along : Fraction → ℕ → ℕ → ℕ
@@ -20,18 +20,18 @@ along t s e = (t.den - t.num) * s + t.num * e
 -- the squared distance of a site from the leg's point at t, times the square of t's denominator
 unfoldable pub distance_at : Leg → Fraction → Site → ℕ
 distance_at l t p =
-    squaredDifference (t.den * p.position.east) (along t l.s.east l.e.east)
-    + squaredDifference (t.den * p.position.north) (along t l.s.north l.e.north)
+    squared_difference (t.den * p.position.east) (along t l.s.east l.e.east)
+    + squared_difference (t.den * p.position.north) (along t l.s.north l.e.north)
 
 -- what a number counts for, by whether its site is on the right: as it is, or above all of those
-abbrev pub rankBy : {A : Type 0} → Dec A → ℕ → ℕ
-rankBy (yes h) n = n
-rankBy (no h) n = suc maxNumber + n
+abbrev pub rank_by : {A : Type 0} → Dec A → ℕ → ℕ
+rank_by (yes h) n = n
+rank_by (no h) n = suc max_number + n
 
 -- the tie rule, document 02, C-11: "Of sites that tie along the whole leg, one on the right now comes before others;
 -- then the lower number." The least rank comes first, which is just that (`rank_is`, proofs/Ranks.antt)
 unfoldable pub rank : Leg → Site → ℕ
-rank l p = rankBy (onTheRight? l p.position) p.number
+rank l p = rank_by (on_the_right? l p.position) p.number
 
 -- at t, p is the first of the nearest sites: on the right of the leg first, then the lower number
 pub record Leads (l : Leg) (sites : List Site) (t : Fraction) (p : Site) : Type 0 where
@@ -46,7 +46,7 @@ pub record Entry : Type 0 where
 
 -- "An entry covers from its start to the next start, the last one to 1": where an entry ends that is followed by these
 abbrev pub end_of : List Entry → Fraction
-end_of [] = oneFraction
+end_of [] = one_fraction
 end_of (f ∷ fs) = f.start
 
 -- "Neighbouring entries name different sites."
@@ -72,7 +72,7 @@ Stretches l sites (e ∷ es) = Stretch l sites e es × Stretches l sites es
 -- "the first is 0"; a list without entries is that of no sites
 abbrev pub Opens : List Site → List Entry → Type 0
 Opens sites [] = sites ≡ []
-Opens sites (e ∷ es) = e.start ≡ zeroFraction
+Opens sites (e ∷ es) = e.start ≡ zero_fraction
 
 -- THE SPLIT LIST of a leg over sites
 pub record IsSplitList (l : Leg) (sites : List Site) (list : List Entry) : Type 0 where
@@ -81,7 +81,7 @@ pub record IsSplitList (l : Leg) (sites : List Site) (list : List Entry) : Type 
 
 -- "A site has a number .. to 65,535"; "Two sites may share a position, never a number."
 pub record Numbered (sites : List Site) : Type 0 where
-  pub small : (p : Site) → Memᴰ p sites → p.number ≤ maxNumber
+  pub small : (p : Site) → Memᴰ p sites → p.number ≤ max_number
   pub one : (p q : Site) → Memᴰ p sites → Memᴰ q sites → p.number ≡ q.number → p ≡ q
 
 -- every site's position is on the grid
@@ -108,11 +108,11 @@ or_else (yes h) p q = p
 or_else (no h) p q = q
 
 -- the site that a list names at t which begins with the entry e
-unfoldable pub nameFrom : Fraction → Entry → List Entry → Site
-nameFrom t e [] = e.site
-nameFrom t e (f ∷ fs) = or_else (dec_le (f.start.num * t.den) (t.num * f.start.den)) (nameFrom t f fs) e.site
+unfoldable pub name_from : Fraction → Entry → List Entry → Site
+name_from t e [] = e.site
+name_from t e (f ∷ fs) = or_else (dec_le (f.start.num * t.den) (t.num * f.start.den)) (name_from t f fs) e.site
 
 -- "At t a list names the site of its last entry whose start is not above t": none where it has no entry
 abbrev pub name_at : Fraction → List Entry → Option Site
 name_at t [] = none
-name_at t (e ∷ es) = some (nameFrom t e es)
+name_at t (e ∷ es) = some (name_from t e es)

@@ -6,7 +6,7 @@ use Rattle.std.proofs.Math.Decide.{dec_le, dec_lt}
 use Rattle.grid.specs.declared.Site.{Site}
 use Rattle.grid.specs.declared.Leg.{Leg}
 use Rattle.grid.specs.declared.Fraction.{Fraction}
-use Rattle.grid.specs.Fraction.{lowest, zeroFraction}
+use Rattle.grid.specs.Fraction.{lowest, zero_fraction}
 use Rattle.split.specs.SplitList.{Entry}
 use Rattle.split.specs.Hull.{Point, points, rise, fall, RightBelow, Under}
 use Rattle.split.specs.Choice.{pick, both?, if?}
@@ -20,8 +20,8 @@ unfoldable pub hides? : (u x : Point) → Dec (Hides u x)
 hides? u x = both? (dec_le u.c x.c) (if? (dec_le x.c u.c) (if? (dec_le x.a u.a) (dec_le u.order x.order)))
 
 -- whether v lies right of and below u
-unfoldable pub rightBelow? : (u v : Point) → Dec (RightBelow u v)
-rightBelow? u v = go (dec_lt u.a v.a) (dec_lt v.c u.c)
+unfoldable pub right_below? : (u v : Point) → Dec (RightBelow u v)
+right_below? u v = go (dec_lt u.a v.a) (dec_lt v.c u.c)
   where
     go : Dec (u.a < v.a) → Dec (v.c < u.c) → Dec (RightBelow u v)
     go (yes h) (yes k) = yes (record { right = h; down = k })
@@ -31,8 +31,8 @@ rightBelow? u v = go (dec_lt u.a v.a) (dec_lt v.c u.c)
 -- whether v may stand on l
 unfoldable pub under? : (v : Point) (l : List Point) → Dec (Under v l)
 under? v [] = yes tt
-under? v (u ∷ []) = rightBelow? u v
-under? v (u ∷ s ∷ l) = both? (rightBelow? u v) (dec_lt (rise s u * fall u v) (rise u v * fall s u))
+under? v (u ∷ []) = right_below? u v
+under? v (u ∷ s ∷ l) = both? (right_below? u v) (dec_lt (rise s u * fall u v) (rise u v * fall s u))
 
 -- x, which no vertex lies right of, on a hull: dropped where the last vertex hides it, else the last vertices go that
 -- it takes over
@@ -55,14 +55,14 @@ abbrev pub changeover : Point → Point → Fraction
 changeover u v = lowest (rise u v) (rise u v + fall u v)
 
 -- the entries of the vertices that follow v
-abbrev pub entriesAfter : Point → List Point → List Entry
-entriesAfter v [] = []
-entriesAfter v (w ∷ r) = record { site = w.site; start = changeover v w } ∷ entriesAfter w r
+abbrev pub entries_after : Point → List Point → List Entry
+entries_after v [] = []
+entries_after v (w ∷ r) = record { site = w.site; start = changeover v w } ∷ entries_after w r
 
 -- the entries of vertices, the first one first
-abbrev pub entriesAlong : List Point → List Entry
-entriesAlong [] = []
-entriesAlong (v ∷ r) = record { site = v.site; start = zeroFraction } ∷ entriesAfter v r
+abbrev pub entries_along : List Point → List Entry
+entries_along [] = []
+entries_along (v ∷ r) = record { site = v.site; start = zero_fraction } ∷ entries_after v r
 
 -- the vertices r, nearest first, put back on l
 abbrev pub onto : List Point → List Point → List Point
@@ -70,9 +70,9 @@ onto [] l = l
 onto (w ∷ r) l = onto r (w ∷ l)
 
 -- the entries of vertices, the last one first
-abbrev pub entriesOf : List Point → List Entry
-entriesOf h = entriesAlong (onto h [])
+abbrev pub entries_of : List Point → List Entry
+entries_of h = entries_along (onto h [])
 
 -- THE SPLIT LIST, computed
-unfoldable pub splitOf : Leg → List Site → List Entry
-splitOf l s = entriesOf (build (points l s))
+unfoldable pub split_of : Leg → List Site → List Entry
+split_of l s = entries_of (build (points l s))

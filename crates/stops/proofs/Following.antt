@@ -15,7 +15,7 @@ use Rattle.stops.specs.declared.Next.TheVariants.{Untaken}
 use Rattle.stops.specs.declared.Got.{Got}
 use Rattle.stops.specs.declared.Got.TheVariants.{Bytes, Ended, Failed}
 use Rattle.stops.specs.Input.{ReadOn}
-use Rattle.stops.specs.Calls.{JoinedInput, Onward, WantsMore, Resumable, Final, afterRead, Follows, Proceeds, Reported, Turned}
+use Rattle.stops.specs.Calls.{JoinedInput, Onward, WantsMore, Resumable, Final, after_read, Follows, Proceeds, Reported, Turned}
 
 -- ---- after 0 and 67
 
@@ -23,33 +23,33 @@ pub reads_as : (reason x : Reason) → reason ≡ x → WantsMore x → WantsMor
 reads_as reason x e h = rw e h
 
 -- there is room to read; and 64, 65 and 69 do not come
-pub ready-as : (size left : ℕ) (reason x : Reason) → reason ≡ x → Resumable size reason left → Resumable size x left
-ready-as size left reason x e h = subst (λ (y : Reason). Resumable size y left) e h
+pub ready_as : (size left : ℕ) (reason x : Reason) → reason ≡ x → Resumable size reason left → Resumable size x left
+ready_as size left reason x e h = subst (λ (y : Reason). Resumable size y left) e h
 
 -- bytes that came are joined with those that were left
-onward-joined : (size : ℕ) (reason : Reason) (rest held : List ℕ) → WantsMore reason → JoinedInput size rest held → Onward size reason rest held
-onward-joined size AllUsed rest held h j = j
-onward-joined size WrongLength rest held h j = absurd h
-onward-joined size Broken rest held h j = absurd h
-onward-joined size UnknownCommand rest held h j = absurd h
-onward-joined size CutShort rest held h j = j
-onward-joined size NoRoom rest held h j = absurd h
-onward-joined size BrokenStanding rest held h j = absurd h
+onward_joined : (size : ℕ) (reason : Reason) (rest held : List ℕ) → WantsMore reason → JoinedInput size rest held → Onward size reason rest held
+onward_joined size AllUsed rest held h j = j
+onward_joined size WrongLength rest held h j = absurd h
+onward_joined size Broken rest held h j = absurd h
+onward_joined size UnknownCommand rest held h j = absurd h
+onward_joined size CutShort rest held h j = j
+onward_joined size NoRoom rest held h j = absurd h
+onward_joined size BrokenStanding rest held h j = absurd h
 
-final-read : (reason : Reason) → WantsMore reason → Final reason
-final-read AllUsed h = tt
-final-read WrongLength h = absurd h
-final-read Broken h = absurd h
-final-read UnknownCommand h = absurd h
-final-read CutShort h = tt
-final-read NoRoom h = absurd h
-final-read BrokenStanding h = absurd h
+final_read : (reason : Reason) → WantsMore reason → Final reason
+final_read AllUsed h = tt
+final_read WrongLength h = absurd h
+final_read Broken h = absurd h
+final_read UnknownCommand h = absurd h
+final_read CutShort h = tt
+final_read NoRoom h = absurd h
+final_read BrokenStanding h = absurd h
 
 after : (s : List ℕ) (reason : Reason) (left : ℕ) (got : Got) (s' : List ℕ) → WantsMore reason → ReadOn left s got s'
-    → Follows (length s) reason (take left s) (afterRead got reason) s'
+    → Follows (length s) reason (take left s) (after_read got reason) s'
 after s reason left (Bytes n) s' h r = (
   r.behind.1,
-  onward-joined (length s) reason (take left s) (take n s') h (record {
+  onward_joined (length s) reason (take left s) (take n s') h (record {
     fresh = drop left (take n s');
     some = omega (arith, length-slice left n s' r.behind.1, r.behind.0);
     joined = sym (take-append-drop left (take n s'))
@@ -57,32 +57,32 @@ after s reason left (Bytes n) s' h r = (
     fits = omega (arith, length-take-le n s' r.behind.1, r.behind.1, r.len);
   }),
 )
-after s reason left Ended s' h r = (refl, final-read reason h)
+after s reason left Ended s' h r = (refl, final_read reason h)
 after s reason left Failed s' h r = h
 
-pub after_read : (s : List ℕ) (reason : Reason) (left : ℕ) (got : Got) (r : Next) (s' : List ℕ) → WantsMore reason → ReadOn left s got s' → r ≡ afterRead got reason
+pub after_read_lem : (s : List ℕ) (reason : Reason) (left : ℕ) (got : Got) (r : Next) (s' : List ℕ) → WantsMore reason → ReadOn left s got s' → r ≡ after_read got reason
     → Follows (length s) reason (take left s) r s'
-after_read s reason left got r s' h g e = rw e (after s reason left got s' h g)
+after_read_lem s reason left got r s' h g e = rw e (after s reason left got s' h g)
 
-pub after-as : (got x : Got) (reason : Reason) (r : Next) → got ≡ x → r ≡ afterRead x reason → r ≡ afterRead got reason
-after-as got x reason r e h = rw e h
+pub after_as : (got x : Got) (reason : Reason) (r : Next) → got ≡ x → r ≡ after_read x reason → r ≡ after_read got reason
+after_as got x reason r e h = rw e h
 
 -- ---- after the others
 
-pub onward-full : (size : ℕ) (reason : Reason) (rest : List ℕ) → reason ≡ NoRoom → Onward size reason rest rest
-onward-full size reason rest e = rw e refl
+pub onward_full : (size : ℕ) (reason : Reason) (rest : List ℕ) → reason ≡ NoRoom → Onward size reason rest rest
+onward_full size reason rest e = rw e refl
 
-pub final-unknown : (reason : Reason) → reason ≡ UnknownCommand → Final reason
-final-unknown reason e = rw e tt
+pub final_unknown : (reason : Reason) → reason ≡ UnknownCommand → Final reason
+final_unknown reason e = rw e tt
 
 -- ---- a turn
 
 module _ (size : ℕ) (reason : Reason) (rest : List ℕ) (taken : Bool) (s' : List ℕ) where
-  pub proceeds-taken : (x : Next) → taken ≡ true → Follows size reason rest x s' → Proceeds size reason rest taken x s'
-  proceeds-taken x e f = rw e f
+  pub proceeds_taken : (x : Next) → taken ≡ true → Follows size reason rest x s' → Proceeds size reason rest taken x s'
+  proceeds_taken x e f = rw e f
 
-  pub breaks-off : taken ≡ false → Proceeds size reason rest taken Untaken s'
-  breaks-off e = rw e refl
+  pub breaks_off : taken ≡ false → Proceeds size reason rest taken Untaken s'
+  breaks_off e = rw e refl
 
 pub turned : (held : ℕ) (t w s rep : List ℕ) (b : Batched) (t' w' s₁ rep' : List ℕ) (r : Next) (s' : List ℕ) → Reported held t w s rep b t' w' s₁ rep'
     → Proceeds (length s₁) b.reason (take b.left s₁) b.taken r s' → length s' ≡ length s₁ → Turned held t w s rep r t' w' s' rep'

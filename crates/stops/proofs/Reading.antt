@@ -39,18 +39,18 @@ kept used held left s s' m e u l =
 
 -- the part behind the held bytes comes back as f
 module _ (s f : List ℕ) (held : ℕ) (h : held < length s) (e : length f ≡ length (mid_of held (length s - held) s)) where
-  size-kept : length (put_mid held (length s - held) s f) ≡ length s
-  size-kept = same_len_mid held (length s - held) s f e
+  size_kept : length (put_mid held (length s - held) s f) ≡ length s
+  size_kept = same_len_mid held (length s - held) s f e
 
   read_as : (r : Got) → Behind held (length (put_mid held (length s - held) s f)) r → ReadOn held s r (put_mid held (length s - held) s f)
-  read_as r b = record { behind = b; front = take_put held (length s - held) s f (omega arith); len = size-kept }
+  read_as r b = record { behind = b; front = take_put held (length s - held) s f (omega arith); len = size_kept }
 
   -- of which n bytes were read
-  pub read-bytes : (n : ℕ) → n ≢ 0 → n ≤ length f → ReadOn held s (Bytes (held + n)) (put_mid held (length s - held) s f)
-  read-bytes n z l = read_as (Bytes (held + n)) (omega (arith, z), omega (arith, size-kept, e, mid_len held (length s) s (omega arith)))
+  pub read_bytes : (n : ℕ) → n ≢ 0 → n ≤ length f → ReadOn held s (Bytes (held + n)) (put_mid held (length s - held) s f)
+  read_bytes n z l = read_as (Bytes (held + n)) (omega (arith, z), omega (arith, size_kept, e, mid_len held (length s) s (omega arith)))
 
-  pub read-end : ReadOn held s Ended (put_mid held (length s - held) s f)
-  read-end = read_as Ended tt
+  pub read_end : ReadOn held s Ended (put_mid held (length s - held) s f)
+  read_end = read_as Ended tt
 
-  pub read-failed : ReadOn held s Failed (put_mid held (length s - held) s f)
-  read-failed = read_as Failed tt
+  pub read_failed : ReadOn held s Failed (put_mid held (length s - held) s f)
+  read_failed = read_as Failed tt

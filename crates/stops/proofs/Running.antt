@@ -6,31 +6,31 @@ use mathlib.Core.List.{List, [], ◌∷◌, ◌++◌}
 use Prim.Native.Nat.{ℕ, ◌+◌, ◌-◌, ◌≤◌, ◌<◌}
 use native.Mathlib.Omega.{arith}
 use lib.ListN.{length, take, length-append}
-use Rattle.limits.specs.Limits.{tableBytes}
+use Rattle.limits.specs.Limits.{table_bytes}
 use Rattle.book.specs.declared.Reason.{Reason}
-use Rattle.book.specs.Numbers.{reasonNumber}
+use Rattle.book.specs.Numbers.{reason_number}
 use Rattle.table_rules.specs.Table.{Sound}
-use Rattle.demands.specs.Batch.{returnOf, LaidOut}
+use Rattle.demands.specs.Batch.{return_of, LaidOut}
 use Rattle.demands.specs.Whole.{Call, MadeOn, Made}
 use Rattle.demands.specs.Whole.Made.{none, next}
-use Rattle.demands.proofs.WholeRun.{laid-holds}
-use Rattle.demands.proofs.Demand1.{demand1-laid}
+use Rattle.demands.proofs.WholeRun.{laid_holds}
+use Rattle.demands.proofs.Demand1.{demand1_laid}
 use Rattle.stops.specs.declared.Next.{Next}
 use Rattle.stops.specs.declared.Next.TheVariants.{More, End, Unread, Untaken, Spent}
 use Rattle.stops.specs.Input.{TakenWhole}
-use Rattle.stops.specs.Calls.{Buffers, Follows, Proceeds, rest_of, Turned, Takes, Fed, mostCalls, Calls, Series, Program}
+use Rattle.stops.specs.Calls.{Buffers, Follows, Proceeds, rest_of, Turned, Takes, Fed, most_calls, Calls, Series, Program}
 use Rattle.stops.specs.Calls.Fed.{start, more}
 use Rattle.stops.specs.Calls.Calls.{ended, unread, untaken, spent}
-use Rattle.stops.proofs.Serving.{sound-after}
+use Rattle.stops.proofs.Serving.{sound_after}
 
 -- the table that the program lays out
-laid_as : (t t₁ : List ℕ) (r : Reason) → length t ≡ tableBytes → LaidOut t (reasonNumber r) t₁ → LaidOut t 0 t₁
-laid_as t t₁ r l h = subst (λ (n : ℕ). LaidOut t n t₁) ((demand1-laid t (reasonNumber r) t₁ h).laid l).0 h
+laid_as : (t t₁ : List ℕ) (r : Reason) → length t ≡ table_bytes → LaidOut t (reason_number r) t₁ → LaidOut t 0 t₁
+laid_as t t₁ r l h = subst (λ (n : ℕ). LaidOut t n t₁) ((demand1_laid t (reason_number r) t₁ h).laid l).0 h
 
-pub laid-sound : (t t₁ : List ℕ) (r : Reason) → length t ≡ tableBytes → LaidOut t (reasonNumber r) t₁ → Sound t₁
-laid-sound t t₁ r l h = (laid-holds t t₁ (laid_as t t₁ r l h)).sound
+pub laid_sound : (t t₁ : List ℕ) (r : Reason) → length t ≡ table_bytes → LaidOut t (reason_number r) t₁ → Sound t₁
+laid_sound t t₁ r l h = (laid_holds t t₁ (laid_as t t₁ r l h)).sound
 
-pub program : (size room : ℕ) (t t₁ : List ℕ) (r : Reason) (x : Next) (t' : List ℕ) → length t ≡ tableBytes → LaidOut t (reasonNumber r) t₁ → Series size room t₁ x t'
+pub program : (size room : ℕ) (t t₁ : List ℕ) (r : Reason) (x : Next) (t' : List ℕ) → length t ≡ table_bytes → LaidOut t (reason_number r) t₁ → Series size room t₁ x t'
     → Program size room x t'
 program size room t t₁ r x t' l h s =
     record { calls = s.calls; are = s.are; ran = record { before = t; laid_table = t₁; laid = laid_as t t₁ r l h; made = s.made } }
@@ -45,15 +45,15 @@ pub record Running (s₀ rep₀ t₀ t w s rep : List ℕ) (held turns : ℕ) : 
   pub calls : List Call
   pub fed : Fed (length s₀) (length rep₀) calls (take held s)
   pub made : Made t₀ calls t
-  pub counted : length calls + turns ≡ mostCalls
+  pub counted : length calls + turns ≡ most_calls
   pub sound : Sound t
   pub buffers : Buffers w s rep
   pub input : length s ≡ length s₀
   pub report : length rep ≡ length rep₀
   pub inside : held ≤ length s
 
-pub running-first : (t w s rep : List ℕ) → Sound t → Buffers w s rep → Running s rep t t w s rep 0 mostCalls
-running-first t w s rep h bs =
+pub running_first : (t w s rep : List ℕ) → Sound t → Buffers w s rep → Running s rep t t w s rep 0 most_calls
+running_first t w s rep h bs =
     record {
       calls = [];
       fed = start;
@@ -67,33 +67,33 @@ running-first t w s rep h bs =
     }
 
 module _ (s₀ rep₀ t₀ t w s rep : List ℕ) (held turns : ℕ) (v : Running s₀ rep₀ t₀ t w s rep held turns) where
-  pub running-spent : turns ≤ 0 → Series (length s₀) (length rep₀) t₀ Spent t
-  running-spent z = record { calls = v.calls; are = spent v.fed (omega (arith, v.counted)); made = v.made }
+  pub running_spent : turns ≤ 0 → Series (length s₀) (length rep₀) t₀ Spent t
+  running_spent z = record { calls = v.calls; are = spent v.fed (omega (arith, v.counted)); made = v.made }
 
   module _ (r : Next) (t' w' s' rep' : List ℕ) (u : Turned held t w s rep r t' w' s' rep') where
     abbrev call : Call
-    call = record { work = w; commands = take held s; report = rep; result = returnOf u.result; workAfter = w'; reportAfter = rep' }
+    call = record { work = w; commands = take held s; report = rep; result = return_of u.result; work_after = w'; report_after = rep' }
 
     takes : Takes (length rep₀) (take held s) call
     takes = record { commands = refl; work = v.buffers.work; report = v.report }
 
-    calls-made : Made t₀ (v.calls ++ (call ∷ [])) t'
-    calls-made = made_more t₀ v.calls t call t' v.made u.made
+    calls_made : Made t₀ (v.calls ++ (call ∷ [])) t'
+    calls_made = made_more t₀ v.calls t call t' v.made u.made
 
-    pub running-next : (n : ℕ) → r ≡ More n → 0 < turns → length w' ≡ length w → length rep' ≡ length rep
+    pub running_next : (n : ℕ) → r ≡ More n → 0 < turns → length w' ≡ length w → length rep' ≡ length rep
         → Running s₀ rep₀ t₀ t' w' s' rep' n (turns - 1)
-    running-next n e l lw lr = go u.taken u.proceeds
+    running_next n e l lw lr = go u.taken u.proceeds
       where
-        go : (q : Bool) → Proceeds (length s) u.result.reason (rest_of (returnOf u.result) (take held s)) q r s' → Running s₀ rep₀ t₀ t' w' s' rep' n (turns - 1)
+        go : (q : Bool) → Proceeds (length s) u.result.reason (rest_of (return_of u.result) (take held s)) q r s' → Running s₀ rep₀ t₀ t' w' s' rep' n (turns - 1)
         go false g = absurd (let z : ◌≡◌ {A = ℕ} 0 1 = cc in omega arith)
         go true g =
-            let f = subst (λ (x : Next). Follows (length s) u.result.reason (rest_of (returnOf u.result) (take held s)) x s') e g in
+            let f = subst (λ (x : Next). Follows (length s) u.result.reason (rest_of (return_of u.result) (take held s)) x s') e g in
             record {
               calls = v.calls ++ (call ∷ []);
               fed = more {held' = take n s'} u.result.reason v.fed takes refl u.moves (rw (← v.input) f.1);
-              made = calls-made;
+              made = calls_made;
               counted = omega (arith, v.counted, length-append v.calls (call ∷ []));
-              sound = sound-after t w (take held s) rep u.result t' w' rep' v.sound v.buffers.work u.made;
+              sound = sound_after t w (take held s) rep u.result t' w' rep' v.sound v.buffers.work u.made;
               buffers = record {
                 work = lw ∙ v.buffers.work;
                 input = omega (arith, v.buffers.input, u.len);
@@ -104,18 +104,18 @@ module _ (s₀ rep₀ t₀ t w s rep : List ℕ) (held turns : ℕ) (v : Running
               inside = f.0;
             }
 
-    last : (x : Next) → ((n : ℕ) → x ≡ More n → ⊥) → Follows (length s) u.result.reason (rest_of (returnOf u.result) (take held s)) x s'
+    last : (x : Next) → ((n : ℕ) → x ≡ More n → ⊥) → Follows (length s) u.result.reason (rest_of (return_of u.result) (take held s)) x s'
         → Calls (length s₀) (length rep₀) (v.calls ++ (call ∷ [])) x
     last (More n) h f = absurd (h n refl)
-    last (End x) h f = ended {reason = x} v.fed takes (ap reasonNumber (sym f.0)) (rw f.0 f.1)
+    last (End x) h f = ended {reason = x} v.fed takes (ap reason_number (sym f.0)) (rw f.0 f.1)
     last Unread h f = unread u.result.reason v.fed takes refl f
     last Untaken h f = absurd f
     last Spent h f = absurd f
 
-    pub running-last : ((n : ℕ) → r ≡ More n → ⊥) → Series (length s₀) (length rep₀) t₀ r t'
-    running-last h = record { calls = v.calls ++ (call ∷ []); are = go u.taken u.output u.proceeds; made = calls-made }
+    pub running_last : ((n : ℕ) → r ≡ More n → ⊥) → Series (length s₀) (length rep₀) t₀ r t'
+    running_last h = record { calls = v.calls ++ (call ∷ []); are = go u.taken u.output u.proceeds; made = calls_made }
       where
-        go : (q : Bool) → TakenWhole q u.result.written → Proceeds (length s) u.result.reason (rest_of (returnOf u.result) (take held s)) q r s'
+        go : (q : Bool) → TakenWhole q u.result.written → Proceeds (length s) u.result.reason (rest_of (return_of u.result) (take held s)) q r s'
             → Calls (length s₀) (length rep₀) (v.calls ++ (call ∷ [])) r
         go true o f = last r h f
         go false o f = rw f (untaken v.fed takes o)

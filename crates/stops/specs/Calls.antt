@@ -3,15 +3,15 @@
 -- made: the bytes read are any, a read may be told to have failed, and what is written is each call's report.
 -- Assumes nothing.
 use Rattle.std.specs.Prelude.{◌≡◌, Bool, true, false, List, [], ◌∷◌, ◌++◌, ℕ, ◌≤◌, ◌<◌, length, take, drop}
-use Rattle.limits.specs.Limits.{maxSites, workBytes}
-use Rattle.records.specs.ListRecord.{listSize}
+use Rattle.limits.specs.Limits.{max_sites, work_bytes}
+use Rattle.records.specs.ListRecord.{list_size}
 use Rattle.book.specs.declared.Reason.{Reason}
 use Rattle.book.specs.declared.Reason.TheVariants.{AllUsed, WrongLength, Broken, UnknownCommand}
 use Rattle.book.specs.declared.Reason.TheVariants.{CutShort, NoRoom, BrokenStanding}
 use Rattle.book.specs.declared.BatchResult.{BatchResult}
-use Rattle.book.specs.Command.{commandTable, longestIn}
-use Rattle.book.specs.Numbers.{reasonNumber}
-use Rattle.demands.specs.Batch.{Return, returnOf, Batch}
+use Rattle.book.specs.Command.{command_table, longest_in}
+use Rattle.book.specs.Numbers.{reason_number}
+use Rattle.demands.specs.Batch.{Return, return_of, Batch}
 use Rattle.demands.specs.Whole.{Call, Made, Ran}
 use Rattle.stops.specs.declared.Batched.{Batched}
 use Rattle.stops.specs.declared.Next.{Next}
@@ -21,19 +21,19 @@ use Rattle.stops.specs.declared.Got.TheVariants.{Bytes, Ended, Failed}
 use Rattle.stops.specs.Input.{TakenWhole}
 
 -- the bytes of the longest command
-abbrev pub longestCommand : ℕ
-longestCommand = longestIn commandTable
+abbrev pub longest_command : ℕ
+longest_command = longest_in command_table
 
 -- the bytes of a list of all sites
-abbrev pub longestRecord : ℕ
-longestRecord = listSize maxSites
+abbrev pub longest_record : ℕ
+longest_record = list_size max_sites
 
 -- the buffers of a run: a work buffer of the right length, an input that holds the longest command, and a report that
 -- holds the longest record
 pub record Buffers (w s rep : List ℕ) : Type 0 where
-  pub work : length w ≡ workBytes
-  pub input : longestCommand ≤ length s
-  pub report : longestRecord ≤ length rep
+  pub work : length w ≡ work_bytes
+  pub input : longest_command ≤ length s
+  pub report : longest_record ≤ length rep
 
 -- "A cut command is joined with what follows": the bytes left by the call before, and at least one that was read
 pub record JoinedInput (size : ℕ) (rest held : List ℕ) : Type 0 where
@@ -85,10 +85,10 @@ Final NoRoom = ⊥
 Final BrokenStanding = ⊥
 
 -- what follows a read after a call that ended with this reason
-abbrev pub afterRead : Got → Reason → Next
-afterRead (Bytes n) reason = More n
-afterRead Ended reason = End reason
-afterRead Failed reason = Unread
+abbrev pub after_read : Got → Reason → Next
+after_read (Bytes n) reason = More n
+after_read Ended reason = End reason
+after_read Failed reason = Unread
 
 -- what follows a call with this reason that left these bytes and whose report was taken, where the input buffer is
 -- s' then
@@ -115,41 +115,41 @@ rest_of r commands = drop r.used commands
 -- a batch over the first `held` bytes of the input buffer s, which keeps those that the batch left
 pub record Reported (held : ℕ) (t w s rep : List ℕ) (r : Batched) (t' w' s' rep' : List ℕ) : Type 0 where
   pub result : BatchResult
-  pub made : Batch t w (take held s) rep (returnOf result) t' w' rep'
+  pub made : Batch t w (take held s) rep (return_of result) t' w' rep'
   pub reason : r.reason ≡ result.reason
   pub inside : r.left ≤ length s'
   pub ready : Resumable (length s') r.reason r.left
-  pub rest : take r.left s' ≡ rest_of (returnOf result) (take held s)
-  pub moves : Moves (returnOf result)
+  pub rest : take r.left s' ≡ rest_of (return_of result) (take held s)
+  pub moves : Moves (return_of result)
   pub output : TakenWhole r.taken result.written
   pub len : length s' ≡ length s
 
 -- the same, and what follows
 pub record Turned (held : ℕ) (t w s rep : List ℕ) (r : Next) (t' w' s' rep' : List ℕ) : Type 0 where
   pub result : BatchResult
-  pub made : Batch t w (take held s) rep (returnOf result) t' w' rep'
+  pub made : Batch t w (take held s) rep (return_of result) t' w' rep'
   pub taken : Bool
   pub output : TakenWhole taken result.written
-  pub proceeds : Proceeds (length s) result.reason (rest_of (returnOf result) (take held s)) taken r s'
-  pub moves : Moves (returnOf result)
+  pub proceeds : Proceeds (length s) result.reason (rest_of (return_of result) (take held s)) taken r s'
+  pub moves : Moves (return_of result)
   pub len : length s' ≡ length s
 
 -- the call takes the held bytes, with buffers of these lengths
 pub record Takes (room : ℕ) (held : List ℕ) (c : Call) : Type 0 where
   pub commands : c.commands ≡ held
-  pub work : length c.work ≡ workBytes
+  pub work : length c.work ≡ work_bytes
   pub report : length c.report ≡ room
 
 -- each call takes what the one before left and what was read behind that; so many bytes are held then
 pub data Fed (size room : ℕ) : List Call → List ℕ → Type 0 where
   start : Fed size room [] []
   more : {cs : List Call} {held held' : List ℕ} {c : Call} (reason : Reason)
-      → Fed size room cs held → Takes room held c → c.result.reason ≡ reasonNumber reason → Moves c.result
+      → Fed size room cs held → Takes room held c → c.result.reason ≡ reason_number reason → Moves c.result
       → Onward size reason (rest_of c.result c.commands) held' → Fed size room (cs ++ (c ∷ [])) held'
 
 -- how many turns the program has: 2^64 - 1, more than any run takes
-abbrev pub mostCalls : ℕ
-mostCalls = 18446744073709551615
+abbrev pub most_calls : ℕ
+most_calls = 18446744073709551615
 
 -- THE PROGRAM'S CALLS, with an input buffer of `size` bytes and a report buffer of `room`: "It stops at the end of
 -- the input or after 66", with the reason of the last call. Or it breaks off: behind a call after which it reads,
@@ -157,15 +157,15 @@ mostCalls = 18446744073709551615
 -- of turns is spent.
 pub data Calls (size room : ℕ) : List Call → Next → Type 0 where
   ended : {cs : List Call} {held : List ℕ} {c : Call} {reason : Reason}
-      → Fed size room cs held → Takes room held c → c.result.reason ≡ reasonNumber reason → Final reason
+      → Fed size room cs held → Takes room held c → c.result.reason ≡ reason_number reason → Final reason
       → Calls size room (cs ++ (c ∷ [])) (End reason)
   unread : {cs : List Call} {held : List ℕ} {c : Call} (reason : Reason)
-      → Fed size room cs held → Takes room held c → c.result.reason ≡ reasonNumber reason → WantsMore reason
+      → Fed size room cs held → Takes room held c → c.result.reason ≡ reason_number reason → WantsMore reason
       → Calls size room (cs ++ (c ∷ [])) Unread
   untaken : {cs : List Call} {held : List ℕ} {c : Call}
       → Fed size room cs held → Takes room held c → 0 < c.result.written
       → Calls size room (cs ++ (c ∷ [])) Untaken
-  spent : {cs : List Call} {held : List ℕ} → Fed size room cs held → length cs ≡ mostCalls → Calls size room cs Spent
+  spent : {cs : List Call} {held : List ℕ} → Fed size room cs held → length cs ≡ most_calls → Calls size room cs Spent
 
 -- a run of them on the table t, which leaves t'
 pub record Series (size room : ℕ) (t : List ℕ) (r : Next) (t' : List ℕ) : Type 0 where
@@ -174,7 +174,7 @@ pub record Series (size room : ℕ) (t : List ℕ) (r : Next) (t' : List ℕ) : 
   pub made : Made t calls t'
 
 -- THE PROGRAM, on a table that it lays out itself and leaves as t'. What the book says of such calls, they say
--- (`ran-answers`).
+-- (`ran_answers`).
 pub record Program (size room : ℕ) (r : Next) (t' : List ℕ) : Type 0 where
   pub calls : List Call
   pub are : Calls size room calls r

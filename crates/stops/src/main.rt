@@ -4,10 +4,10 @@ mod arguments;
 mod streams;
 
 ghost use Rattle.std.specs.Prelude.{◌≡◌, ◌≤◌, ◌<◌, length, take};
-ghost use Rattle.limits.specs.Limits.{tableBytes};
+ghost use Rattle.limits.specs.Limits.{table_bytes};
 ghost use Rattle.table_rules.specs.Table.{Sound};
 ghost use Rattle.stops.specs.Input.{KeptInput, ReadOn};
-ghost use Rattle.stops.specs.Calls.{Buffers, WantsMore, Resumable, Follows, afterRead};
+ghost use Rattle.stops.specs.Calls.{Buffers, WantsMore, Resumable, Follows, after_read};
 ghost use Rattle.stops.specs.Calls.{Proceeds, Reported, Turned, Series, Program};
 
 use book::Reason;
@@ -99,7 +99,7 @@ fn serve(
 
 // At the end of the input the reason of the last batch is the program's.
 fn after_read(got: Got, reason: Reason) -> Next
-    ensures { result ≡ afterRead got reason }
+    ensures { result ≡ after_read got reason }
 {
     match got {
         Got::Bytes(held) => Next::More(held),
@@ -181,7 +181,7 @@ fn run(table: &mut [u8], work: &mut [u8], input: &mut [u8], report: &mut [u8]) -
 
 // The program on its buffers.
 fn serve_all(table: &mut [u8], work: &mut [u8], input: &mut [u8], report: &mut [u8]) -> Next
-    requires { (length table.old ≡ tableBytes) × Buffers work.old input.old report.old }
+    requires { (length table.old ≡ table_bytes) × Buffers work.old input.old report.old }
     ensures { Program (length input.old) (length report.old) result table.new }
 {
     service::lay_out(table);

@@ -9,64 +9,64 @@ use native.Mathlib.Omega.{arith}
 use lib.ListN.{length}
 use lib.Dec.{eqb}
 use borrow.Author.Tests.{eq-eqb, ne_eqb, eqb-true}
-use Rattle.limits.specs.Limits.{tableBytes, workBytes}
+use Rattle.limits.specs.Limits.{table_bytes, work_bytes}
 use Rattle.grid.specs.Says.{Says}
-use Rattle.grid.proofs.Says.{says-yes, says-no}
-use Rattle.list_row.specs.Vertices.{rowBytes}
+use Rattle.grid.proofs.Says.{says_yes, says_no}
+use Rattle.list_row.specs.Vertices.{row_bytes}
 use Rattle.book.specs.declared.Reason.TheVariants.{WrongLength, Broken, BrokenStanding}
-use Rattle.tree_check.specs.Marks.{seenBytes}
+use Rattle.tree_check.specs.Marks.{seen_bytes}
 use Rattle.table_empty.specs.EmptyTable.{zeros}
 use Rattle.table_rules.specs.Table.{Whole, StandingOk}
-use Rattle.demands.specs.Batch.{lengthsOk}
+use Rattle.demands.specs.Batch.{lengths_ok}
 use Rattle.table_admit.specs.declared.Admission.{Admission}
 use Rattle.table_admit.specs.Admitted.{AdmittedAs}
 
 module _ (t w : List ℕ) where
   -- ---- lengths
 
-  pub wrong-table : length t ≢ tableBytes → false ≡ lengthsOk t w
-  wrong-table n = rw (ne_eqb (length t) tableBytes n) refl
+  pub wrong_table : length t ≢ table_bytes → false ≡ lengths_ok t w
+  wrong_table n = rw (ne_eqb (length t) table_bytes n) refl
 
-  pub by-work : length t ≡ tableBytes → eqb (length w) workBytes ≡ lengthsOk t w
-  by-work e = rw (eq-eqb (length t) tableBytes e) refl
+  pub by_work : length t ≡ table_bytes → eqb (length w) work_bytes ≡ lengths_ok t w
+  by_work e = rw (eq-eqb (length t) table_bytes e) refl
 
-  pub wrong-lengths : (p : Bool) → p ≡ lengthsOk t w → p ≡ false → AdmittedAs (Admission.Refused WrongLength) t w w
-  wrong-lengths p h e = (sym h ∙ e, refl)
+  pub wrong_lengths : (p : Bool) → p ≡ lengths_ok t w → p ≡ false → AdmittedAs (Admission.Refused WrongLength) t w w
+  wrong_lengths p h e = (sym h ∙ e, refl)
 
-  module _ (p : Bool) (h : p ≡ lengthsOk t w) (right : p ≡ true) where
-    ok : lengthsOk t w ≡ true
+  module _ (p : Bool) (h : p ≡ lengths_ok t w) (right : p ≡ true) where
+    ok : lengths_ok t w ≡ true
     ok = sym h ∙ right
 
-    both : (d : Bool) → d && eqb (length w) workBytes ≡ true → (d ≡ true) × (eqb (length w) workBytes ≡ true)
+    both : (d : Bool) → d && eqb (length w) work_bytes ≡ true → (d ≡ true) × (eqb (length w) work_bytes ≡ true)
     both true e = (refl, e)
     both false e = absurd (true≢false (sym e))
 
-    pub right-table : length t ≡ tableBytes
-    right-table = eqb-true (length t) tableBytes (both (eqb (length t) tableBytes) ok).0
+    pub right_table : length t ≡ table_bytes
+    right_table = eqb-true (length t) table_bytes (both (eqb (length t) table_bytes) ok).0
 
-    right-work : length w ≡ workBytes
-    right-work = eqb-true (length w) workBytes (both (eqb (length t) tableBytes) ok).1
+    right_work : length w ≡ work_bytes
+    right_work = eqb-true (length w) work_bytes (both (eqb (length t) table_bytes) ok).1
 
     -- what the tests use is inside the work buffer: the marks and hints of the tree's, and the row of the standing list's
     module _ (w₁ : List ℕ) (kept : length w₁ ≡ length w) where
-      pub marks-fit : seenBytes ≤ length w₁
-      marks-fit = omega (arith, right-work, kept)
+      pub marks_fit : seen_bytes ≤ length w₁
+      marks_fit = omega (arith, right_work, kept)
 
-      pub row_fits : rowBytes ≤ length w₁
-      row_fits = omega (arith, right-work, kept)
+      pub row_fits : row_bytes ≤ length w₁
+      row_fits = omega (arith, right_work, kept)
 
     -- ---- contents
 
     module _ (q : Bool) (s : Says q (Whole t)) (w₁ : List ℕ) (kept : length w₁ ≡ length w) where
-      pub broken-table : (w' : List ℕ) → w' ≡ zeros (length w₁) → q ≡ false → AdmittedAs (Admission.Refused Broken) t w w'
-      broken-table w' z e = (ok, says-no q s e, z ∙ ap zeros (kept ∙ right-work))
+      pub broken_table : (w' : List ℕ) → w' ≡ zeros (length w₁) → q ≡ false → AdmittedAs (Admission.Refused Broken) t w w'
+      broken_table w' z e = (ok, says_no q s e, z ∙ ap zeros (kept ∙ right_work))
 
       pub is_whole : q ≡ true → Whole t
-      is_whole e = says-yes q s e
+      is_whole e = says_yes q s e
 
       module _ (whole : q ≡ true) (v : Bool) (l : Says v (StandingOk t)) (w₂ : List ℕ) (kept₂ : length w₂ ≡ length w₁) where
         pub table_taken : v ≡ true → AdmittedAs Admission.Taken t w w₂
-        table_taken e = (ok, record { whole = says-yes q s whole; standing = says-yes v l e }, kept₂ ∙ kept ∙ right-work)
+        table_taken e = (ok, record { whole = says_yes q s whole; standing = says_yes v l e }, kept₂ ∙ kept ∙ right_work)
 
-        pub broken-standing : (w' : List ℕ) → w' ≡ zeros (length w₂) → v ≡ false → AdmittedAs (Admission.Refused BrokenStanding) t w w'
-        broken-standing w' z e = (ok, says-yes q s whole, says-no v l e, z ∙ ap zeros (kept₂ ∙ kept ∙ right-work))
+        pub broken_standing : (w' : List ℕ) → w' ≡ zeros (length w₂) → v ≡ false → AdmittedAs (Admission.Refused BrokenStanding) t w w'
+        broken_standing w' z e = (ok, says_yes q s whole, says_no v l e, z ∙ ap zeros (kept₂ ∙ kept ∙ right_work))

@@ -1,7 +1,7 @@
 // The one door for a lent table: lengths, then contents. Document 01, "The table's length is tested first, then the
 // work buffer's, then the table's contents"; document 02, C-17: 69 is "tested directly after 65".
 ghost use Rattle.std.specs.Prelude.{◌≡◌};
-ghost use Rattle.demands.specs.Batch.{lengthsOk};
+ghost use Rattle.demands.specs.Batch.{lengths_ok};
 ghost use Rattle.table_admit.specs.Admitted.{AdmittedAs};
 
 use book::Reason;
@@ -15,7 +15,7 @@ pub enum Admission {
 
 // Whether the table and the work buffer have the lengths that are asked for.
 fn lengths_ok(table: &[u8], work: &[u8]) -> bool
-    ensures { result ≡ lengthsOk table.now work.now }
+    ensures { result ≡ lengths_ok table.now work.now }
 {
     if table.len() != limits::TABLE_BYTES {
         return false;

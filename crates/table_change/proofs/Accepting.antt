@@ -9,38 +9,38 @@ use native.Mathlib.Omega.{arith}
 use lib.ListN.{length}
 use lib.Dec.{eqb}
 use borrow.Author.Tests.{ne_eqb}
-use Rattle.limits.specs.Limits.{maxSites}
+use Rattle.limits.specs.Limits.{max_sites}
 use Rattle.words.specs.Words.{Only}
-use Rattle.words.proofs.Frame.{word_low, word-high}
+use Rattle.words.proofs.Frame.{word_low, word_high}
 use Rattle.grid.specs.declared.Position.{Position}
 use Rattle.grid.specs.declared.Site.{Site}
 use Rattle.grid.specs.declared.Leg.{Leg}
 use Rattle.grid.specs.Position.{OnGrid, LegOnGrid}
-use Rattle.split.specs.SplitOf.{splitOf}
-use Rattle.split.proofs.Exists.{split-is}
+use Rattle.split.specs.SplitOf.{split_of}
+use Rattle.split.proofs.Exists.{split_is}
 use Rattle.readings.specs.declared.Location.TheVariants.{InSteps}
 use Rattle.book.specs.declared.Command.TheVariants.{Add, Remove, Move, Stand, Begin, Corner, Close, Open}
-use Rattle.book.specs.Tour.{Tour, tourLeg, cornered, goesOn}
-use Rattle.book.specs.Book.{withLines, withTour, isClosed, closeNumber, openNumber, open_in, sites_of, writeLine, strikeLine, move_line, holds, list_of, change}
+use Rattle.book.specs.Tour.{Tour, tour_leg, cornered, goes_on}
+use Rattle.book.specs.Book.{with_lines, with_tour, is_closed, close_number, open_number, open_in, sites_of, write_line, strike_line, move_line, holds, list_of, change}
 use Rattle.book.specs.Proper.{LegOk, LastHeld, TourOk}
-use Rattle.book.proofs.Lines.{strike-none, holds-strike, holds-member, absent-holds, holds-absent}
-use Rattle.book.proofs.Marks.{SameBut, others-open, open-member, opened-other, closed-other, reopen-none}
-use Rattle.book.proofs.Struck.{strike-written, strike-moved}
+use Rattle.book.proofs.Lines.{strike_none, holds_strike, holds_member, absent_holds, holds_absent}
+use Rattle.book.proofs.Marks.{SameBut, others_open, open_member, opened_other, closed_other, reopen_none}
+use Rattle.book.proofs.Struck.{strike_written, strike_moved}
 use Rattle.book.proofs.Answers.{close-does, open-does}
-use Rattle.book.proofs.ProperBooks.{proper-numbered, proper-numbers}
-use Rattle.book.proofs.Lists.{last-held}
-use Rattle.table_header.specs.Layout.{layoutStart, flagStart, legStart, lengthStart, tourStart, cornerStart, tourEnd}
-use Rattle.table_header.specs.Header.{legIn, lengthIn, siteNumber, tourAt, tourIn, ZeroFrom, LegStored, TourStored}
-use Rattle.table_sites.specs.Lines.{linesIn, markAt, closed_in, StandsAt, StandsNowhere}
-use Rattle.table_sites.proofs.Reading.{lines-length}
-use Rattle.table_sites.proofs.Finding.{absent-held}
-use Rattle.table_sites.proofs.Kept.{closed-ok, mark-open, mark-shut}
-use Rattle.table_standing.specs.Standing.{standingIn, numbersOf}
-use Rattle.tree_node.specs.Layout.{treeStart}
-use Rattle.table_rules.specs.Table.{bookOf, Whole, StandingOk, Sound}
+use Rattle.book.proofs.ProperBooks.{proper_numbered, proper_numbers}
+use Rattle.book.proofs.Lists.{last_held}
+use Rattle.table_header.specs.Layout.{layout_start, flag_start, leg_start, length_start, tour_start, corner_start, tour_end}
+use Rattle.table_header.specs.Header.{leg_in, length_in, site_number, tour_at, tour_in, ZeroFrom, LegStored, TourStored}
+use Rattle.table_sites.specs.Lines.{lines_in, mark_at, closed_in, StandsAt, StandsNowhere}
+use Rattle.table_sites.proofs.Reading.{lines_length}
+use Rattle.table_sites.proofs.Finding.{absent_held}
+use Rattle.table_sites.proofs.Kept.{closed_ok, mark_open, mark_shut}
+use Rattle.table_standing.specs.Standing.{standing_in, numbers_of}
+use Rattle.tree_node.specs.Layout.{tree_start}
+use Rattle.table_rules.specs.Table.{book_of, Whole, StandingOk, Sound}
 use Rattle.table_rules.specs.Following.{Follows}
-use Rattle.table_rules.proofs.Books.{sound-few, sound-proper}
-use Rattle.table_rules.proofs.Same.{lines_same, closed_same, mark-same, sites-same, leg-same, tour-same, list_same, flag_same, tied_below}
+use Rattle.table_rules.proofs.Books.{sound_few, sound_proper}
+use Rattle.table_rules.proofs.Same.{lines_same, closed_same, mark_same, sites_same, leg_same, tour_same, list_same, flag_same, tied_below}
 use Rattle.demands.specs.Step.{Holds, repeats, Left}
 use Rattle.table_patch.specs.Patching.{Patchable}
 use Rattle.table_patch.proofs.Patching.{patchable}
@@ -50,286 +50,286 @@ use Rattle.table_change.proofs.Indices.{written_at, moved_at}
 -- ---- the tour ends, or goes on: the lines, the standing leg and the stored list are as they were
 
 module _ (b b₀ : List ℕ) (o : Option Tour) (w : Whole b) (st : TourStored o b b₀) where
-  lines_left : linesIn b₀ ≡ linesIn b
+  lines_left : lines_in b₀ ≡ lines_in b
   lines_left = lines_same b b₀ (λ i x h. st.only.low i (omega arith)) (λ i x h. st.only.high i (omega arith)) w.sites.few
 
-  leg-left : legIn b₀ ≡ legIn b
-  leg-left = leg-same b b₀ (λ i x h. st.only.low i (omega arith))
+  leg_left : leg_in b₀ ≡ leg_in b
+  leg_left = leg_same b b₀ (λ i x h. st.only.low i (omega arith))
 
-  list_left : lengthIn b ≤ maxSites → standingIn b₀ ≡ standingIn b
+  list_left : length_in b ≤ max_sites → standing_in b₀ ≡ standing_in b
   list_left few = list_same b b₀ (λ i x h. st.only.low i (omega arith)) (λ i x h. st.only.high i (omega arith)) few
 
-  closed-left : closed_in b₀ ≡ closed_in b
-  closed-left = closed_same b b₀ (λ i x h. st.only.low i (omega arith)) (λ i x h. st.only.high i (omega arith)) w.sites.few
+  closed_left : closed_in b₀ ≡ closed_in b
+  closed_left = closed_same b b₀ (λ i x h. st.only.low i (omega arith)) (λ i x h. st.only.high i (omega arith)) w.sites.few
 
-  sites-left : sites_of (bookOf b₀) ≡ sites_of (bookOf b)
-  sites-left = λ i. open_in (closed-left i) (lines_left i)
+  sites_left : sites_of (book_of b₀) ≡ sites_of (book_of b)
+  sites_left = λ i. open_in (closed_left i) (lines_left i)
 
   -- THE TABLE with another tour or none
-  toured-whole : TourOk o (sites_of (bookOf b)) → Whole b₀
+  toured_whole : TourOk o (sites_of (book_of b)) → Whole b₀
   unfolding ZeroFrom
-  toured-whole fits =
+  toured_whole fits =
       record {
         len = st.only.len ∙ w.len;
-        sites = sites-same b b₀ (λ i x h. st.only.low i (omega arith)) (λ i x h. st.only.high i (omega arith)) w.sites;
+        sites = sites_same b b₀ (λ i x h. st.only.low i (omega arith)) (λ i x h. st.only.high i (omega arith)) w.sites;
         header = record {
-          layout = word_low st.only layoutStart (omega arith) ∙ w.header.layout;
-          leg = flag_same b b₀ flagStart legStart lengthStart (λ i x h. st.only.low i (omega arith)) (omega arith) (omega arith) w.header.leg;
+          layout = word_low st.only layout_start (omega arith) ∙ w.header.layout;
+          leg = flag_same b b₀ flag_start leg_start length_start (λ i x h. st.only.low i (omega arith)) (omega arith) (omega arith) w.header.leg;
           tour = st.layout;
           kept = λ i x h. st.only.high i (omega arith) ∙ w.header.kept i x h;
         };
-        tour = rw (st.tour, lines_left, closed-left) fits;
-        tree = tied_below b b₀ (record { len = st.only.len; low = st.only.low; high = λ i h. st.only.high i (omega arith) }) lines_left closed-left w.tree;
+        tour = rw (st.tour, lines_left, closed_left) fits;
+        tree = tied_below b b₀ (record { len = st.only.len; low = st.only.low; high = λ i h. st.only.high i (omega arith) }) lines_left closed_left w.tree;
       }
 
-  toured-book : bookOf b₀ ≡ withTour o (bookOf b)
-  toured-book = λ i. record { lines = lines_left i; closed = closed-left i; leg = leg-left i; tour = st.tour i }
+  toured_book : book_of b₀ ≡ with_tour o (book_of b)
+  toured_book = λ i. record { lines = lines_left i; closed = closed_left i; leg = leg_left i; tour = st.tour i }
 
   -- and sound, if it was
-  toured-holds : StandingOk b → TourOk o (sites_of (bookOf b)) → Holds b₀ (withTour o (bookOf b))
-  toured-holds s fits =
+  toured_holds : StandingOk b → TourOk o (sites_of (book_of b)) → Holds b₀ (with_tour o (book_of b))
+  toured_holds s fits =
       record {
         sound = record {
-          whole = toured-whole fits;
+          whole = toured_whole fits;
           standing = record {
-            leg = subst LegOk (sym leg-left) s.leg;
-            list = list_left (sound-few b (record { whole = w; standing = s })) ∙ s.list ∙ sym (λ i. numbersOf (list_of (leg-left i) (sites-left i)));
+            leg = subst LegOk (sym leg_left) s.leg;
+            list = list_left (sound_few b (record { whole = w; standing = s })) ∙ s.list ∙ sym (λ i. numbers_of (list_of (leg_left i) (sites_left i)));
           };
         };
-        book = toured-book;
+        book = toured_book;
       }
 
 -- ---- the tour ends
 
 module _ (b b₀ : List ℕ) (s : Sound b) (st : TourStored none b b₀) where
-  pub ended-whole : Whole b₀
-  ended-whole = toured-whole b b₀ none s.whole st tt
+  pub ended_whole : Whole b₀
+  ended_whole = toured_whole b b₀ none s.whole st tt
 
-  pub ended-idle : tourIn b₀ ≡ none
-  ended-idle = st.tour
+  pub ended_idle : tour_in b₀ ≡ none
+  ended_idle = st.tour
 
-  pub ended-nowhere : (k n : ℕ) → StandsNowhere k n (linesIn b) → StandsNowhere k n (linesIn b₀)
-  ended-nowhere k n h = subst⁻¹ (StandsNowhere k n) (lines_left b b₀ none s.whole st) h
+  pub ended_nowhere : (k n : ℕ) → StandsNowhere k n (lines_in b) → StandsNowhere k n (lines_in b₀)
+  ended_nowhere k n h = subst⁻¹ (StandsNowhere k n) (lines_left b b₀ none s.whole st) h
 
-  pub ended_at : (k n : ℕ) → StandsAt k n (linesIn b) → StandsAt k n (linesIn b₀)
+  pub ended_at : (k n : ℕ) → StandsAt k n (lines_in b) → StandsAt k n (lines_in b₀)
   ended_at k n h = subst⁻¹ (StandsAt k n) (lines_left b b₀ none s.whole st) h
 
-  pub ended-room : length (linesIn b) < maxSites → length (linesIn b₀) < maxSites
-  ended-room h = omega (arith, h, ap length (lines_left b b₀ none s.whole st))
+  pub ended_room : length (lines_in b) < max_sites → length (lines_in b₀) < max_sites
+  ended_room h = omega (arith, h, ap length (lines_left b b₀ none s.whole st))
 
-  pub ended-mark : (k n m : ℕ) → StandsAt k n (linesIn b) → (m ≡ 1 → markAt b k ≡ 0) → m ≡ 1 → markAt b₀ k ≡ 0
-  ended-mark k n m h z o = mark-same b b₀ (λ i x h. st.only.low i (omega arith)) (λ i x h. st.only.high i (omega arith)) k (omega (arith, h.line, lines-length b, s.whole.sites.few)) ∙ z o
+  pub ended_mark : (k n m : ℕ) → StandsAt k n (lines_in b) → (m ≡ 1 → mark_at b k ≡ 0) → m ≡ 1 → mark_at b₀ k ≡ 0
+  ended_mark k n m h z o = mark_same b b₀ (λ i x h. st.only.low i (omega arith)) (λ i x h. st.only.high i (omega arith)) k (omega (arith, h.line, lines_length b, s.whole.sites.few)) ∙ z o
 
   -- what is relined then is relined
-  ended-relined : (f : List Site → List Site) (g : List ℕ → List ℕ) (b₁ : List ℕ) → Relined (f (linesIn b₀)) (g (closed_in b₀)) b₀ b₁ → Relined (f (linesIn b)) (g (closed_in b)) b b₁
-  ended-relined f g b₁ r =
+  ended_relined : (f : List Site → List Site) (g : List ℕ → List ℕ) (b₁ : List ℕ) → Relined (f (lines_in b₀)) (g (closed_in b₀)) b₀ b₁ → Relined (f (lines_in b)) (g (closed_in b)) b b₁
+  ended_relined f g b₁ r =
       record {
         whole = r.whole;
         lines = r.lines ∙ ap f (lines_left b b₀ none s.whole st);
-        closed = r.closed ∙ ap g (closed-left b b₀ none s.whole st);
-        leg = r.leg ∙ leg-left b b₀ none s.whole st;
+        closed = r.closed ∙ ap g (closed_left b b₀ none s.whole st);
+        leg = r.leg ∙ leg_left b b₀ none s.whole st;
         tour = r.tour;
-        list = λ few. r.list (omega (arith, few, word_low st.only lengthStart (omega arith))) ∙ list_left b b₀ none s.whole st few;
+        list = λ few. r.list (omega (arith, few, word_low st.only length_start (omega arith))) ∙ list_left b b₀ none s.whole st few;
       }
 
 -- after a line or its mark has changed, the list may be patched, and then the table holds the changed book
 module _ (b b₁ : List ℕ) (l : List Site) (c : List ℕ) (s : Sound b) (r : Relined l c b b₁) where
-  relined-patch : (n : ℕ) → SameBut n c (closed_in b) → strikeLine n l ≡ strikeLine n (linesIn b) → Patchable n b₁
-  relined-patch n k e =
+  relined_patch : (n : ℕ) → SameBut n c (closed_in b) → strike_line n l ≡ strike_line n (lines_in b) → Patchable n b₁
+  relined_patch n k e =
       patchable b b₁ n s r.whole r.leg r.list
-      (ap (strikeLine n) (λ i. open_in (r.closed i) (r.lines i)) ∙ others-open n c (closed_in b) l (linesIn b) k e)
+      (ap (strike_line n) (λ i. open_in (r.closed i) (r.lines i)) ∙ others_open n c (closed_in b) l (lines_in b) k e)
 
-  relined-book : bookOf b₁ ≡ withLines l c (bookOf b)
-  relined-book = λ i. record { lines = r.lines i; closed = r.closed i; leg = r.leg i; tour = r.tour i }
+  relined_book : book_of b₁ ≡ with_lines l c (book_of b)
+  relined_book = λ i. record { lines = r.lines i; closed = r.closed i; leg = r.leg i; tour = r.tour i }
 
-  pub relined-holds : (b₂ : List ℕ) → Holds b₂ (bookOf b₁) → Holds b₂ (withLines l c (bookOf b))
-  relined-holds b₂ h = subst (Holds b₂) relined-book h
+  pub relined_holds : (b₂ : List ℕ) → Holds b₂ (book_of b₁) → Holds b₂ (with_lines l c (book_of b))
+  relined_holds b₂ h = subst (Holds b₂) relined_book h
 
-module _ (b b₀ b₁ : List ℕ) (p : Site) (s : Sound b) (st : TourStored none b b₀) (r₀ : Relined (writeLine p (linesIn b₀)) (closed_in b₀) b₀ b₁) where
-  added : Relined (writeLine p (linesIn b)) (closed_in b) b b₁
-  added = ended-relined b b₀ s st (writeLine p) (λ c. c) b₁ r₀
+module _ (b b₀ b₁ : List ℕ) (p : Site) (s : Sound b) (st : TourStored none b b₀) (r₀ : Relined (write_line p (lines_in b₀)) (closed_in b₀) b₀ b₁) where
+  added : Relined (write_line p (lines_in b)) (closed_in b) b b₁
+  added = ended_relined b b₀ s st (write_line p) (λ c. c) b₁ r₀
 
-  pub add-patch : Patchable p.number b₁
-  add-patch = relined-patch b b₁ (writeLine p (linesIn b)) (closed_in b) s added p.number (λ m h. refl) (strike-written p (linesIn b))
+  pub add_patch : Patchable p.number b₁
+  add_patch = relined_patch b b₁ (write_line p (lines_in b)) (closed_in b) s added p.number (λ m h. refl) (strike_written p (lines_in b))
 
-  pub add-stands : (k : ℕ) → StandsNowhere k p.number (linesIn b) → StandsAt k p.number (linesIn b₁)
-  add-stands k h = subst (StandsAt k p.number) (sym added.lines) (written_at k p (linesIn b) h)
+  pub add_stands : (k : ℕ) → StandsNowhere k p.number (lines_in b) → StandsAt k p.number (lines_in b₁)
+  add_stands k h = subst (StandsAt k p.number) (sym added.lines) (written_at k p (lines_in b) h)
 
   -- a new number was not closed
-  unclosed : (k : ℕ) → StandsNowhere k p.number (linesIn b) → openNumber p.number (closed_in b) ≡ closed_in b
-  unclosed k h = reopen-none p.number (closed_in b) (go (isClosed p.number (closed_in b)) refl)
+  unclosed : (k : ℕ) → StandsNowhere k p.number (lines_in b) → open_number p.number (closed_in b) ≡ closed_in b
+  unclosed k h = reopen_none p.number (closed_in b) (go (is_closed p.number (closed_in b)) refl)
     where
-      go : (t : Bool) → isClosed p.number (closed_in b) ≡ t → t ≡ false
-      go true e = absurd (true≢false (sym ((closed-ok b s.whole.sites.rising).held p.number e) ∙ absent-held h))
+      go : (t : Bool) → is_closed p.number (closed_in b) ≡ t → t ≡ false
+      go true e = absurd (true≢false (sym ((closed_ok b s.whole.sites.rising).held p.number e) ∙ absent_held h))
       go false e = refl
 
   -- ADDED
-  pub add_done : (k : ℕ) → StandsNowhere k p.number (linesIn b) → (b₂ : List ℕ) → Holds b₂ (bookOf b₁)
-      → Holds b₂ (change (Add p.number (InSteps p.position)) (bookOf b))
+  pub add_done : (k : ℕ) → StandsNowhere k p.number (lines_in b) → (b₂ : List ℕ) → Holds b₂ (book_of b₁)
+      → Holds b₂ (change (Add p.number (InSteps p.position)) (book_of b))
   unfolding change
   add_done k h b₂ d =
-      subst⁻¹ (λ (c : List ℕ). Holds b₂ (withLines (writeLine p (linesIn b)) c (bookOf b))) (unclosed k h)
-      (relined-holds b b₁ (writeLine p (linesIn b)) (closed_in b) s added b₂ d)
+      subst⁻¹ (λ (c : List ℕ). Holds b₂ (with_lines (write_line p (lines_in b)) c (book_of b))) (unclosed k h)
+      (relined_holds b b₁ (write_line p (lines_in b)) (closed_in b) s added b₂ d)
 
-module _ (b b₀ b₁ : List ℕ) (n : ℕ) (s : Sound b) (st : TourStored none b b₀) (r₀ : Relined (strikeLine n (linesIn b₀)) (openNumber n (closed_in b₀)) b₀ b₁) where
-  struck : Relined (strikeLine n (linesIn b)) (openNumber n (closed_in b)) b b₁
-  struck = ended-relined b b₀ s st (strikeLine n) (openNumber n) b₁ r₀
+module _ (b b₀ b₁ : List ℕ) (n : ℕ) (s : Sound b) (st : TourStored none b b₀) (r₀ : Relined (strike_line n (lines_in b₀)) (open_number n (closed_in b₀)) b₀ b₁) where
+  struck : Relined (strike_line n (lines_in b)) (open_number n (closed_in b)) b b₁
+  struck = ended_relined b b₀ s st (strike_line n) (open_number n) b₁ r₀
 
-  pub remove-patch : Patchable n b₁
-  remove-patch =
-      relined-patch b b₁ (strikeLine n (linesIn b)) (openNumber n (closed_in b)) s struck n (λ m h. opened-other n m (closed_in b) h)
-      (strike-none n (strikeLine n (linesIn b)) (holds-strike n (linesIn b)))
+  pub remove_patch : Patchable n b₁
+  remove_patch =
+      relined_patch b b₁ (strike_line n (lines_in b)) (open_number n (closed_in b)) s struck n (λ m h. opened_other n m (closed_in b) h)
+      (strike_none n (strike_line n (lines_in b)) (holds_strike n (lines_in b)))
 
-  pub remove-gone : holds n (sites_of (bookOf b₁)) ≡ false
-  remove-gone =
-      absent-holds n (sites_of (bookOf b₁))
-      (λ p m. holds-absent n (linesIn b₁) (ap (holds n) struck.lines ∙ holds-strike n (linesIn b)) p (open-member (closed_in b₁) (linesIn b₁) p m))
+  pub remove_gone : holds n (sites_of (book_of b₁)) ≡ false
+  remove_gone =
+      absent_holds n (sites_of (book_of b₁))
+      (λ p m. holds_absent n (lines_in b₁) (ap (holds n) struck.lines ∙ holds_strike n (lines_in b)) p (open_member (closed_in b₁) (lines_in b₁) p m))
 
   -- REMOVED
-  pub remove-done : (b₂ : List ℕ) → Holds b₂ (bookOf b₁) → Holds b₂ (change (Remove n) (bookOf b))
+  pub remove_done : (b₂ : List ℕ) → Holds b₂ (book_of b₁) → Holds b₂ (change (Remove n) (book_of b))
   unfolding change
-  remove-done b₂ h = relined-holds b b₁ (strikeLine n (linesIn b)) (openNumber n (closed_in b)) s struck b₂ h
+  remove_done b₂ h = relined_holds b b₁ (strike_line n (lines_in b)) (open_number n (closed_in b)) s struck b₂ h
 
-module _ (b b₀ b₁ : List ℕ) (q : Site) (s : Sound b) (st : TourStored none b b₀) (r₀ : Relined (move_line q.number q.position (linesIn b₀)) (closed_in b₀) b₀ b₁) where
-  moved : Relined (move_line q.number q.position (linesIn b)) (closed_in b) b b₁
-  moved = ended-relined b b₀ s st (move_line q.number q.position) (λ c. c) b₁ r₀
+module _ (b b₀ b₁ : List ℕ) (q : Site) (s : Sound b) (st : TourStored none b b₀) (r₀ : Relined (move_line q.number q.position (lines_in b₀)) (closed_in b₀) b₀ b₁) where
+  moved : Relined (move_line q.number q.position (lines_in b)) (closed_in b) b b₁
+  moved = ended_relined b b₀ s st (move_line q.number q.position) (λ c. c) b₁ r₀
 
-  pub move-patch : Patchable q.number b₁
-  move-patch =
-      relined-patch b b₁ (move_line q.number q.position (linesIn b)) (closed_in b) s moved q.number (λ m h. refl)
-      (strike-moved q.number q.position (linesIn b))
+  pub move_patch : Patchable q.number b₁
+  move_patch =
+      relined_patch b b₁ (move_line q.number q.position (lines_in b)) (closed_in b) s moved q.number (λ m h. refl)
+      (strike_moved q.number q.position (lines_in b))
 
-  pub move-stands : (k : ℕ) → StandsAt k q.number (linesIn b) → StandsAt k q.number (linesIn b₁)
-  move-stands k h = subst (StandsAt k q.number) (sym moved.lines) (moved_at k q.number q.position (linesIn b) h)
+  pub move_stands : (k : ℕ) → StandsAt k q.number (lines_in b) → StandsAt k q.number (lines_in b₁)
+  move_stands k h = subst (StandsAt k q.number) (sym moved.lines) (moved_at k q.number q.position (lines_in b) h)
 
   -- MOVED
-  pub move-done : (b₂ : List ℕ) → Holds b₂ (bookOf b₁) → Holds b₂ (change (Move q.number (InSteps q.position)) (bookOf b))
+  pub move_done : (b₂ : List ℕ) → Holds b₂ (book_of b₁) → Holds b₂ (change (Move q.number (InSteps q.position)) (book_of b))
   unfolding change
-  move-done b₂ h = relined-holds b b₁ (move_line q.number q.position (linesIn b)) (closed_in b) s moved b₂ h
+  move_done b₂ h = relined_holds b b₁ (move_line q.number q.position (lines_in b)) (closed_in b) s moved b₂ h
 
 -- ---- another mark
 
-module _ (b b₀ b₁ : List ℕ) (n m : ℕ) (s : Sound b) (st : TourStored none b b₀) (r₀ : Relined (linesIn b₀) (remarked m n (closed_in b₀)) b₀ b₁) where
-  turned : Relined (linesIn b) (remarked m n (closed_in b)) b b₁
-  turned = ended-relined b b₀ s st (λ l. l) (remarked m n) b₁ r₀
+module _ (b b₀ b₁ : List ℕ) (n m : ℕ) (s : Sound b) (st : TourStored none b b₀) (r₀ : Relined (lines_in b₀) (remarked m n (closed_in b₀)) b₀ b₁) where
+  turned : Relined (lines_in b) (remarked m n (closed_in b)) b b₁
+  turned = ended_relined b b₀ s st (λ l. l) (remarked m n) b₁ r₀
 
-  pub turn-patch : Patchable n b₁
-  turn-patch = relined-patch b b₁ (linesIn b) (remarked m n (closed_in b)) s turned n (go (eqb m 0)) refl
+  pub turn_patch : Patchable n b₁
+  turn_patch = relined_patch b b₁ (lines_in b) (remarked m n (closed_in b)) s turned n (go (eqb m 0)) refl
     where
-      go : (t : Bool) → SameBut n (cond t (openNumber n (closed_in b)) (closeNumber n (closed_in b))) (closed_in b)
-      go true = λ x h. opened-other n x (closed_in b) h
-      go false = λ x h. closed-other n x (closed_in b) h
+      go : (t : Bool) → SameBut n (cond t (open_number n (closed_in b)) (close_number n (closed_in b))) (closed_in b)
+      go true = λ x h. opened_other n x (closed_in b) h
+      go false = λ x h. closed_other n x (closed_in b) h
 
-  pub turn-stands : (k : ℕ) → StandsAt k n (linesIn b) → StandsAt k n (linesIn b₁)
-  turn-stands k h = subst (StandsAt k n) (sym turned.lines) h
+  pub turn_stands : (k : ℕ) → StandsAt k n (lines_in b) → StandsAt k n (lines_in b₁)
+  turn_stands k h = subst (StandsAt k n) (sym turned.lines) h
 
-  pub turn-done : (b₂ : List ℕ) → Holds b₂ (bookOf b₁) → Holds b₂ (withLines (linesIn b) (remarked m n (closed_in b)) (bookOf b))
-  turn-done b₂ h = relined-holds b b₁ (linesIn b) (remarked m n (closed_in b)) s turned b₂ h
+  pub turn_done : (b₂ : List ℕ) → Holds b₂ (book_of b₁) → Holds b₂ (with_lines (lines_in b) (remarked m n (closed_in b)) (book_of b))
+  turn_done b₂ h = relined_holds b b₁ (lines_in b) (remarked m n (closed_in b)) s turned b₂ h
 
-pub turn-few : (b : List ℕ) (k n : ℕ) → Sound b → StandsAt k n (linesIn b) → k < maxSites
-turn-few b k n s f = omega (arith, f.line, lines-length b, s.whole.sites.few)
+pub turn_few : (b : List ℕ) (k n : ℕ) → Sound b → StandsAt k n (lines_in b) → k < max_sites
+turn_few b k n s f = omega (arith, f.line, lines_length b, s.whole.sites.few)
 
-module _ (b : List ℕ) (k n m : ℕ) (s : Sound b) (f : StandsAt k n (linesIn b)) (e : m ≡ markAt b k) where
-  pub turn-was : (x : ℕ) → m ≡ 0 → x ≡ 1 → markAt b k ≡ 0
-  turn-was x z o = sym e ∙ z
+module _ (b : List ℕ) (k n m : ℕ) (s : Sound b) (f : StandsAt k n (lines_in b)) (e : m ≡ mark_at b k) where
+  pub turn_was : (x : ℕ) → m ≡ 0 → x ≡ 1 → mark_at b k ≡ 0
+  turn_was x z o = sym e ∙ z
 
   -- CLOSED
-  pub close-turned : (b₂ : List ℕ) → m ≡ 0 → Holds b₂ (withLines (linesIn b) (closeNumber n (closed_in b)) (bookOf b))
-      → Left (repeats (bookOf b) (Close n)) b (change (Close n) (bookOf b)) b₂
-  close-turned b₂ z h =
-      let o = mark-open b k n f s.whole.sites.rising m e z in
-      subst⁻¹ (λ (q : Bool). Left q b (change (Close n) (bookOf b)) b₂) o (subst⁻¹ (Holds b₂) (close-does (bookOf b) n o) h)
+  pub close_turned : (b₂ : List ℕ) → m ≡ 0 → Holds b₂ (with_lines (lines_in b) (close_number n (closed_in b)) (book_of b))
+      → Left (repeats (book_of b) (Close n)) b (change (Close n) (book_of b)) b₂
+  close_turned b₂ z h =
+      let o = mark_open b k n f s.whole.sites.rising m e z in
+      subst⁻¹ (λ (q : Bool). Left q b (change (Close n) (book_of b)) b₂) o (subst⁻¹ (Holds b₂) (close-does (book_of b) n o) h)
 
-  pub close-same : (m ≡ 0 → ⊥) → Left (repeats (bookOf b) (Close n)) b (change (Close n) (bookOf b)) b
-  close-same z =
-      subst⁻¹ (λ (q : Bool). Left q b (change (Close n) (bookOf b)) b) (mark-shut b k n f s.whole.sites.rising m e z) refl
+  pub close_same : (m ≡ 0 → ⊥) → Left (repeats (book_of b) (Close n)) b (change (Close n) (book_of b)) b
+  close_same z =
+      subst⁻¹ (λ (q : Bool). Left q b (change (Close n) (book_of b)) b) (mark_shut b k n f s.whole.sites.rising m e z) refl
 
   -- OPENED
-  pub open-turned : (b₂ : List ℕ) → (m ≡ 0 → ⊥) → Holds b₂ (withLines (linesIn b) (openNumber n (closed_in b)) (bookOf b))
-      → Left (repeats (bookOf b) (Open n)) b (change (Open n) (bookOf b)) b₂
-  open-turned b₂ z h =
-      let o = mark-shut b k n f s.whole.sites.rising m e z in
-      subst⁻¹ (λ (q : Bool). Left (not q) b (change (Open n) (bookOf b)) b₂) o (subst⁻¹ (Holds b₂) (open-does (bookOf b) n o) h)
+  pub open_turned : (b₂ : List ℕ) → (m ≡ 0 → ⊥) → Holds b₂ (with_lines (lines_in b) (open_number n (closed_in b)) (book_of b))
+      → Left (repeats (book_of b) (Open n)) b (change (Open n) (book_of b)) b₂
+  open_turned b₂ z h =
+      let o = mark_shut b k n f s.whole.sites.rising m e z in
+      subst⁻¹ (λ (q : Bool). Left (not q) b (change (Open n) (book_of b)) b₂) o (subst⁻¹ (Holds b₂) (open-does (book_of b) n o) h)
 
-  pub open-same : m ≡ 0 → Left (repeats (bookOf b) (Open n)) b (change (Open n) (bookOf b)) b
-  open-same z =
-      subst⁻¹ (λ (q : Bool). Left (not q) b (change (Open n) (bookOf b)) b) (mark-open b k n f s.whole.sites.rising m e z) refl
+  pub open_same : m ≡ 0 → Left (repeats (book_of b) (Open n)) b (change (Open n) (book_of b)) b
+  open_same z =
+      subst⁻¹ (λ (q : Bool). Left (not q) b (change (Open n) (book_of b)) b) (mark_open b k n f s.whole.sites.rising m e z) refl
 
 module _ (b b₁ : List ℕ) (l : Leg) (s : Sound b) (on : LegOnGrid l) (st : LegStored l b b₁) where
-  lines_stay : linesIn b₁ ≡ linesIn b
+  lines_stay : lines_in b₁ ≡ lines_in b
   lines_stay = lines_same b b₁ (λ i x h. st.only.low i h) (λ i x h. st.only.high i (omega arith)) s.whole.sites.few
 
-  closed-stays : closed_in b₁ ≡ closed_in b
-  closed-stays = closed_same b b₁ (λ i x h. st.only.low i h) (λ i x h. st.only.high i (omega arith)) s.whole.sites.few
+  closed_stays : closed_in b₁ ≡ closed_in b
+  closed_stays = closed_same b b₁ (λ i x h. st.only.low i h) (λ i x h. st.only.high i (omega arith)) s.whole.sites.few
 
-  tour-stays : tourIn b₁ ≡ tourIn b
-  tour-stays = tour-same b b₁ (λ i x h. st.only.high i (omega arith))
+  tour_stays : tour_in b₁ ≡ tour_in b
+  tour_stays = tour_same b b₁ (λ i x h. st.only.high i (omega arith))
 
-  pub stand-whole : Whole b₁
+  pub stand_whole : Whole b₁
   unfolding ZeroFrom
-  stand-whole =
+  stand_whole =
       record {
         len = st.only.len ∙ s.whole.len;
-        sites = sites-same b b₁ (λ i x h. st.only.low i h) (λ i x h. st.only.high i (omega arith)) s.whole.sites;
+        sites = sites_same b b₁ (λ i x h. st.only.low i h) (λ i x h. st.only.high i (omega arith)) s.whole.sites;
         header = record {
-          layout = word-high st.only layoutStart (omega arith) ∙ s.whole.header.layout;
+          layout = word_high st.only layout_start (omega arith) ∙ s.whole.header.layout;
           leg = record { flag = omega (arith, st.flag); unset = λ z. absurd (omega (arith, st.flag)) };
-          tour = flag_same b b₁ tourStart cornerStart tourEnd (λ i x h. st.only.high i (omega arith)) (omega arith) (omega arith) s.whole.header.tour;
+          tour = flag_same b b₁ tour_start corner_start tour_end (λ i x h. st.only.high i (omega arith)) (omega arith) (omega arith) s.whole.header.tour;
           kept = λ i x h. st.only.high i (omega arith) ∙ s.whole.header.kept i x h;
         };
-        tour = rw (tour-stays, lines_stay, closed-stays) s.whole.tour;
-        tree = tied_below b b₁ below lines_stay closed-stays s.whole.tree;
+        tour = rw (tour_stays, lines_stay, closed_stays) s.whole.tour;
+        tree = tied_below b b₁ below lines_stay closed_stays s.whole.tree;
       }
     where
-      below : Only flagStart treeStart b b₁
+      below : Only flag_start tree_start b b₁
       below = record { len = st.only.len; low = st.only.low; high = λ i h. st.only.high i (omega arith) }
 
-  pub stand-leg : LegOk (legIn b₁)
-  stand-leg = subst LegOk (sym st.leg) on
+  pub stand_leg : LegOk (leg_in b₁)
+  stand_leg = subst LegOk (sym st.leg) on
 
   -- SET
-  pub stand-done : (b₂ : List ℕ) → Holds b₂ (bookOf b₁) → Holds b₂ (change (Stand l) (bookOf b))
+  pub stand_done : (b₂ : List ℕ) → Holds b₂ (book_of b₁) → Holds b₂ (change (Stand l) (book_of b))
   unfolding change
-  stand-done b₂ h = subst (Holds b₂) (λ i. record { lines = lines_stay i; closed = closed-stays i; leg = st.leg i; tour = tour-stays i }) h
+  stand_done b₂ h = subst (Holds b₂) (λ i. record { lines = lines_stay i; closed = closed_stays i; leg = st.leg i; tour = tour_stays i }) h
 
 -- ---- the tour begins and goes on
 
 -- no byte but those of the tour is written
-pub stored-alone : (b b₀ : List ℕ) (o : Option Tour) → TourStored o b b₀ → Only tourStart tourEnd b b₀
-stored-alone b b₀ o st = st.only
+pub stored_alone : (b b₀ : List ℕ) (o : Option Tour) → TourStored o b b₀ → Only tour_start tour_end b b₀
+stored_alone b b₀ o st = st.only
 
 module _ (b b₀ : List ℕ) (s : Sound b) where
   -- BEGUN
-  pub begin-done : (p : Position) → OnGrid p → TourStored (some (tourAt p 0)) b b₀ → Holds b₀ (change (Begin p) (bookOf b))
+  pub begin_done : (p : Position) → OnGrid p → TourStored (some (tour_at p 0)) b b₀ → Holds b₀ (change (Begin p) (book_of b))
   unfolding change
-  begin-done p on st = toured-holds b b₀ (some (tourAt p 0)) s.whole st s.standing (record { onGrid = on; held = tt })
+  begin_done p on st = toured_holds b b₀ (some (tour_at p 0)) s.whole st s.standing (record { on_grid = on; held = tt })
 
   module _ (l : Leg) (n : ℕ) (f : Follows l n b) where
     abbrev all : List Site
-    all = sites_of (bookOf b)
+    all = sites_of (book_of b)
 
     -- the last site of the leg's list is open
-    held-last : holds n all ≡ true
-    held-last =
+    held_last : holds n all ≡ true
+    held_last =
         subst (λ (o : Option ℕ). LastHeld o all) f.last
-        (last-held l all none (splitOf l all) (split-is l all (proper-numbered (bookOf b) (sound-proper b s))).rules tt)
+        (last_held l all none (split_of l all) (split_is l all (proper_numbered (book_of b) (sound_proper b s))).rules tt)
 
     -- so it has a number
-    last-number : siteNumber n ≡ some n
-    last-number =
-        let h = holds-member n all held-last in
-        rw (ne_eqb n 0 (λ z. omega (arith, h.named, (proper-numbers (bookOf b) (sound-proper b s) h.line h.held).least))) refl
+    last_number_lem : site_number n ≡ some n
+    last_number_lem =
+        let h = holds_member n all held_last in
+        rw (ne_eqb n 0 (λ z. omega (arith, h.named, (proper_numbers (book_of b) (sound_proper b s) h.line h.held).least))) refl
 
-    goes_on : goesOn (tourIn b) l.e (list_of (tourLeg (tourIn b) l.e) all) ≡ some (tourAt l.e n)
-    goes_on =
-        ap (λ (o : Option Tour). goesOn o l.e (list_of (tourLeg o l.e) all)) f.runs
-        ∙ (λ i. some (cornered l.e (splitOf (record { s = f.from i; e = l.e }) all)))
-        ∙ ap (λ (o : Option ℕ). some (record { corner = l.e; last = o })) (f.last ∙ sym last-number)
+    goes_on_lem : goes_on (tour_in b) l.e (list_of (tour_leg (tour_in b) l.e) all) ≡ some (tour_at l.e n)
+    goes_on_lem =
+        ap (λ (o : Option Tour). goes_on o l.e (list_of (tour_leg o l.e) all)) f.runs
+        ∙ (λ i. some (cornered l.e (split_of (record { s = f.from i; e = l.e }) all)))
+        ∙ ap (λ (o : Option ℕ). some (record { corner = l.e; last = o })) (f.last ∙ sym last_number_lem)
 
     -- GONE ON
-    pub follow-done : TourStored (some (tourAt l.e n)) b b₀ → Holds b₀ (change (Corner l.e) (bookOf b))
+    pub follow_done : TourStored (some (tour_at l.e n)) b b₀ → Holds b₀ (change (Corner l.e) (book_of b))
     unfolding change
-    follow-done st =
-        subst⁻¹ (λ (o : Option Tour). Holds b₀ (withTour o (bookOf b))) goes_on
-        (toured-holds b b₀ (some (tourAt l.e n)) s.whole st s.standing
-        (record { onGrid = f.onGrid; held = rw last-number held-last }))
+    follow_done st =
+        subst⁻¹ (λ (o : Option Tour). Holds b₀ (with_tour o (book_of b))) goes_on_lem
+        (toured_holds b b₀ (some (tour_at l.e n)) s.whole st s.standing
+        (record { on_grid = f.on_grid; held = rw last_number_lem held_last }))

@@ -2,36 +2,36 @@
 -- Assumes nothing.
 use Rattle.std.specs.Prelude.{◌≡◌, cond, List, ℕ, ◌+◌, ◌≤◌, eqb}
 use Rattle.std.proofs.Math.Option.{none}
-use Rattle.limits.specs.Limits.{maxSites, tableBytes}
+use Rattle.limits.specs.Limits.{max_sites, table_bytes}
 use Rattle.words.specs.Words.{Only}
 use Rattle.grid.specs.declared.Site.{Site}
-use Rattle.table_header.specs.Header.{legIn, tourIn, lengthIn}
-use Rattle.book.specs.Book.{closeNumber, openNumber}
-use Rattle.table_sites.specs.Lines.{linesIn, closed_in}
-use Rattle.table_standing.specs.Standing.{standingIn}
+use Rattle.table_header.specs.Header.{leg_in, tour_in, length_in}
+use Rattle.book.specs.Book.{close_number, open_number}
+use Rattle.table_sites.specs.Lines.{lines_in, closed_in}
+use Rattle.table_standing.specs.Standing.{standing_in}
 use Rattle.tree_node.specs.declared.NodeEntry.{NodeEntry}
-use Rattle.tree_node.specs.Layout.{treeStart}
-use Rattle.tree_node.specs.Header.{rootIn}
+use Rattle.tree_node.specs.Layout.{tree_start}
+use Rattle.tree_node.specs.Header.{root_in}
 use Rattle.tree_node.specs.Tally.{total}
-use Rattle.tree_rules.specs.Rooted.{Rooted, leavesIn}
+use Rattle.tree_rules.specs.Rooted.{Rooted, leaves_in}
 use Rattle.table_rules.specs.Table.{Whole}
 
 -- the table has other lines and closed numbers, its tree has their leaf entries, no tour is under way, and the standing
 -- leg and the stored list are as they were
 pub record Relined (l : List Site) (c b b' : List ℕ) : Type 0 where
   pub whole : Whole b'
-  pub lines : linesIn b' ≡ l
+  pub lines : lines_in b' ≡ l
   pub closed : closed_in b' ≡ c
-  pub leg : legIn b' ≡ legIn b
-  pub tour : tourIn b' ≡ none
-  pub list : lengthIn b ≤ maxSites → standingIn b' ≡ standingIn b
+  pub leg : leg_in b' ≡ leg_in b
+  pub tour : tour_in b' ≡ none
+  pub list : length_in b ≤ max_sites → standing_in b' ≡ standing_in b
 
 -- the tree has the leaf entry new in the place of old, and nothing below the tree has changed
 pub record Swapped (old new : NodeEntry) (b b' : List ℕ) : Type 0 where
-  pub rooted : Rooted (rootIn b') b'
-  pub leaf : (w : NodeEntry → ℕ) → w old + total w (leavesIn b') ≡ w new + total w (leavesIn b)
-  pub only : Only treeStart tableBytes b b'
+  pub rooted : Rooted (root_in b') b'
+  pub leaf : (w : NodeEntry → ℕ) → w old + total w (leaves_in b') ≡ w new + total w (leaves_in b)
+  pub only : Only tree_start table_bytes b b'
 
 -- the closed numbers c when the number n gets the mark m: opened by 0, else closed
 abbrev pub remarked : ℕ → ℕ → List ℕ → List ℕ
-remarked m n c = cond (eqb m 0) (openNumber n c) (closeNumber n c)
+remarked m n c = cond (eqb m 0) (open_number n c) (close_number n c)

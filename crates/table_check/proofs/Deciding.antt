@@ -10,153 +10,153 @@ use native.Mathlib.Omega.{arith}
 use lib.ListN.{length, get_or}
 use lib.Dec.{eqb}
 use borrow.Author.Tests.{eqb-true, eqb-false, eq-eqb, ne_eqb}
-use Rattle.limits.specs.Limits.{maxSites, tableBytes}
+use Rattle.limits.specs.Limits.{max_sites, table_bytes}
 use Rattle.grid.specs.declared.Leg.{Leg}
 use Rattle.grid.specs.declared.Position.{Position}
 use Rattle.grid.specs.Position.{OnGrid, LegOnGrid}
 use Rattle.grid.specs.Says.{Says}
-use Rattle.grid.proofs.Says.{says-yes, says-no, says_map}
-use Rattle.list_row.specs.Vertices.{entriesIn}
-use Rattle.book.specs.Book.{isClosed, sites_of, list_of, standingList}
-use Rattle.book.proofs.Lines.{member-holds, absent-holds, holds-absent}
-use Rattle.book.proofs.Marks.{open-member, member-open, closed-absent}
+use Rattle.grid.proofs.Says.{says_yes, says_no, says_map}
+use Rattle.list_row.specs.Vertices.{entries_in}
+use Rattle.book.specs.Book.{is_closed, sites_of, list_of, standing_list}
+use Rattle.book.proofs.Lines.{member_holds, absent_holds, holds_absent}
+use Rattle.book.proofs.Marks.{open_member, member_open, closed_absent}
 use Rattle.book.specs.Tour.{Tour}
 use Rattle.book.specs.Proper.{LegOk, LastHeld, TourOk}
 use Rattle.table_header.specs.declared.Standing.{Standing}
 use Rattle.table_header.specs.declared.Touring.{Touring}
-use Rattle.table_header.specs.Header.{legIn, HeaderOk, asOption, lengthIn, siteNumber, tourAt, tourIn, touringAs}
+use Rattle.table_header.specs.Header.{leg_in, HeaderOk, as_option, length_in, site_number, tour_at, tour_in, touring_as}
 use Rattle.table_sites.specs.declared.Found.{Found}
-use Rattle.table_sites.specs.Lines.{linesIn, markAt, closed_in, no_site, Array, StandsAt, FoundAs}
-use Rattle.table_sites.proofs.Reading.{lines-length}
-use Rattle.table_sites.proofs.Finding.{found_at, found-absent, at-member, absent-held}
+use Rattle.table_sites.specs.Lines.{lines_in, mark_at, closed_in, no_site, Array, StandsAt, FoundAs}
+use Rattle.table_sites.proofs.Reading.{lines_length}
+use Rattle.table_sites.proofs.Finding.{found_at, found_absent, at_member, absent_held}
 use Rattle.table_sites.specs.Rules.{SitesOk}
-use Rattle.table_sites.proofs.Kept.{sites-array, mark-open, mark-shut}
-use Rattle.table_standing.specs.Layout.{listStart}
-use Rattle.table_standing.specs.Standing.{wordsFrom, standingIn, numbersOf}
-use Rattle.table_standing.proofs.Numbers.{standing-length}
+use Rattle.table_sites.proofs.Kept.{sites_array, mark_open, mark_shut}
+use Rattle.table_standing.specs.Layout.{list_start}
+use Rattle.table_standing.specs.Standing.{words_from, standing_in, numbers_of}
+use Rattle.table_standing.proofs.Numbers.{standing_length}
 use Rattle.tree_check.specs.Tied.{Tied}
-use Rattle.table_rules.specs.Table.{bookOf, Whole, StandingOk}
+use Rattle.table_rules.specs.Table.{book_of, Whole, StandingOk}
 use Rattle.table_rules.specs.Listing.{ListsTable}
 
 -- ---- the standing leg and list
 
-module _ (b : List ℕ) (s : Standing) (w : Whole b) (q : asOption s ≡ legIn b) where
-  pub unset-says : (n : ℕ) → s ≡ Standing.Unset → n ≡ lengthIn b → Says (eqb n 0) (StandingOk b)
-  unfolding standingIn wordsFrom numbersOf
-  unset-says n u e = go (eqb n 0) refl
+module _ (b : List ℕ) (s : Standing) (w : Whole b) (q : as_option s ≡ leg_in b) where
+  pub unset_says : (n : ℕ) → s ≡ Standing.Unset → n ≡ length_in b → Says (eqb n 0) (StandingOk b)
+  unfolding standing_in words_from numbers_of
+  unset_says n u e = go (eqb n 0) refl
     where
-      leg : legIn b ≡ none
-      leg = sym q ∙ ap asOption u
+      leg : leg_in b ≡ none
+      leg = sym q ∙ ap as_option u
 
-      list : numbersOf (standingList (bookOf b)) ≡ []
-      list = ap (λ (o : Option Leg). numbersOf (list_of o (sites_of (bookOf b)))) leg
+      list : numbers_of (standing_list (book_of b)) ≡ []
+      list = ap (λ (o : Option Leg). numbers_of (list_of o (sites_of (book_of b)))) leg
 
       go : (t : Bool) → eqb n 0 ≡ t → Says t (StandingOk b)
       go true z =
           record {
             leg = subst LegOk (sym leg) tt;
-            list = ap (wordsFrom b listStart) (sym e ∙ eqb-true n 0 z) ∙ sym list;
+            list = ap (words_from b list_start) (sym e ∙ eqb-true n 0 z) ∙ sym list;
           }
-      go false z = λ x. eqb-false n 0 z (e ∙ (omega (arith, standing-length b, ap length (x.list ∙ list))))
+      go false z = λ x. eqb-false n 0 z (e ∙ (omega (arith, standing_length b, ap length (x.list ∙ list))))
 
   module _ (l : Leg) (a : s ≡ Standing.Along l) where
-    leg-is : legIn b ≡ some l
-    leg-is = sym q ∙ ap asOption a
+    leg_is : leg_in b ≡ some l
+    leg_is = sym q ∙ ap as_option a
 
-    pub along-off : (t : Bool) → Says t (LegOnGrid l) → t ≡ false → ¬ StandingOk b
-    along-off t h e x = says-no t h e (subst LegOk leg-is x.leg)
+    pub along_off : (t : Bool) → Says t (LegOnGrid l) → t ≡ false → ¬ StandingOk b
+    along_off t h e x = says_no t h e (subst LegOk leg_is x.leg)
 
-    pub along-grid : (t : Bool) → Says t (LegOnGrid l) → t ≡ true → LegOnGrid l
-    along-grid t h e = says-yes t h e
+    pub along_grid : (t : Bool) → Says t (LegOnGrid l) → t ≡ true → LegOnGrid l
+    along_grid t h e = says_yes t h e
 
-    pub along-says : (t u : Bool) (r : List ℕ) (k : ℕ) → Says t (LegOnGrid l) → t ≡ true → ListsTable l b r k
-        → Says u (standingIn b ≡ numbersOf (entriesIn l b r k)) → Says u (StandingOk b)
-    along-says t u r k h e f m =
+    pub along_says : (t u : Bool) (r : List ℕ) (k : ℕ) → Says t (LegOnGrid l) → t ≡ true → ListsTable l b r k
+        → Says u (standing_in b ≡ numbers_of (entries_in l b r k)) → Says u (StandingOk b)
+    along_says t u r k h e f m =
         says_map u
-        (λ x. record { leg = subst LegOk (sym leg-is) (says-yes t h e); list = x ∙ right })
+        (λ x. record { leg = subst LegOk (sym leg_is) (says_yes t h e); list = x ∙ right })
         (λ x. x.list ∙ sym right)
         m
       where
-        right : numbersOf (entriesIn l b r k) ≡ numbersOf (standingList (bookOf b))
+        right : numbers_of (entries_in l b r k) ≡ numbers_of (standing_list (book_of b))
         right =
-            ap numbersOf f.list
-            ∙ sym (ap (λ (o : Option Leg). numbersOf (list_of o (sites_of (bookOf b)))) leg-is)
+            ap numbers_of f.list
+            ∙ sym (ap (λ (o : Option Leg). numbers_of (list_of o (sites_of (book_of b)))) leg_is)
 
 -- ---- the tour
 
 -- "a remembered site that isn't held", or that is closed (C-19)
 module _ (b : List ℕ) (n : ℕ) where
-  pub unnamed-ok : n ≡ 0 → LastHeld (siteNumber n) (sites_of (bookOf b))
-  unnamed-ok z = rw (eq-eqb n 0 z) tt
+  pub unnamed_ok : n ≡ 0 → LastHeld (site_number n) (sites_of (book_of b))
+  unnamed_ok z = rw (eq-eqb n 0 z) tt
 
-  module _ (f : Found) (k : ℕ) (nz : n ≢ 0) (r : Array b) (a : FoundAs f n (linesIn b)) where
-    named : siteNumber n ≡ some n
+  module _ (f : Found) (k : ℕ) (nz : n ≢ 0) (r : Array b) (a : FoundAs f n (lines_in b)) where
+    named : site_number n ≡ some n
     named = rw (ne_eqb n 0 nz) refl
 
-    pub named-few : f ≡ Found.At k → k < maxSites
-    named-few e = omega (arith, (found_at e a).line, lines-length b, r.few)
+    pub named_few : f ≡ Found.At k → k < max_sites
+    named_few e = omega (arith, (found_at e a).line, lines_length b, r.few)
 
     -- held: by its mark
-    pub named-says : f ≡ Found.At k → (m : ℕ) → m ≡ markAt b k → Says (eqb m 0) (LastHeld (siteNumber n) (sites_of (bookOf b)))
-    named-says e m q = go (eqb m 0) refl
+    pub named_says : f ≡ Found.At k → (m : ℕ) → m ≡ mark_at b k → Says (eqb m 0) (LastHeld (site_number n) (sites_of (book_of b)))
+    named_says e m q = go (eqb m 0) refl
       where
-        st : StandsAt k n (linesIn b)
+        st : StandsAt k n (lines_in b)
         st = found_at e a
 
-        go : (t : Bool) → eqb m 0 ≡ t → Says t (LastHeld (siteNumber n) (sites_of (bookOf b)))
+        go : (t : Bool) → eqb m 0 ≡ t → Says t (LastHeld (site_number n) (sites_of (book_of b)))
         go true z =
-            let o : isClosed n (closed_in b) ≡ false = mark-open b k n st r.rising m q (eqb-true m 0 z) in
-            subst⁻¹ (λ (o : Option ℕ). LastHeld o (sites_of (bookOf b))) named
-            (member-holds n (sites_of (bookOf b)) (get_or (linesIn b) k no_site)
-            (member-open (closed_in b) (linesIn b) (get_or (linesIn b) k no_site) (at-member st) (ap (λ (x : ℕ). isClosed x (closed_in b)) st.number ∙ o))
+            let o : is_closed n (closed_in b) ≡ false = mark_open b k n st r.rising m q (eqb-true m 0 z) in
+            subst⁻¹ (λ (o : Option ℕ). LastHeld o (sites_of (book_of b))) named
+            (member_holds n (sites_of (book_of b)) (get_or (lines_in b) k no_site)
+            (member_open (closed_in b) (lines_in b) (get_or (lines_in b) k no_site) (at_member st) (ap (λ (x : ℕ). is_closed x (closed_in b)) st.number ∙ o))
             st.number)
         go false z = λ h.
             true≢false
-            (sym (subst (λ (o : Option ℕ). LastHeld o (sites_of (bookOf b))) named h)
-            ∙ closed-absent (closed_in b) (linesIn b) n (mark-shut b k n st r.rising m q (eqb-false m 0 z)))
+            (sym (subst (λ (o : Option ℕ). LastHeld o (sites_of (book_of b))) named h)
+            ∙ closed_absent (closed_in b) (lines_in b) n (mark_shut b k n st r.rising m q (eqb-false m 0 z)))
 
-    pub named-not : f ≡ Found.Absent k → ¬ LastHeld (siteNumber n) (sites_of (bookOf b))
-    named-not e h =
+    pub named_not : f ≡ Found.Absent k → ¬ LastHeld (site_number n) (sites_of (book_of b))
+    named_not e h =
         true≢false
-        (sym (subst (λ (o : Option ℕ). LastHeld o (sites_of (bookOf b))) named h)
-        ∙ absent-holds n (sites_of (bookOf b))
-        (λ p m. holds-absent n (linesIn b) (absent-held (found-absent e a)) p (open-member (closed_in b) (linesIn b) p m)))
+        (sym (subst (λ (o : Option ℕ). LastHeld o (sites_of (book_of b))) named h)
+        ∙ absent_holds n (sites_of (book_of b))
+        (λ p m. holds_absent n (lines_in b) (absent_held (found_absent e a)) p (open_member (closed_in b) (lines_in b) p m)))
 
 -- "a stored corner off the grid"
-module _ (b : List ℕ) (r : Touring) (q : touringAs r ≡ tourIn b) where
-  pub idle-ok : r ≡ Touring.Idle → TourOk (tourIn b) (sites_of (bookOf b))
-  idle-ok u = subst (λ (o : Option Tour). TourOk o (sites_of (bookOf b))) (sym (ap touringAs u) ∙ q) tt
+module _ (b : List ℕ) (r : Touring) (q : touring_as r ≡ tour_in b) where
+  pub idle_ok : r ≡ Touring.Idle → TourOk (tour_in b) (sites_of (book_of b))
+  idle_ok u = subst (λ (o : Option Tour). TourOk o (sites_of (book_of b))) (sym (ap touring_as u) ∙ q) tt
 
   module _ (p : Position) (n : ℕ) (u : r ≡ Touring.From p n) (t : Bool) (s : Says t (OnGrid p)) where
-    tour-is : tourIn b ≡ some (tourAt p n)
-    tour-is = sym q ∙ ap touringAs u
+    tour_is : tour_in b ≡ some (tour_at p n)
+    tour_is = sym q ∙ ap touring_as u
 
-    pub corner-off : t ≡ false → ¬ TourOk (tourIn b) (sites_of (bookOf b))
-    corner-off e h = says-no t s e (subst (λ (o : Option Tour). TourOk o (sites_of (bookOf b))) tour-is h).onGrid
+    pub corner_off : t ≡ false → ¬ TourOk (tour_in b) (sites_of (book_of b))
+    corner_off e h = says_no t s e (subst (λ (o : Option Tour). TourOk o (sites_of (book_of b))) tour_is h).on_grid
 
-    pub corner-says : (v : Bool) → t ≡ true → Says v (LastHeld (siteNumber n) (sites_of (bookOf b))) → Says v (TourOk (tourIn b) (sites_of (bookOf b)))
-    corner-says v e h =
+    pub corner_says : (v : Bool) → t ≡ true → Says v (LastHeld (site_number n) (sites_of (book_of b))) → Says v (TourOk (tour_in b) (sites_of (book_of b)))
+    corner_says v e h =
         says_map v
-        (λ x. subst⁻¹ (λ (o : Option Tour). TourOk o (sites_of (bookOf b))) tour-is (record { onGrid = says-yes t s e; held = x }))
-        (λ x. (subst (λ (o : Option Tour). TourOk o (sites_of (bookOf b))) tour-is x).held)
+        (λ x. subst⁻¹ (λ (o : Option Tour). TourOk o (sites_of (book_of b))) tour_is (record { on_grid = says_yes t s e; held = x }))
+        (λ x. (subst (λ (o : Option Tour). TourOk o (sites_of (book_of b))) tour_is x).held)
         h
 
 -- ---- sites, header, tour and tree
 
-module _ (b : List ℕ) (len : length b ≡ tableBytes) where
-  pub sites-not : (q : Bool) → Says q (SitesOk b) → q ≡ false → ¬ Whole b
-  sites-not q s e w = says-no q s e w.sites
+module _ (b : List ℕ) (len : length b ≡ table_bytes) where
+  pub sites_not : (q : Bool) → Says q (SitesOk b) → q ≡ false → ¬ Whole b
+  sites_not q s e w = says_no q s e w.sites
 
-  pub header-not : (q : Bool) → Says q (HeaderOk b) → q ≡ false → ¬ Whole b
-  header-not q s e w = says-no q s e w.header
+  pub header_not : (q : Bool) → Says q (HeaderOk b) → q ≡ false → ¬ Whole b
+  header_not q s e w = says_no q s e w.header
 
-  pub sites-yes : (q : Bool) → Says q (SitesOk b) → q ≡ true → Array b
-  sites-yes q s e = sites-array len (says-yes q s e)
+  pub sites_yes : (q : Bool) → Says q (SitesOk b) → q ≡ true → Array b
+  sites_yes q s e = sites_array len (says_yes q s e)
 
-  pub tour-not : (q : Bool) → Says q (TourOk (tourIn b) (sites_of (bookOf b))) → q ≡ false → ¬ Whole b
-  tour-not q s e w = says-no q s e w.tour
+  pub tour_not : (q : Bool) → Says q (TourOk (tour_in b) (sites_of (book_of b))) → q ≡ false → ¬ Whole b
+  tour_not q s e w = says_no q s e w.tour
 
-  pub whole_says : (q p o r : Bool) → Says q (SitesOk b) → q ≡ true → Says p (HeaderOk b) → p ≡ true → Says o (TourOk (tourIn b) (sites_of (bookOf b))) → o ≡ true
+  pub whole_says : (q p o r : Bool) → Says q (SitesOk b) → q ≡ true → Says p (HeaderOk b) → p ≡ true → Says o (TourOk (tour_in b) (sites_of (book_of b))) → o ≡ true
       → Says r (Tied b) → Says r (Whole b)
   whole_says q p o r s e h f u g t =
-      says_map r (λ x. record { len = len; sites = says-yes q s e; header = says-yes p h f; tour = says-yes o u g; tree = x }) (λ w. w.tree) t
+      says_map r (λ x. record { len = len; sites = says_yes q s e; header = says_yes p h f; tour = says_yes o u g; tree = x }) (λ w. w.tree) t

@@ -1,16 +1,16 @@
 // The two tests of a table's contents, of any 32,768 bytes: whether layout, tree, sites and tour keep their rules
 // (document 01, reason 65), and whether the standing leg and list do (document 02, C-17, reason 69).
 ghost use Rattle.std.specs.Prelude.{◌≡◌, ◌≤◌, length};
-ghost use Rattle.limits.specs.Limits.{tableBytes};
+ghost use Rattle.limits.specs.Limits.{table_bytes};
 ghost use Rattle.grid.specs.Says.{Says};
-ghost use Rattle.list_row.specs.Vertices.{rowBytes, Held, entriesIn};
+ghost use Rattle.list_row.specs.Vertices.{row_bytes, Held, entries_in};
 ghost use Rattle.book.specs.Book.{sites_of};
 ghost use Rattle.book.specs.Proper.{LastHeld, TourOk};
-ghost use Rattle.table_header.specs.Header.{siteNumber, tourIn};
+ghost use Rattle.table_header.specs.Header.{site_number, tour_in};
 ghost use Rattle.table_sites.specs.Lines.{Array};
-ghost use Rattle.table_standing.specs.Standing.{standingIn, numbersOf};
-ghost use Rattle.tree_check.specs.Marks.{seenBytes};
-ghost use Rattle.table_rules.specs.Table.{bookOf, Whole, StandingOk};
+ghost use Rattle.table_standing.specs.Standing.{standing_in, numbers_of};
+ghost use Rattle.tree_check.specs.Marks.{seen_bytes};
+ghost use Rattle.table_rules.specs.Table.{book_of, Whole, StandingOk};
 
 use grid::Leg;
 use table_header::{Standing, Touring};
@@ -18,9 +18,9 @@ use table_sites::Found;
 
 // Whether the stored standing list has the numbers of the list in the first k of the row.
 fn list_matches(t: &[u8], work: &[u8], leg: Leg, k: usize) -> bool
-    requires { (length t.now ≡ tableBytes) × Held leg t.now work.now k }
+    requires { (length t.now ≡ table_bytes) × Held leg t.now work.now k }
     ensures { Says result
-        (standingIn t.now ≡ numbersOf (entriesIn leg t.now work.now k)) }
+        (standing_in t.now ≡ numbers_of (entries_in leg t.now work.now k)) }
 {
     let n = table_header::length(t);
     if n != k {
@@ -40,7 +40,7 @@ fn list_matches(t: &[u8], work: &[u8], leg: Leg, k: usize) -> bool
 
 // The second test: whether the standing leg and the standing list keep their rules, in a table whose other rules hold.
 pub fn standing_ok(t: &[u8], work: &mut [u8]) -> bool
-    requires { Whole t.now × (rowBytes ≤ length work.old) }
+    requires { Whole t.now × (row_bytes ≤ length work.old) }
     ensures { Says result (StandingOk t.now) }
 {
     let s = table_header::leg(t);
@@ -62,7 +62,7 @@ pub fn standing_ok(t: &[u8], work: &mut [u8]) -> bool
 // Whether number n is 0, or that of a site that is held and open.
 fn remembered_ok(t: &[u8], n: u16) -> bool
     requires { Array t.now }
-    ensures { Says result (LastHeld (siteNumber n) (sites_of (bookOf t.now))) }
+    ensures { Says result (LastHeld (site_number n) (sites_of (book_of t.now))) }
 {
     if n == 0 {
         return true;
@@ -79,8 +79,8 @@ fn remembered_ok(t: &[u8], n: u16) -> bool
 
 // Whether the tour keeps its rules.
 fn tour_ok(t: &[u8]) -> bool
-    requires { (length t.now ≡ tableBytes) × Array t.now }
-    ensures { Says result (TourOk (tourIn t.now) (sites_of (bookOf t.now))) }
+    requires { (length t.now ≡ table_bytes) × Array t.now }
+    ensures { Says result (TourOk (tour_in t.now) (sites_of (book_of t.now))) }
 {
     let tour = table_header::tour(t);
     match tour {
@@ -96,7 +96,7 @@ fn tour_ok(t: &[u8]) -> bool
 
 // The first test: whether sites, header, tour and tree keep their rules.
 pub fn whole_ok(t: &[u8], work: &mut [u8]) -> bool
-    requires { (length t.now ≡ tableBytes) × (seenBytes ≤ length work.old) }
+    requires { (length t.now ≡ table_bytes) × (seen_bytes ≤ length work.old) }
     ensures { Says result (Whole t.now) }
 {
     if table_sites::rules::check(t) {

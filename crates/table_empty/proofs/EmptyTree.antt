@@ -9,84 +9,84 @@ use mathlib.Core.Bool.{Bool, true, false, cond}
 use lib.Dec.{eqb}
 use borrow.Author.Tests.{ne_eqb}
 use lib.ListN.{length, get_or, length-replicate, get_or-replicate}
-use Rattle.limits.specs.Limits.{maxNodes, tableBytes}
-use Rattle.words.specs.Words.{word_at, putWord, Only}
-use Rattle.words.proofs.Frame.{only-putWord, word-putWord, word_low, word-high}
-use Rattle.table_header.specs.Layout.{layoutStart, layoutNumber}
+use Rattle.limits.specs.Limits.{max_nodes, table_bytes}
+use Rattle.words.specs.Words.{word_at, put_word, Only}
+use Rattle.words.proofs.Frame.{only_put_word, word_put_word, word_low, word_high}
+use Rattle.table_header.specs.Layout.{layout_start, layout_number}
 use Rattle.tree_node.specs.declared.Root.{Root}
-use Rattle.tree_node.specs.Layout.{treeStart, freeStart, stackStart, up_to}
+use Rattle.tree_node.specs.Layout.{tree_start, free_start, stack_start, up_to}
 use Rattle.tree_node.specs.Free.{numbers, free}
-use Rattle.tree_node.specs.Header.{rootOf, rootIn}
+use Rattle.tree_node.specs.Header.{root_of, root_in}
 use Rattle.tree_node.specs.Tally.{total, hit, tally}
-use Rattle.tree_node.proofs.Counting.{upTo-low, hit-eq}
-use Rattle.tree_rules.specs.Rooted.{treeLeaves, treeNodes, RootSound, Rooted, leavesIn}
-use Rattle.table_empty.specs.EmptyTable.{zeros, stacked, numbered, emptyTable}
-use Rattle.table_empty.proofs.Laying.{stacked-length}
+use Rattle.tree_node.proofs.Counting.{up_to_low, hit_eq}
+use Rattle.tree_rules.specs.Rooted.{tree_leaves, tree_nodes, RootSound, Rooted, leaves_in}
+use Rattle.table_empty.specs.EmptyTable.{zeros, stacked, numbered, empty_table}
+use Rattle.table_empty.proofs.Laying.{stacked_length}
 
 -- the layout's number alone
-numbered-only : Only layoutStart (layoutStart + 2) (zeros tableBytes) numbered
+numbered_only : Only layout_start (layout_start + 2) (zeros table_bytes) numbered
 unfolding numbered
-numbered-only = only-putWord (zeros tableBytes) layoutStart layoutNumber
+numbered_only = only_put_word (zeros table_bytes) layout_start layout_number
 
-stacked-numbered : length (stacked maxNodes numbered) ≡ tableBytes
-stacked-numbered = stacked-length maxNodes numbered ∙ numbered-only.len ∙ length-replicate {A = ℕ} tableBytes 0
+stacked_numbered : length (stacked max_nodes numbered) ≡ table_bytes
+stacked_numbered = stacked_length max_nodes numbered ∙ numbered_only.len ∙ length-replicate {A = ℕ} table_bytes 0
 
-pub empty-length : length emptyTable ≡ tableBytes
-unfolding emptyTable
-empty-length = (only-putWord (stacked maxNodes numbered) freeStart maxNodes).len ∙ stacked-numbered
+pub empty_length : length empty_table ≡ table_bytes
+unfolding empty_table
+empty_length = (only_put_word (stacked max_nodes numbered) free_start max_nodes).len ∙ stacked_numbered
 
-stacked-low : (k : ℕ) (b : List ℕ) (i : ℕ) → i < stackStart → get_or (stacked k b) i 0 ≡ get_or b i 0
+stacked_low : (k : ℕ) (b : List ℕ) (i : ℕ) → i < stack_start → get_or (stacked k b) i 0 ≡ get_or b i 0
 unfolding stacked
-stacked-low zero b i h = refl
-stacked-low (suc k) b i h = (only-putWord (stacked k b) (stackStart + 2 * k) k).low i (omega arith) ∙ stacked-low k b i h
+stacked_low zero b i h = refl
+stacked_low (suc k) b i h = (only_put_word (stacked k b) (stack_start + 2 * k) k).low i (omega arith) ∙ stacked_low k b i h
 
 -- below the stack nothing but the layout's number is written
-below-stack : (i : ℕ) → i < freeStart → get_or emptyTable i 0 ≡ get_or numbered i 0
-unfolding emptyTable
-below-stack i h = (only-putWord (stacked maxNodes numbered) freeStart maxNodes).low i h ∙ stacked-low maxNodes numbered i (omega arith)
+below_stack : (i : ℕ) → i < free_start → get_or empty_table i 0 ≡ get_or numbered i 0
+unfolding empty_table
+below_stack i h = (only_put_word (stacked max_nodes numbered) free_start max_nodes).low i h ∙ stacked_low max_nodes numbered i (omega arith)
 
-no_byte : (i : ℕ) → i < freeStart → get_or (zeros tableBytes) i 0 ≡ 0
-no_byte i h = get_or-replicate {A = ℕ} tableBytes i 0 0 (omega arith)
+no_byte : (i : ℕ) → i < free_start → get_or (zeros table_bytes) i 0 ≡ 0
+no_byte i h = get_or-replicate {A = ℕ} table_bytes i 0 0 (omega arith)
 
 -- EVERY BYTE BELOW THE STACK is 0: those before the layout's number,
-pub empty-low : (i : ℕ) → i < layoutStart → get_or emptyTable i 0 ≡ 0
-empty-low i h = below-stack i (omega arith) ∙ numbered-only.low i h ∙ no_byte i (omega arith)
+pub empty_low : (i : ℕ) → i < layout_start → get_or empty_table i 0 ≡ 0
+empty_low i h = below_stack i (omega arith) ∙ numbered_only.low i h ∙ no_byte i (omega arith)
 
 -- and those behind it
-pub empty-behind : (i : ℕ) → layoutStart + 2 ≤ i → i < freeStart → get_or emptyTable i 0 ≡ 0
-empty-behind i l h = below-stack i h ∙ numbered-only.high i l ∙ no_byte i h
+pub empty_behind : (i : ℕ) → layout_start + 2 ≤ i → i < free_start → get_or empty_table i 0 ≡ 0
+empty_behind i l h = below_stack i h ∙ numbered_only.high i l ∙ no_byte i h
 
-stacked-past : (k : ℕ) (b : List ℕ) (i : ℕ) → stackStart + 2 * k ≤ i → get_or (stacked k b) i 0 ≡ get_or b i 0
+stacked_past : (k : ℕ) (b : List ℕ) (i : ℕ) → stack_start + 2 * k ≤ i → get_or (stacked k b) i 0 ≡ get_or b i 0
 unfolding stacked
-stacked-past zero b i h = refl
-stacked-past (suc k) b i h = (only-putWord (stacked k b) (stackStart + 2 * k) k).high i (omega arith) ∙ stacked-past k b i (omega arith)
+stacked_past zero b i h = refl
+stacked_past (suc k) b i h = (only_put_word (stacked k b) (stack_start + 2 * k) k).high i (omega arith) ∙ stacked_past k b i (omega arith)
 
 -- EVERY BYTE PAST THE STACK is 0
-pub empty-past : (i : ℕ) → stackStart + 2 * maxNodes ≤ i → i < tableBytes → get_or emptyTable i 0 ≡ 0
-unfolding emptyTable
-empty-past i l h =
-    (only-putWord (stacked maxNodes numbered) freeStart maxNodes).high i (omega arith)
-    ∙ stacked-past maxNodes numbered i l
-    ∙ numbered-only.high i (omega arith)
-    ∙ get_or-replicate {A = ℕ} tableBytes i 0 0 h
+pub empty_past : (i : ℕ) → stack_start + 2 * max_nodes ≤ i → i < table_bytes → get_or empty_table i 0 ≡ 0
+unfolding empty_table
+empty_past i l h =
+    (only_put_word (stacked max_nodes numbered) free_start max_nodes).high i (omega arith)
+    ∙ stacked_past max_nodes numbered i l
+    ∙ numbered_only.high i (omega arith)
+    ∙ get_or-replicate {A = ℕ} table_bytes i 0 0 h
 
 -- every number before it too
-pub empty-word : (i : ℕ) → i + 2 ≤ layoutStart → word_at emptyTable i ≡ 0
+pub empty_word : (i : ℕ) → i + 2 ≤ layout_start → word_at empty_table i ≡ 0
 unfolding word_at
-empty-word i h = omega (arith, empty-low i (omega arith), empty-low (i + 1) (omega arith))
+empty_word i h = omega (arith, empty_low i (omega arith), empty_low (i + 1) (omega arith))
 
 -- THE LAYOUT'S NUMBER stands in its place
-pub empty-layout : word_at emptyTable layoutStart ≡ layoutNumber
+pub empty_layout : word_at empty_table layout_start ≡ layout_number
 unfolding word_at numbered
-empty-layout =
-    let s : word_at numbered layoutStart ≡ layoutNumber = word-putWord (zeros tableBytes) layoutStart layoutNumber (omega (arith, length-replicate {A = ℕ} tableBytes 0)) in
-    omega (arith, s, below-stack layoutStart (omega arith), below-stack (layoutStart + 1) (omega arith))
+empty_layout =
+    let s : word_at numbered layout_start ≡ layout_number = word_put_word (zeros table_bytes) layout_start layout_number (omega (arith, length-replicate {A = ℕ} table_bytes 0)) in
+    omega (arith, s, below_stack layout_start (omega arith), below_stack (layout_start + 1) (omega arith))
 
 -- THE TREE IS EMPTY
-pub empty-root : rootIn emptyTable ≡ Root.Empty
-unfolding rootIn rootOf word_at
-empty-root =
-    let w : word_at emptyTable treeStart ≡ 0 = omega (arith, empty-behind treeStart (omega arith) (omega arith), empty-behind (treeStart + 1) (omega arith) (omega arith)) in
+pub empty_root : root_in empty_table ≡ Root.Empty
+unfolding root_in root_of word_at
+empty_root =
+    let w : word_at empty_table tree_start ≡ 0 = omega (arith, empty_behind tree_start (omega arith) (omega arith), empty_behind (tree_start + 1) (omega arith) (omega arith)) in
     rw w
 
 -- the ids of the nodes below k, the last one first
@@ -94,31 +94,31 @@ unfoldable below : ℕ → List ℕ
 below zero = []
 below (suc k) = k ∷ below k
 
-stacked-at : (k : ℕ) (b : List ℕ) → length b ≡ tableBytes → k ≤ maxNodes → (j : ℕ) → j < k → word_at (stacked k b) (stackStart + 2 * j) ≡ j
+stacked_at : (k : ℕ) (b : List ℕ) → length b ≡ table_bytes → k ≤ max_nodes → (j : ℕ) → j < k → word_at (stacked k b) (stack_start + 2 * j) ≡ j
 unfolding stacked
-stacked-at zero b len le j h = absurd (omega arith)
-stacked-at (suc k) b len le j h = go (dec_lt j k) (stacked-at k b len (omega arith) j)
+stacked_at zero b len le j h = absurd (omega arith)
+stacked_at (suc k) b len le j h = go (dec_lt j k) (stacked_at k b len (omega arith) j)
   where
-    go : Dec (j < k) → (j < k → word_at (stacked k b) (stackStart + 2 * j) ≡ j) → word_at (putWord (stacked k b) (stackStart + 2 * k) k) (stackStart + 2 * j) ≡ j
-    go (yes l) ih = word_low (only-putWord (stacked k b) (stackStart + 2 * k) k) (stackStart + 2 * j) (omega arith) ∙ ih l
+    go : Dec (j < k) → (j < k → word_at (stacked k b) (stack_start + 2 * j) ≡ j) → word_at (put_word (stacked k b) (stack_start + 2 * k) k) (stack_start + 2 * j) ≡ j
+    go (yes l) ih = word_low (only_put_word (stacked k b) (stack_start + 2 * k) k) (stack_start + 2 * j) (omega arith) ∙ ih l
     go (no l) ih =
         let e : j ≡ k = omega arith in
-        rw e (word-putWord (stacked k b) (stackStart + 2 * k) k (omega (arith, stacked-length k b)))
+        rw e (word_put_word (stacked k b) (stack_start + 2 * k) k (omega (arith, stacked_length k b)))
 
-numbers-below : (b : List ℕ) (k : ℕ) → ((j : ℕ) → j < k → word_at b (stackStart + 2 * j) ≡ j) → numbers b stackStart k ≡ below k
+numbers_below : (b : List ℕ) (k : ℕ) → ((j : ℕ) → j < k → word_at b (stack_start + 2 * j) ≡ j) → numbers b stack_start k ≡ below k
 unfolding numbers below
-numbers-below b zero h = refl
-numbers-below b (suc k) h = rw (h k (omega arith), numbers-below b k (λ j l. h j (omega arith)))
+numbers_below b zero h = refl
+numbers_below b (suc k) h = rw (h k (omega arith), numbers_below b k (λ j l. h j (omega arith)))
 
-empty-free : free emptyTable ≡ below maxNodes
-unfolding free emptyTable
-empty-free =
-    let s = stacked-numbered in
-    let w : word_at emptyTable freeStart ≡ maxNodes = word-putWord (stacked maxNodes numbered) freeStart maxNodes (omega arith) in
-    let u : up_to maxNodes (word_at emptyTable freeStart) ≡ maxNodes = ap (up_to maxNodes) w ∙ upTo-low maxNodes maxNodes (omega arith) in
-    ap (numbers emptyTable stackStart) u
-    ∙ numbers-below emptyTable maxNodes (λ j h. word-high (only-putWord (stacked maxNodes numbered) freeStart maxNodes) (stackStart + 2 * j) (omega arith)
-    ∙ stacked-at maxNodes numbered (numbered-only.len ∙ length-replicate {A = ℕ} tableBytes 0) (omega arith) j h)
+empty_free : free empty_table ≡ below max_nodes
+unfolding free empty_table
+empty_free =
+    let s = stacked_numbered in
+    let w : word_at empty_table free_start ≡ max_nodes = word_put_word (stacked max_nodes numbered) free_start max_nodes (omega arith) in
+    let u : up_to max_nodes (word_at empty_table free_start) ≡ max_nodes = ap (up_to max_nodes) w ∙ up_to_low max_nodes max_nodes (omega arith) in
+    ap (numbers empty_table stack_start) u
+    ∙ numbers_below empty_table max_nodes (λ j h. word_high (only_put_word (stacked max_nodes numbered) free_start max_nodes) (stack_start + 2 * j) (omega arith)
+    ∙ stacked_at max_nodes numbered (numbered_only.len ∙ length-replicate {A = ℕ} table_bytes 0) (omega arith) j h)
 
 below_length : (k : ℕ) → length (below k) ≡ k
 unfolding below
@@ -129,9 +129,9 @@ hit_other : (x y : ℕ) → y < x → hit x y ≡ 0
 unfolding hit
 hit_other x y l = rw (ne_eqb x y (λ e. omega arith))
 
-hit-most : (x y : ℕ) → hit x y ≤ 1
+hit_most : (x y : ℕ) → hit x y ≤ 1
 unfolding hit
-hit-most x y = go (eqb x y)
+hit_most x y = go (eqb x y)
   where
     go : (t : Bool) → cond t 1 0 ≤ 1
     go true = omega arith
@@ -144,36 +144,36 @@ below_none m zero h = refl
 below_none m (suc k) h = omega (arith, below_none m k (omega arith), hit_other m k (omega arith))
 
 -- and no id twice
-below-once : (m k : ℕ) → tally m (below k) ≤ 1
+below_once : (m k : ℕ) → tally m (below k) ≤ 1
 unfolding total below
-below-once m zero = omega arith
-below-once m (suc k) = go (dec_lt 0 (hit m k)) (below-once m k)
+below_once m zero = omega arith
+below_once m (suc k) = go (dec_lt 0 (hit m k)) (below_once m k)
   where
     go : Dec (0 < hit m k) → tally m (below k) ≤ 1 → hit m k + tally m (below k) ≤ 1
-    go (yes h) ih = omega (arith, below_none m k (omega (arith, hit-eq m k h)), hit-most m k)
+    go (yes h) ih = omega (arith, below_none m k (omega (arith, hit_eq m k h)), hit_most m k)
     go (no h) ih = omega arith
 
-below-inside : (m k : ℕ) → 0 < tally m (below k) → m < k
-below-inside m k h = go (dec_lt m k)
+below_inside : (m k : ℕ) → 0 < tally m (below k) → m < k
+below_inside m k h = go (dec_lt m k)
   where
     go : Dec (m < k) → m < k
     go (yes l) = l
     go (no l) = absurd (omega (arith, below_none m k (omega arith)))
 
 -- THE EMPTY TABLE KEEPS THE TREE'S RULES
-pub empty-rooted : Rooted (rootIn emptyTable) emptyTable
-unfolding RootSound treeNodes total
-empty-rooted =
-    rw empty-root
+pub empty_rooted : Rooted (root_in empty_table) empty_table
+unfolding RootSound tree_nodes total
+empty_rooted =
+    rw empty_root
     record {
-      len = empty-length;
+      len = empty_length;
       top = tt;
-      apart = λ m. omega (arith, ap (tally m) empty-free, below-once m maxNodes);
-      within = λ m h. below-inside m maxNodes (omega (arith, ap (tally m) empty-free));
-      all = omega (arith, ap length empty-free, below_length maxNodes);
+      apart = λ m. omega (arith, ap (tally m) empty_free, below_once m max_nodes);
+      within = λ m h. below_inside m max_nodes (omega (arith, ap (tally m) empty_free));
+      all = omega (arith, ap length empty_free, below_length max_nodes);
     }
 
 -- and no leaf entry stands in it
-pub empty-leaves : leavesIn emptyTable ≡ []
-unfolding leavesIn treeLeaves
-empty-leaves = rw empty-root
+pub empty_leaves : leaves_in empty_table ≡ []
+unfolding leaves_in tree_leaves
+empty_leaves = rw empty_root

@@ -1,7 +1,7 @@
 // Laying out: the bytes of an empty table, and buffers set to zero.
 ghost use Rattle.std.specs.Prelude.{◌≡◌, length};
-ghost use Rattle.limits.specs.Limits.{tableBytes, maxNodes};
-ghost use Rattle.table_empty.specs.EmptyTable.{zeros, stacked, emptyTable};
+ghost use Rattle.limits.specs.Limits.{table_bytes, max_nodes};
+ghost use Rattle.table_empty.specs.EmptyTable.{zeros, stacked, empty_table};
 
 // Sets every byte to 0.
 pub fn clear(b: &mut [u8])
@@ -16,8 +16,8 @@ pub fn clear(b: &mut [u8])
 
 // Puts every node of the pool on the stack of free nodes.
 fn stack_all(t: &mut [u8])
-    requires { length t.old ≡ tableBytes }
-    ensures { t.new ≡ stacked maxNodes t.old }
+    requires { length t.old ≡ table_bytes }
+    ensures { t.new ≡ stacked max_nodes t.old }
 {
     let mut k = 0;
     while k < limits::MAX_NODES {
@@ -28,8 +28,8 @@ fn stack_all(t: &mut [u8])
 
 // Lays an empty table out.
 pub fn lay(t: &mut [u8])
-    requires { length t.old ≡ tableBytes }
-    ensures { t.new ≡ emptyTable }
+    requires { length t.old ≡ table_bytes }
+    ensures { t.new ≡ empty_table }
 {
     clear(t);
     table_header::put_layout(t);

@@ -7,80 +7,80 @@ use Prim.Native.Nat.{ℕ, ◌+◌, ◌≤◌}
 use native.Mathlib.Omega.{arith}
 use lib.ListN.{length}
 use borrow.Author.Tests.{eq-eqb, ne_eqb}
-use Rattle.limits.specs.Limits.{tableBytes}
-use Rattle.words.specs.Words.{word_at, putWord, Only}
-use Rattle.words.proofs.Frame.{only-trans, only_wider, only-putWord, word-putWord, word_low}
+use Rattle.limits.specs.Limits.{table_bytes}
+use Rattle.words.specs.Words.{word_at, put_word, Only}
+use Rattle.words.proofs.Frame.{only_trans, only_wider, only_put_word, word_put_word, word_low}
 use Rattle.grid.specs.declared.Position.{Position}
 use Rattle.grid.specs.declared.Leg.{Leg}
 use Rattle.table_header.specs.declared.Standing.{Standing}
-use Rattle.table_header.specs.Layout.{flagStart, legStart}
-use Rattle.table_header.specs.Header.{positionWords, putPosition, legIn, asOption, LegStored}
+use Rattle.table_header.specs.Layout.{flag_start, leg_start}
+use Rattle.table_header.specs.Header.{position_words, put_position, leg_in, as_option, LegStored}
 
-pub position-is : (b : List ℕ) (i e n : ℕ) → e ≡ word_at b i → n ≡ word_at b (i + 2) → ◌≡◌ {A = Position} (record { east = e; north = n }) (positionWords b i)
-unfolding positionWords
-position-is b i e n he hn = λ j. record { east = he j; north = hn j }
+pub position_is : (b : List ℕ) (i e n : ℕ) → e ≡ word_at b i → n ≡ word_at b (i + 2) → ◌≡◌ {A = Position} (record { east = e; north = n }) (position_words b i)
+unfolding position_words
+position_is b i e n he hn = λ j. record { east = he j; north = hn j }
 
-pub unset-is : (b : List ℕ) (f : ℕ) → f ≡ word_at b flagStart → f ≡ 0 → asOption Standing.Unset ≡ legIn b
-unfolding legIn
-unset-is b f h z = rw (eq-eqb (word_at b flagStart) 0 (sym h ∙ z)) refl
+pub unset_is : (b : List ℕ) (f : ℕ) → f ≡ word_at b flag_start → f ≡ 0 → as_option Standing.Unset ≡ leg_in b
+unfolding leg_in
+unset_is b f h z = rw (eq-eqb (word_at b flag_start) 0 (sym h ∙ z)) refl
 
-pub along-is : (b : List ℕ) (f : ℕ) (p q : Position) → f ≡ word_at b flagStart → (f ≡ 0 → ⊥) → p ≡ positionWords b legStart → q ≡ positionWords b (legStart + 4)
-    → asOption (Standing.Along (record { s = p; e = q })) ≡ legIn b
-unfolding legIn
-along-is b f p q h nz hp hq = rw (ne_eqb (word_at b flagStart) 0 (λ e. nz (h ∙ e))) (λ j. some (record { s = hp j; e = hq j }))
+pub along_is : (b : List ℕ) (f : ℕ) (p q : Position) → f ≡ word_at b flag_start → (f ≡ 0 → ⊥) → p ≡ position_words b leg_start → q ≡ position_words b (leg_start + 4)
+    → as_option (Standing.Along (record { s = p; e = q })) ≡ leg_in b
+unfolding leg_in
+along_is b f p q h nz hp hq = rw (ne_eqb (word_at b flag_start) 0 (λ e. nz (h ∙ e))) (λ j. some (record { s = hp j; e = hq j }))
 
-pub position-stored : (p : Position) (b b₁ b₂ : List ℕ) (i : ℕ) → b₁ ≡ putWord b i p.east → b₂ ≡ putWord b₁ (i + 2) p.north → b₂ ≡ putPosition b i p
-unfolding putPosition
-position-stored p b b₁ b₂ i e₁ e₂ = e₂ ∙ ap (λ (x : List ℕ). putWord x (i + 2) p.north) e₁
+pub position_stored : (p : Position) (b b₁ b₂ : List ℕ) (i : ℕ) → b₁ ≡ put_word b i p.east → b₂ ≡ put_word b₁ (i + 2) p.north → b₂ ≡ put_position b i p
+unfolding put_position
+position_stored p b b₁ b₂ i e₁ e₂ = e₂ ∙ ap (λ (x : List ℕ). put_word x (i + 2) p.north) e₁
 
 -- a stored position
-pub only-position : (b : List ℕ) (i : ℕ) (p : Position) → Only i (i + 4) b (putPosition b i p)
-unfolding putPosition
-only-position b i p =
-    only-trans (only_wider (omega arith) (omega arith) (only-putWord b i p.east))
-    (only_wider (omega arith) (omega arith) (only-putWord (putWord b i p.east) (i + 2) p.north))
+pub only_position : (b : List ℕ) (i : ℕ) (p : Position) → Only i (i + 4) b (put_position b i p)
+unfolding put_position
+only_position b i p =
+    only_trans (only_wider (omega arith) (omega arith) (only_put_word b i p.east))
+    (only_wider (omega arith) (omega arith) (only_put_word (put_word b i p.east) (i + 2) p.north))
 
-pub position-put : (b : List ℕ) (i : ℕ) (p : Position) → i + 4 ≤ length b → positionWords (putPosition b i p) i ≡ p
-unfolding putPosition positionWords
-position-put b i p h =
-    let o = only-putWord b i p.east in
+pub position_put : (b : List ℕ) (i : ℕ) (p : Position) → i + 4 ≤ length b → position_words (put_position b i p) i ≡ p
+unfolding put_position position_words
+position_put b i p h =
+    let o = only_put_word b i p.east in
     λ j.
     record {
-      east = (word_low (only-putWord (putWord b i p.east) (i + 2) p.north) i (omega arith) ∙ word-putWord b i p.east (omega arith)) j;
-      north = word-putWord (putWord b i p.east) (i + 2) p.north (omega (arith, o.len)) j;
+      east = (word_low (only_put_word (put_word b i p.east) (i + 2) p.north) i (omega arith) ∙ word_put_word b i p.east (omega arith)) j;
+      north = word_put_word (put_word b i p.east) (i + 2) p.north (omega (arith, o.len)) j;
     }
 
-pub position-low : {lo hi : ℕ} {b b' : List ℕ} → Only lo hi b b' → (i : ℕ) → i + 4 ≤ lo → positionWords b' i ≡ positionWords b i
-unfolding positionWords
-position-low o i h = λ j. record { east = word_low o i (omega arith) j; north = word_low o (i + 2) (omega arith) j }
+pub position_low : {lo hi : ℕ} {b b' : List ℕ} → Only lo hi b b' → (i : ℕ) → i + 4 ≤ lo → position_words b' i ≡ position_words b i
+unfolding position_words
+position_low o i h = λ j. record { east = word_low o i (omega arith) j; north = word_low o (i + 2) (omega arith) j }
 
 -- THE STORED LEG is the standing leg
-pub leg-stored : (l : Leg) (b b₁ b₂ b₃ : List ℕ) → length b ≡ tableBytes → b₁ ≡ putWord b flagStart 1 → b₂ ≡ putPosition b₁ legStart l.s
-    → b₃ ≡ putPosition b₂ (legStart + 4) l.e → LegStored l b b₃
-unfolding legIn
-leg-stored l b b₁ b₂ b₃ len e₁ e₂ e₃ =
+pub leg_stored : (l : Leg) (b b₁ b₂ b₃ : List ℕ) → length b ≡ table_bytes → b₁ ≡ put_word b flag_start 1 → b₂ ≡ put_position b₁ leg_start l.s
+    → b₃ ≡ put_position b₂ (leg_start + 4) l.e → LegStored l b b₃
+unfolding leg_in
+leg_stored l b b₁ b₂ b₃ len e₁ e₂ e₃ =
     record {
-      leg = rw (ne_eqb (word_at b₃ flagStart) 0 (λ e. omega (arith, flag))) (λ i. some (record { s = from i; e = to i }));
+      leg = rw (ne_eqb (word_at b₃ flag_start) 0 (λ e. omega (arith, flag))) (λ i. some (record { s = from i; e = to i }));
       flag = flag;
-      only = only-trans (only_wider (omega arith) (omega arith) o₁) (only-trans (only_wider (omega arith) (omega arith) o₂) (only_wider (omega arith) (omega arith) o₃));
+      only = only_trans (only_wider (omega arith) (omega arith) o₁) (only_trans (only_wider (omega arith) (omega arith) o₂) (only_wider (omega arith) (omega arith) o₃));
     }
   where
-    o₁ : Only flagStart (flagStart + 2) b b₁
-    o₁ = rw e₁ (only-putWord b flagStart 1)
+    o₁ : Only flag_start (flag_start + 2) b b₁
+    o₁ = rw e₁ (only_put_word b flag_start 1)
 
-    o₂ : Only legStart (legStart + 4) b₁ b₂
-    o₂ = rw e₂ (only-position b₁ legStart l.s)
+    o₂ : Only leg_start (leg_start + 4) b₁ b₂
+    o₂ = rw e₂ (only_position b₁ leg_start l.s)
 
-    o₃ : Only (legStart + 4) (legStart + 8) b₂ b₃
-    o₃ = rw e₃ (only-position b₂ (legStart + 4) l.e)
+    o₃ : Only (leg_start + 4) (leg_start + 8) b₂ b₃
+    o₃ = rw e₃ (only_position b₂ (leg_start + 4) l.e)
 
-    flag : word_at b₃ flagStart ≡ 1
+    flag : word_at b₃ flag_start ≡ 1
     flag =
-        word_low o₃ flagStart (omega arith) ∙ word_low o₂ flagStart (omega arith) ∙ ap (λ (x : List ℕ). word_at x flagStart) e₁
-        ∙ word-putWord b flagStart 1 (omega arith)
+        word_low o₃ flag_start (omega arith) ∙ word_low o₂ flag_start (omega arith) ∙ ap (λ (x : List ℕ). word_at x flag_start) e₁
+        ∙ word_put_word b flag_start 1 (omega arith)
 
-    from : positionWords b₃ legStart ≡ l.s
-    from = position-low o₃ legStart (omega arith) ∙ ap (λ (x : List ℕ). positionWords x legStart) e₂ ∙ position-put b₁ legStart l.s (omega (arith, o₁.len))
+    from : position_words b₃ leg_start ≡ l.s
+    from = position_low o₃ leg_start (omega arith) ∙ ap (λ (x : List ℕ). position_words x leg_start) e₂ ∙ position_put b₁ leg_start l.s (omega (arith, o₁.len))
 
-    to : positionWords b₃ (legStart + 4) ≡ l.e
-    to = ap (λ (x : List ℕ). positionWords x (legStart + 4)) e₃ ∙ position-put b₂ (legStart + 4) l.e (omega (arith, o₁.len, o₂.len))
+    to : position_words b₃ (leg_start + 4) ≡ l.e
+    to = ap (λ (x : List ℕ). position_words x (leg_start + 4)) e₃ ∙ position_put b₂ (leg_start + 4) l.e (omega (arith, o₁.len, o₂.len))

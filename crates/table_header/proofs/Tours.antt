@@ -7,97 +7,97 @@ use Prim.Native.Nat.{ℕ, ◌+◌}
 use native.Mathlib.Omega.{arith}
 use lib.ListN.{length}
 use borrow.Author.Tests.{eq-eqb, ne_eqb}
-use Rattle.limits.specs.Limits.{tableBytes}
-use Rattle.words.specs.Words.{word_at, putWord, Only}
-use Rattle.words.proofs.Frame.{only-trans, only_wider, only-putWord, word-putWord, word_low}
+use Rattle.limits.specs.Limits.{table_bytes}
+use Rattle.words.specs.Words.{word_at, put_word, Only}
+use Rattle.words.proofs.Frame.{only_trans, only_wider, only_put_word, word_put_word, word_low}
 use Rattle.grid.specs.declared.Position.{Position}
 use Rattle.table_header.specs.declared.Touring.{Touring}
-use Rattle.table_header.specs.Layout.{tourStart, cornerStart, lastStart, tourEnd}
-use Rattle.table_header.specs.Header.{positionWords, putPosition, tourAt, tourIn, touringAs, putTour, TourStored}
-use Rattle.table_header.proofs.Zeros.{zero_word, zero-both}
-use Rattle.table_header.proofs.Legs.{only-position, position-put, position-low}
+use Rattle.table_header.specs.Layout.{tour_start, corner_start, last_start, tour_end}
+use Rattle.table_header.specs.Header.{position_words, put_position, tour_at, tour_in, touring_as, put_tour, TourStored}
+use Rattle.table_header.proofs.Zeros.{zero_word, zero_both}
+use Rattle.table_header.proofs.Legs.{only_position, position_put, position_low}
 
-pub idle-is : (b : List ℕ) (f : ℕ) → f ≡ word_at b tourStart → f ≡ 0 → touringAs Touring.Idle ≡ tourIn b
-unfolding tourIn
-idle-is b f h z = rw (eq-eqb (word_at b tourStart) 0 (sym h ∙ z)) refl
+pub idle_is : (b : List ℕ) (f : ℕ) → f ≡ word_at b tour_start → f ≡ 0 → touring_as Touring.Idle ≡ tour_in b
+unfolding tour_in
+idle_is b f h z = rw (eq-eqb (word_at b tour_start) 0 (sym h ∙ z)) refl
 
-pub from_is : (b : List ℕ) (f : ℕ) (p : Position) (n : ℕ) → f ≡ word_at b tourStart → (f ≡ 0 → ⊥) → p ≡ positionWords b cornerStart → n ≡ word_at b lastStart
-    → touringAs (Touring.From p n) ≡ tourIn b
-unfolding tourIn
-from_is b f p n h nz hp hn = rw (ne_eqb (word_at b tourStart) 0 (λ e. nz (h ∙ e))) (λ j. some (tourAt (hp j) (hn j)))
+pub from_is : (b : List ℕ) (f : ℕ) (p : Position) (n : ℕ) → f ≡ word_at b tour_start → (f ≡ 0 → ⊥) → p ≡ position_words b corner_start → n ≡ word_at b last_start
+    → touring_as (Touring.From p n) ≡ tour_in b
+unfolding tour_in
+from_is b f p n h nz hp hn = rw (ne_eqb (word_at b tour_start) 0 (λ e. nz (h ∙ e))) (λ j. some (tour_at (hp j) (hn j)))
 
-pub tour-put : (b b₁ b₂ b₃ : List ℕ) (f : ℕ) (p : Position) (n : ℕ) → b₁ ≡ putWord b tourStart f → b₂ ≡ putPosition b₁ cornerStart p → b₃ ≡ putWord b₂ lastStart n
-    → b₃ ≡ putTour b f p n
-unfolding putTour
-tour-put b b₁ b₂ b₃ f p n e₁ e₂ e₃ = e₃ ∙ (λ i. putWord ((e₂ ∙ ap (λ (x : List ℕ). putPosition x cornerStart p) e₁) i) lastStart n)
+pub tour_put : (b b₁ b₂ b₃ : List ℕ) (f : ℕ) (p : Position) (n : ℕ) → b₁ ≡ put_word b tour_start f → b₂ ≡ put_position b₁ corner_start p → b₃ ≡ put_word b₂ last_start n
+    → b₃ ≡ put_tour b f p n
+unfolding put_tour
+tour_put b b₁ b₂ b₃ f p n e₁ e₂ e₃ = e₃ ∙ (λ i. put_word ((e₂ ∙ ap (λ (x : List ℕ). put_position x corner_start p) e₁) i) last_start n)
 
-module _ (b : List ℕ) (f : ℕ) (p : Position) (n : ℕ) (len : length b ≡ tableBytes) where
+module _ (b : List ℕ) (f : ℕ) (p : Position) (n : ℕ) (len : length b ≡ table_bytes) where
   b₁ : List ℕ
-  b₁ = putWord b tourStart f
+  b₁ = put_word b tour_start f
 
   b₂ : List ℕ
-  b₂ = putPosition b₁ cornerStart p
+  b₂ = put_position b₁ corner_start p
 
   b₃ : List ℕ
-  b₃ = putWord b₂ lastStart n
+  b₃ = put_word b₂ last_start n
 
-  o₁ : Only tourStart (tourStart + 2) b b₁
+  o₁ : Only tour_start (tour_start + 2) b b₁
   unfolding b₁
-  o₁ = only-putWord b tourStart f
+  o₁ = only_put_word b tour_start f
 
-  o₂ : Only cornerStart (cornerStart + 4) b₁ b₂
+  o₂ : Only corner_start (corner_start + 4) b₁ b₂
   unfolding b₂
-  o₂ = only-position b₁ cornerStart p
+  o₂ = only_position b₁ corner_start p
 
-  o₃ : Only lastStart (lastStart + 2) b₂ b₃
+  o₃ : Only last_start (last_start + 2) b₂ b₃
   unfolding b₃
-  o₃ = only-putWord b₂ lastStart n
+  o₃ = only_put_word b₂ last_start n
 
   -- nothing else is changed
-  put_only : Only tourStart tourEnd b (putTour b f p n)
-  unfolding putTour b₁ b₂ b₃
-  put_only = only-trans (only_wider (omega arith) (omega arith) o₁) (only-trans (only_wider (omega arith) (omega arith) o₂) (only_wider (omega arith) (omega arith) o₃))
+  put_only : Only tour_start tour_end b (put_tour b f p n)
+  unfolding put_tour b₁ b₂ b₃
+  put_only = only_trans (only_wider (omega arith) (omega arith) o₁) (only_trans (only_wider (omega arith) (omega arith) o₂) (only_wider (omega arith) (omega arith) o₃))
 
-  put-flag : word_at (putTour b f p n) tourStart ≡ f
-  unfolding putTour b₁ b₂ b₃
-  put-flag = word_low o₃ tourStart (omega arith) ∙ word_low o₂ tourStart (omega arith) ∙ word-putWord b tourStart f (omega arith)
+  put_flag : word_at (put_tour b f p n) tour_start ≡ f
+  unfolding put_tour b₁ b₂ b₃
+  put_flag = word_low o₃ tour_start (omega arith) ∙ word_low o₂ tour_start (omega arith) ∙ word_put_word b tour_start f (omega arith)
 
-  put-corner : positionWords (putTour b f p n) cornerStart ≡ p
-  unfolding putTour b₁ b₂ b₃
-  put-corner = position-low o₃ cornerStart (omega arith) ∙ position-put b₁ cornerStart p (omega (arith, o₁.len))
+  put_corner : position_words (put_tour b f p n) corner_start ≡ p
+  unfolding put_tour b₁ b₂ b₃
+  put_corner = position_low o₃ corner_start (omega arith) ∙ position_put b₁ corner_start p (omega (arith, o₁.len))
 
-  put_last : word_at (putTour b f p n) lastStart ≡ n
-  unfolding putTour b₁ b₂ b₃
-  put_last = word-putWord b₂ lastStart n (omega (arith, o₁.len, o₂.len))
+  put_last : word_at (put_tour b f p n) last_start ≡ n
+  unfolding put_tour b₁ b₂ b₃
+  put_last = word_put_word b₂ last_start n (omega (arith, o₁.len, o₂.len))
 
 -- THE TOUR STORED is the tour under way
-pub tour-stored : (b b' : List ℕ) (p : Position) (n : ℕ) → length b ≡ tableBytes → b' ≡ putTour b 1 p n → TourStored (some (tourAt p n)) b b'
-unfolding tourIn
-tour-stored b b' p n len e =
+pub tour_stored : (b b' : List ℕ) (p : Position) (n : ℕ) → length b ≡ table_bytes → b' ≡ put_tour b 1 p n → TourStored (some (tour_at p n)) b b'
+unfolding tour_in
+tour_stored b b' p n len e =
     rw e
     (record {
-      tour = rw (ne_eqb (word_at (putTour b 1 p n) tourStart) 0 (λ z. omega (arith, put-flag b 1 p n len)))
-          (λ i. some (tourAt (put-corner b 1 p n len i) (put_last b 1 p n len i)));
-      layout = record { flag = omega (arith, put-flag b 1 p n len); unset = λ z. absurd (omega (arith, put-flag b 1 p n len)) };
+      tour = rw (ne_eqb (word_at (put_tour b 1 p n) tour_start) 0 (λ z. omega (arith, put_flag b 1 p n len)))
+          (λ i. some (tour_at (put_corner b 1 p n len i) (put_last b 1 p n len i)));
+      layout = record { flag = omega (arith, put_flag b 1 p n len); unset = λ z. absurd (omega (arith, put_flag b 1 p n len)) };
       only = put_only b 1 p n len;
     })
 
 -- A TOUR ENDED leaves zeros
-pub tour-ended : (b b' : List ℕ) (p : Position) → length b ≡ tableBytes → p.east ≡ 0 → p.north ≡ 0 → b' ≡ putTour b 0 p 0 → TourStored none b b'
-unfolding tourIn positionWords
-tour-ended b b' p len pe pn e =
+pub tour_ended : (b b' : List ℕ) (p : Position) → length b ≡ table_bytes → p.east ≡ 0 → p.north ≡ 0 → b' ≡ put_tour b 0 p 0 → TourStored none b b'
+unfolding tour_in position_words
+tour_ended b b' p len pe pn e =
     rw e
     (record {
-      tour = rw (eq-eqb (word_at (putTour b 0 p 0) tourStart) 0 (put-flag b 0 p 0 len)) refl;
+      tour = rw (eq-eqb (word_at (put_tour b 0 p 0) tour_start) 0 (put_flag b 0 p 0 len)) refl;
       layout = record {
-        flag = omega (arith, put-flag b 0 p 0 len);
+        flag = omega (arith, put_flag b 0 p 0 len);
         unset = λ z.
-            zero-both (putTour b 0 p 0) cornerStart (cornerStart + 2) tourEnd (zero_word (putTour b 0 p 0) cornerStart (ap (λ (x : Position). x.east) corner ∙ pe))
-            (zero-both (putTour b 0 p 0) (cornerStart + 2) lastStart tourEnd (zero_word (putTour b 0 p 0) (cornerStart + 2) (ap (λ (x : Position). x.north) corner ∙ pn))
-            (zero_word (putTour b 0 p 0) lastStart (put_last b 0 p 0 len)));
+            zero_both (put_tour b 0 p 0) corner_start (corner_start + 2) tour_end (zero_word (put_tour b 0 p 0) corner_start (ap (λ (x : Position). x.east) corner ∙ pe))
+            (zero_both (put_tour b 0 p 0) (corner_start + 2) last_start tour_end (zero_word (put_tour b 0 p 0) (corner_start + 2) (ap (λ (x : Position). x.north) corner ∙ pn))
+            (zero_word (put_tour b 0 p 0) last_start (put_last b 0 p 0 len)));
       };
       only = put_only b 0 p 0 len;
     })
   where
-    corner : positionWords (putTour b 0 p 0) cornerStart ≡ p
-    corner = put-corner b 0 p 0 len
+    corner : position_words (put_tour b 0 p 0) corner_start ≡ p
+    corner = put_corner b 0 p 0 len

@@ -11,8 +11,8 @@ use lib.Dec.{eqb}
 use borrow.Author.Tests.{eqb-true, eqb-false}
 use Rattle.words.specs.Words.{word_at}
 use Rattle.grid.specs.Says.{Says}
-use Rattle.grid.proofs.Says.{says-yes, says-no, says_map}
-use Rattle.table_header.specs.Layout.{flagStart, legStart, lengthStart, layoutStart, layoutNumber, tourStart, cornerStart, tourEnd, keptStart, keptEnd}
+use Rattle.grid.proofs.Says.{says_yes, says_no, says_map}
+use Rattle.table_header.specs.Layout.{flag_start, leg_start, length_start, layout_start, layout_number, tour_start, corner_start, tour_end, kept_start, kept_end}
 use Rattle.table_header.specs.Header.{ZeroFrom, FlagOk, HeaderOk}
 
 -- the bytes from lo up to i are 0
@@ -20,25 +20,25 @@ pub record Zeroing (b : List ℕ) (lo hi i : ℕ) : Type 0 where
   pub from : lo ≤ i
   pub so_far : ZeroFrom b lo i
 
-pub zeroing-none : (b : List ℕ) (lo hi : ℕ) → Zeroing b lo hi lo
+pub zeroing_none : (b : List ℕ) (lo hi : ℕ) → Zeroing b lo hi lo
 unfolding ZeroFrom
-zeroing-none b lo hi = record { from = omega arith; so_far = λ i h k. absurd (omega arith) }
+zeroing_none b lo hi = record { from = omega arith; so_far = λ i h k. absurd (omega arith) }
 
-pub zeroing-one : (b : List ℕ) (lo hi i : ℕ) → Zeroing b lo hi i → get_or b i 0 ≡ 0 → Zeroing b lo hi (i + 1)
+pub zeroing_one : (b : List ℕ) (lo hi i : ℕ) → Zeroing b lo hi i → get_or b i 0 ≡ 0 → Zeroing b lo hi (i + 1)
 unfolding ZeroFrom
-zeroing-one b lo hi i z h = record { from = omega (arith, z.from); so_far = λ j p q. go j p q (dec_lt j i) }
+zeroing_one b lo hi i z h = record { from = omega (arith, z.from); so_far = λ j p q. go j p q (dec_lt j i) }
   where
     go : (j : ℕ) → lo ≤ j → j < i + 1 → Dec (j < i) → get_or b j 0 ≡ 0
     go j p q (yes k) = z.so_far j p k
     go j p q (no k) = let e : j ≡ i = omega arith in rw e h
 
-pub zeroing-all : (b : List ℕ) (lo hi i : ℕ) → Zeroing b lo hi i → hi ≤ i → ZeroFrom b lo hi
+pub zeroing_all : (b : List ℕ) (lo hi i : ℕ) → Zeroing b lo hi i → hi ≤ i → ZeroFrom b lo hi
 unfolding ZeroFrom
-zeroing-all b lo hi i z h j p q = z.so_far j p (omega arith)
+zeroing_all b lo hi i z h j p q = z.so_far j p (omega arith)
 
-pub not-zero : (b : List ℕ) (lo hi i : ℕ) → Zeroing b lo hi i → i < hi → (get_or b i 0 ≡ 0 → ⊥) → ¬ ZeroFrom b lo hi
+pub not_zero : (b : List ℕ) (lo hi i : ℕ) → Zeroing b lo hi i → i < hi → (get_or b i 0 ≡ 0 → ⊥) → ¬ ZeroFrom b lo hi
 unfolding ZeroFrom
-not-zero b lo hi i z l h k = h (k i z.from l)
+not_zero b lo hi i z l h k = h (k i z.from l)
 
 -- ---- zero words
 
@@ -52,9 +52,9 @@ zero_word b i h j p q = go (dec_lt j (i + 1))
     go (no k) = let e : j ≡ i + 1 = omega arith in rw e (omega arith)
 
 -- zeros behind each other
-pub zero-both : (b : List ℕ) (lo mid hi : ℕ) → ZeroFrom b lo mid → ZeroFrom b mid hi → ZeroFrom b lo hi
+pub zero_both : (b : List ℕ) (lo mid hi : ℕ) → ZeroFrom b lo mid → ZeroFrom b mid hi → ZeroFrom b lo hi
 unfolding ZeroFrom
-zero-both b lo mid hi f g j p q = go (dec_lt j mid)
+zero_both b lo mid hi f g j p q = go (dec_lt j mid)
   where
     go : Dec (j < mid) → get_or b j 0 ≡ 0
     go (yes k) = f j p k
@@ -63,11 +63,11 @@ zero-both b lo mid hi f g j p q = go (dec_lt j mid)
 -- ---- a flag and what it is for
 
 module _ (b : List ℕ) (i lo hi f : ℕ) (e : f ≡ word_at b i) where
-  pub unset-ok : (r : Bool) → f ≡ 0 → Says r (ZeroFrom b lo hi) → Says r (FlagOk b i lo hi)
-  unset-ok r z h = says_map r (λ k. record { flag = omega arith; unset = λ y. k }) (λ g. g.unset (sym e ∙ z)) h
+  pub unset_ok : (r : Bool) → f ≡ 0 → Says r (ZeroFrom b lo hi) → Says r (FlagOk b i lo hi)
+  unset_ok r z h = says_map r (λ k. record { flag = omega arith; unset = λ y. k }) (λ g. g.unset (sym e ∙ z)) h
 
-  pub set-ok : (f ≡ 0 → ⊥) → Says (eqb f 1) (FlagOk b i lo hi)
-  set-ok nz = go (eqb f 1) refl
+  pub set_ok : (f ≡ 0 → ⊥) → Says (eqb f 1) (FlagOk b i lo hi)
+  set_ok nz = go (eqb f 1) refl
     where
       go : (t : Bool) → eqb f 1 ≡ t → Says t (FlagOk b i lo hi)
       go true k = let one = eqb-true f 1 k in record { flag = omega arith; unset = λ y. absurd (nz (e ∙ y)) }
@@ -75,14 +75,14 @@ module _ (b : List ℕ) (i lo hi f : ℕ) (e : f ≡ word_at b i) where
 
 -- ---- the header
 
-module _ (b : List ℕ) (q : Bool) (s : Says q (FlagOk b flagStart legStart lengthStart)) where
-  pub leg-left : q ≡ false → ¬ HeaderOk b
-  leg-left x h = says-no q s x h.leg
+module _ (b : List ℕ) (q : Bool) (s : Says q (FlagOk b flag_start leg_start length_start)) where
+  pub leg_left : q ≡ false → ¬ HeaderOk b
+  leg_left x h = says_no q s x h.leg
 
-  module _ (y : q ≡ true) (p : Bool) (u : Says p (FlagOk b tourStart cornerStart tourEnd)) where
-    pub tour-left : p ≡ false → ¬ HeaderOk b
-    tour-left x h = says-no p u x h.tour
+  module _ (y : q ≡ true) (p : Bool) (u : Says p (FlagOk b tour_start corner_start tour_end)) where
+    pub tour_left : p ≡ false → ¬ HeaderOk b
+    tour_left x h = says_no p u x h.tour
 
-    pub header-says : (n : ℕ) (r : Bool) → n ≡ word_at b layoutStart → n ≡ layoutNumber → p ≡ true → Says r (ZeroFrom b keptStart keptEnd) → Says r (HeaderOk b)
-    header-says n r a m z k =
-        says_map r (λ x. record { layout = sym a ∙ m; leg = says-yes q s y; tour = says-yes p u z; kept = x }) (λ h. h.kept) k
+    pub header_says : (n : ℕ) (r : Bool) → n ≡ word_at b layout_start → n ≡ layout_number → p ≡ true → Says r (ZeroFrom b kept_start kept_end) → Says r (HeaderOk b)
+    header_says n r a m z k =
+        says_map r (λ x. record { layout = sym a ∙ m; leg = says_yes q s y; tour = says_yes p u z; kept = x }) (λ h. h.kept) k

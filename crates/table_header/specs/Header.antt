@@ -3,39 +3,39 @@
 -- Assumes nothing.
 use Rattle.std.specs.Prelude.{◌≡◌, List, cond, ℕ, ◌+◌, ◌≤◌, ◌<◌, get_or, eqb}
 use Rattle.std.proofs.Math.Option.{Option, none, some}
-use Rattle.words.specs.Words.{word_at, putWord, Only}
+use Rattle.words.specs.Words.{word_at, put_word, Only}
 use Rattle.grid.specs.declared.Position.{Position}
 use Rattle.grid.specs.declared.Leg.{Leg}
 use Rattle.book.specs.Tour.{Tour}
 use Rattle.table_header.specs.declared.Standing.{Standing}
 use Rattle.table_header.specs.declared.Touring.{Touring}
-use Rattle.table_header.specs.Layout.{countStart, flagStart, legStart, lengthStart, layoutStart, layoutNumber}
-use Rattle.table_header.specs.Layout.{tourStart, cornerStart, lastStart, tourEnd, keptStart, keptEnd}
+use Rattle.table_header.specs.Layout.{count_start, flag_start, leg_start, length_start, layout_start, layout_number}
+use Rattle.table_header.specs.Layout.{tour_start, corner_start, last_start, tour_end, kept_start, kept_end}
 
 -- the number of sites
-abbrev pub countIn : List ℕ → ℕ
-countIn b = word_at b countStart
+abbrev pub count_in : List ℕ → ℕ
+count_in b = word_at b count_start
 
 -- the position whose two words stand at byte i
-unfoldable pub positionWords : List ℕ → ℕ → Position
-positionWords b i = record { east = word_at b i; north = word_at b (i + 2) }
+unfoldable pub position_words : List ℕ → ℕ → Position
+position_words b i = record { east = word_at b i; north = word_at b (i + 2) }
 
 -- the leg whose words stand at the leg's bytes
-abbrev pub legWords : List ℕ → Leg
-legWords b = record { s = positionWords b legStart; e = positionWords b (legStart + 4) }
+abbrev pub leg_words : List ℕ → Leg
+leg_words b = record { s = position_words b leg_start; e = position_words b (leg_start + 4) }
 
 -- the standing leg, or none
-unfoldable pub legIn : List ℕ → Option Leg
-legIn b = cond (eqb (word_at b flagStart) 0) none (some (legWords b))
+unfoldable pub leg_in : List ℕ → Option Leg
+leg_in b = cond (eqb (word_at b flag_start) 0) none (some (leg_words b))
 
 -- the code's answer, as a leg or none
-abbrev pub asOption : Standing → Option Leg
-asOption Standing.Unset = none
-asOption (Standing.Along l) = some l
+abbrev pub as_option : Standing → Option Leg
+as_option Standing.Unset = none
+as_option (Standing.Along l) = some l
 
 -- the number of entries of the standing list
-abbrev pub lengthIn : List ℕ → ℕ
-lengthIn b = word_at b lengthStart
+abbrev pub length_in : List ℕ → ℕ
+length_in b = word_at b length_start
 
 -- every byte from lo up to hi is 0
 unfoldable pub ZeroFrom : List ℕ → ℕ → ℕ → Type 0
@@ -49,44 +49,44 @@ pub record FlagOk (b : List ℕ) (i lo hi : ℕ) : Type 0 where
 -- the layout of the header: its number is this layout's, without a standing leg its words are 0, without a tour its
 -- words are 0, and what is kept for later is 0
 pub record HeaderOk (b : List ℕ) : Type 0 where
-  pub layout : word_at b layoutStart ≡ layoutNumber
-  pub leg : FlagOk b flagStart legStart lengthStart
-  pub tour : FlagOk b tourStart cornerStart tourEnd
-  pub kept : ZeroFrom b keptStart keptEnd
+  pub layout : word_at b layout_start ≡ layout_number
+  pub leg : FlagOk b flag_start leg_start length_start
+  pub tour : FlagOk b tour_start corner_start tour_end
+  pub kept : ZeroFrom b kept_start kept_end
 
 -- b with a position's two words stored at byte i
-unfoldable pub putPosition : List ℕ → ℕ → Position → List ℕ
-putPosition b i p = putWord (putWord b i p.east) (i + 2) p.north
+unfoldable pub put_position : List ℕ → ℕ → Position → List ℕ
+put_position b i p = put_word (put_word b i p.east) (i + 2) p.north
 
 -- the leg is stored, and nothing else is changed
 pub record LegStored (l : Leg) (b b' : List ℕ) : Type 0 where
-  pub leg : legIn b' ≡ some l
-  pub flag : word_at b' flagStart ≡ 1
-  pub only : Only flagStart lengthStart b b'
+  pub leg : leg_in b' ≡ some l
+  pub flag : word_at b' flag_start ≡ 1
+  pub only : Only flag_start length_start b b'
 
 -- the number of a site, or none where it is 0: site numbers begin at 1
-abbrev pub siteNumber : ℕ → Option ℕ
-siteNumber n = cond (eqb n 0) none (some n)
+abbrev pub site_number : ℕ → Option ℕ
+site_number n = cond (eqb n 0) none (some n)
 
 -- the tour whose last corner is p and in which n is remembered
-abbrev pub tourAt : Position → ℕ → Tour
-tourAt p n = record { corner = p; last = siteNumber n }
+abbrev pub tour_at : Position → ℕ → Tour
+tour_at p n = record { corner = p; last = site_number n }
 
 -- the tour that is under way, or none
-unfoldable pub tourIn : List ℕ → Option Tour
-tourIn b = cond (eqb (word_at b tourStart) 0) none (some (tourAt (positionWords b cornerStart) (word_at b lastStart)))
+unfoldable pub tour_in : List ℕ → Option Tour
+tour_in b = cond (eqb (word_at b tour_start) 0) none (some (tour_at (position_words b corner_start) (word_at b last_start)))
 
 -- the code's answer, as a tour or none
-abbrev pub touringAs : Touring → Option Tour
-touringAs Touring.Idle = none
-touringAs (Touring.From p n) = some (tourAt p n)
+abbrev pub touring_as : Touring → Option Tour
+touring_as Touring.Idle = none
+touring_as (Touring.From p n) = some (tour_at p n)
 
 -- b with a tour's words stored: flag, corner, number
-unfoldable pub putTour : List ℕ → ℕ → Position → ℕ → List ℕ
-putTour b f p n = putWord (putPosition (putWord b tourStart f) cornerStart p) lastStart n
+unfoldable pub put_tour : List ℕ → ℕ → Position → ℕ → List ℕ
+put_tour b f p n = put_word (put_position (put_word b tour_start f) corner_start p) last_start n
 
 -- the tour or none is stored as the layout has it, and nothing else is changed
 pub record TourStored (o : Option Tour) (b b' : List ℕ) : Type 0 where
-  pub tour : tourIn b' ≡ o
-  pub layout : FlagOk b' tourStart cornerStart tourEnd
-  pub only : Only tourStart tourEnd b b'
+  pub tour : tour_in b' ≡ o
+  pub layout : FlagOk b' tour_start corner_start tour_end
+  pub only : Only tour_start tour_end b b'

@@ -2,13 +2,13 @@
 // the tour, and the bytes that are kept for later: docs/LAYOUT.md. Each field is read and written here and nowhere
 // else, but that laying out first sets the whole table to 0.
 ghost use Rattle.std.specs.Prelude.{◌≡◌, ◌+◌, ◌<◌, ◌≤◌, length};
-ghost use Rattle.limits.specs.Limits.{tableBytes};
-ghost use Rattle.words.specs.Words.{putWord};
+ghost use Rattle.limits.specs.Limits.{table_bytes};
+ghost use Rattle.words.specs.Words.{put_word};
 ghost use Rattle.grid.specs.Says.{Says};
-ghost use Rattle.table_header.specs.Layout.{countStart, lengthStart, layoutStart, layoutNumber};
-ghost use Rattle.table_header.specs.Header.{countIn, lengthIn, positionWords, putPosition, legIn, asOption};
+ghost use Rattle.table_header.specs.Layout.{count_start, length_start, layout_start, layout_number};
+ghost use Rattle.table_header.specs.Header.{count_in, length_in, position_words, put_position, leg_in, as_option};
 ghost use Rattle.table_header.specs.Header.{LegStored, ZeroFrom, FlagOk, HeaderOk};
-ghost use Rattle.table_header.specs.Header.{tourAt, tourIn, touringAs, putTour, TourStored};
+ghost use Rattle.table_header.specs.Header.{tour_at, tour_in, touring_as, put_tour, TourStored};
 ghost use Rattle.std.proofs.Math.Option.{none, some};
 
 use grid::{Leg, Position};
@@ -56,16 +56,16 @@ const LAYOUT_NUMBER: u16 = 3;
 
 // The number of sites.
 pub fn count(t: &[u8]) -> usize
-    requires { length t.now ≡ tableBytes }
-    ensures { (result ≡ countIn t.now) × (result < 65536) }
+    requires { length t.now ≡ table_bytes }
+    ensures { (result ≡ count_in t.now) × (result < 65536) }
 {
     words::word(t, COUNT_START) as usize
 }
 
 // Stores the number of sites.
 pub fn put_count(t: &mut [u8], n: u16)
-    requires { length t.old ≡ tableBytes }
-    ensures { t.new ≡ putWord t.old countStart n }
+    requires { length t.old ≡ table_bytes }
+    ensures { t.new ≡ put_word t.old count_start n }
 {
     words::put_word(t, COUNT_START, n);
 }
@@ -73,7 +73,7 @@ pub fn put_count(t: &mut [u8], n: u16)
 // The position whose two words stand at byte i.
 fn position_at(t: &[u8], i: usize) -> Position
     requires { i + 4 ≤ length t.now }
-    ensures { result ≡ positionWords t.now i }
+    ensures { result ≡ position_words t.now i }
 {
     let east = words::word(t, i);
     let north = words::word(t, i + 2);
@@ -85,8 +85,8 @@ fn position_at(t: &[u8], i: usize) -> Position
 
 // The standing leg.
 pub fn leg(t: &[u8]) -> Standing
-    requires { length t.now ≡ tableBytes }
-    ensures { asOption result ≡ legIn t.now }
+    requires { length t.now ≡ table_bytes }
+    ensures { as_option result ≡ leg_in t.now }
 {
     let flag = words::word(t, FLAG_START);
     if flag == 0 {
@@ -100,7 +100,7 @@ pub fn leg(t: &[u8]) -> Standing
 // Stores a position's two words at byte i.
 fn store_position(t: &mut [u8], i: usize, p: Position)
     requires { i + 4 ≤ length t.old }
-    ensures { t.new ≡ putPosition t.old i p }
+    ensures { t.new ≡ put_position t.old i p }
 {
     words::put_word(t, i, p.east);
     words::put_word(t, i + 2, p.north);
@@ -108,7 +108,7 @@ fn store_position(t: &mut [u8], i: usize, p: Position)
 
 // Stores the standing leg.
 pub fn store_leg(t: &mut [u8], leg: Leg)
-    requires { length t.old ≡ tableBytes }
+    requires { length t.old ≡ table_bytes }
     ensures { LegStored leg t.old t.new }
 {
     words::put_word(t, FLAG_START, 1);
@@ -118,24 +118,24 @@ pub fn store_leg(t: &mut [u8], leg: Leg)
 
 // The number of entries of the standing list.
 pub fn length(t: &[u8]) -> usize
-    requires { length t.now ≡ tableBytes }
-    ensures { (result ≡ lengthIn t.now) × (result < 65536) }
+    requires { length t.now ≡ table_bytes }
+    ensures { (result ≡ length_in t.now) × (result < 65536) }
 {
     words::word(t, LENGTH_START) as usize
 }
 
 // Stores it.
 pub fn put_length(t: &mut [u8], k: u16)
-    requires { length t.old ≡ tableBytes }
-    ensures { t.new ≡ putWord t.old lengthStart k }
+    requires { length t.old ≡ table_bytes }
+    ensures { t.new ≡ put_word t.old length_start k }
 {
     words::put_word(t, LENGTH_START, k);
 }
 
 // Stores the layout's number.
 pub fn put_layout(t: &mut [u8])
-    requires { length t.old ≡ tableBytes }
-    ensures { t.new ≡ putWord t.old layoutStart layoutNumber }
+    requires { length t.old ≡ table_bytes }
+    ensures { t.new ≡ put_word t.old layout_start layout_number }
 {
     words::put_word(t, LAYOUT_START, LAYOUT_NUMBER);
 }
@@ -169,7 +169,7 @@ fn flag_ok(t: &[u8], i: usize, lo: usize, hi: usize) -> bool
 
 // Whether the header keeps its layout.
 pub fn header_ok(t: &[u8]) -> bool
-    requires { length t.now ≡ tableBytes }
+    requires { length t.now ≡ table_bytes }
     ensures { Says result (HeaderOk t.now) }
 {
     let layout = words::word(t, LAYOUT_START);
@@ -186,8 +186,8 @@ pub fn header_ok(t: &[u8]) -> bool
 
 // The tour.
 pub fn tour(t: &[u8]) -> Touring
-    requires { length t.now ≡ tableBytes }
-    ensures { touringAs result ≡ tourIn t.now }
+    requires { length t.now ≡ table_bytes }
+    ensures { touring_as result ≡ tour_in t.now }
 {
     let flag = words::word(t, TOUR_START);
     if flag == 0 {
@@ -200,8 +200,8 @@ pub fn tour(t: &[u8]) -> Touring
 
 // Stores a tour's words: flag, corner, number.
 fn put_tour(t: &mut [u8], flag: u16, corner: Position, last: u16)
-    requires { length t.old ≡ tableBytes }
-    ensures { t.new ≡ putTour t.old flag corner last }
+    requires { length t.old ≡ table_bytes }
+    ensures { t.new ≡ put_tour t.old flag corner last }
 {
     words::put_word(t, TOUR_START, flag);
     store_position(t, CORNER_START, corner);
@@ -210,15 +210,15 @@ fn put_tour(t: &mut [u8], flag: u16, corner: Position, last: u16)
 
 // Stores the tour: its last corner, and the number that is remembered.
 pub fn store_tour(t: &mut [u8], corner: Position, last: u16)
-    requires { length t.old ≡ tableBytes }
-    ensures { TourStored (some (tourAt corner last)) t.old t.new }
+    requires { length t.old ≡ table_bytes }
+    ensures { TourStored (some (tour_at corner last)) t.old t.new }
 {
     put_tour(t, 1, corner, last);
 }
 
 // Ends the tour.
 pub fn end_tour(t: &mut [u8])
-    requires { length t.old ≡ tableBytes }
+    requires { length t.old ≡ table_bytes }
     ensures { TourStored none t.old t.new }
 {
     let nowhere = Position { east: 0, north: 0 };

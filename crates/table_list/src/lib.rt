@@ -3,15 +3,15 @@
 ghost use Rattle.std.specs.Prelude.{◌≡◌, true, ◌<◌, ◌≤◌, length};
 ghost use Rattle.std.proofs.Math.Option.{some};
 ghost use mathlib.Core.List.{Memᴰ};
-ghost use Rattle.limits.specs.Limits.{tableBytes, maxSites};
+ghost use Rattle.limits.specs.Limits.{table_bytes, max_sites};
 ghost use Rattle.grid.specs.Position.{LegOnGrid};
 ghost use Rattle.grid.specs.Says.{Says, If};
 ghost use Rattle.book.specs.Book.{holds};
-ghost use Rattle.list_row.specs.Vertices.{Small, rowBytes};
-ghost use Rattle.table_header.specs.Header.{legIn, lengthIn};
-ghost use Rattle.table_sites.specs.Lines.{linesIn, StandsAt};
+ghost use Rattle.list_row.specs.Vertices.{Small, row_bytes};
+ghost use Rattle.table_header.specs.Header.{leg_in, length_in};
+ghost use Rattle.table_sites.specs.Lines.{lines_in, StandsAt};
 ghost use Rattle.table_sites.specs.Rules.{SitesOk};
-ghost use Rattle.table_standing.specs.Standing.{standingIn};
+ghost use Rattle.table_standing.specs.Standing.{standing_in};
 ghost use Rattle.table_rules.specs.Table.{Sound};
 ghost use Rattle.table_rules.specs.Listing.{ListsTable};
 ghost use Rattle.table_list.specs.Loading.{PlaceOf, NumbersHeld, PlacesOf, EntryShuts};
@@ -22,7 +22,7 @@ use table_sites::Found;
 
 // The place of record k, which has the number n.
 pub fn place_at(t: &[u8], n: u16, k: usize) -> usize
-    requires { (length t.now ≡ tableBytes) × SitesOk t.now × StandsAt k n (linesIn t.now) }
+    requires { (length t.now ≡ table_bytes) × SitesOk t.now × StandsAt k n (lines_in t.now) }
     ensures { PlaceOf t.now n result }
 {
     table_sites::place_of_record(k)
@@ -30,7 +30,7 @@ pub fn place_at(t: &[u8], n: u16, k: usize) -> usize
 
 // The place of the record that has the number n.
 pub fn place_of(t: &[u8], n: u16) -> usize
-    requires { (length t.now ≡ tableBytes) × SitesOk t.now × (holds n (linesIn t.now) ≡ true) }
+    requires { (length t.now ≡ table_bytes) × SitesOk t.now × (holds n (lines_in t.now) ≡ true) }
     ensures { PlaceOf t.now n result }
 {
     let found = table_sites::find(t, n);
@@ -42,8 +42,8 @@ pub fn place_of(t: &[u8], n: u16) -> usize
 
 // Writes the places of the stored numbers into the row that begins the work buffer.
 pub fn places(t: &[u8], work: &mut [u8]) -> usize
-    requires { (length t.now ≡ tableBytes) × SitesOk t.now × NumbersHeld t.now
-        × (rowBytes ≤ length work.old) }
+    requires { (length t.now ≡ table_bytes) × SitesOk t.now × NumbersHeld t.now
+        × (row_bytes ≤ length work.old) }
     ensures { PlacesOf t.now work.old work.new result }
 {
     let k = table_header::length(t);
@@ -59,7 +59,7 @@ pub fn places(t: &[u8], work: &mut [u8]) -> usize
 
 // Loads the standing list into the row that begins the work buffer.
 pub fn load(t: &[u8], work: &mut [u8], leg: Leg) -> usize
-    requires { Sound t.now × (legIn t.now ≡ some leg) × (rowBytes ≤ length work.old) }
+    requires { Sound t.now × (leg_in t.now ≡ some leg) × (row_bytes ≤ length work.old) }
     ensures { ListsTable leg t.now work.new result }
 {
     places(t, work)
@@ -67,8 +67,8 @@ pub fn load(t: &[u8], work: &mut [u8], leg: Leg) -> usize
 
 // Whether the standing list names site n.
 pub fn lists(t: &[u8], n: u16) -> bool
-    requires { (length t.now ≡ tableBytes) × (lengthIn t.now ≤ maxSites) }
-    ensures { Says result (Memᴰ n (standingIn t.now)) }
+    requires { (length t.now ≡ table_bytes) × (length_in t.now ≤ max_sites) }
+    ensures { Says result (Memᴰ n (standing_in t.now)) }
 {
     let k = table_header::length(t);
     let mut i = 0;
@@ -84,8 +84,8 @@ pub fn lists(t: &[u8], n: u16) -> bool
 
 // Whether entry i keeps the site x out.
 fn entry_shuts(t: &[u8], leg: Leg, i: usize, x: Vertex) -> bool
-    requires t_len { (length t.now ≡ tableBytes) × SitesOk t.now × NumbersHeld t.now }
-    requires leg_on_grid { LegOnGrid leg × Small x × (i < lengthIn t.now) }
+    requires t_len { (length t.now ≡ table_bytes) × SitesOk t.now × NumbersHeld t.now }
+    requires leg_on_grid { LegOnGrid leg × Small x × (i < length_in t.now) }
     ensures { If result (EntryShuts leg t.now x.a x.c) }
 {
     let n = table_standing::number(t, i);
@@ -97,7 +97,7 @@ fn entry_shuts(t: &[u8], leg: Leg, i: usize, x: Vertex) -> bool
 // Whether the last entry keeps the site x out, or the first one: where x is far from the leg, one of them does, and
 // no other need be loaded.
 pub fn end_shuts(t: &[u8], leg: Leg, x: Vertex) -> bool
-    requires t_len { (length t.now ≡ tableBytes) × SitesOk t.now × NumbersHeld t.now }
+    requires t_len { (length t.now ≡ table_bytes) × SitesOk t.now × NumbersHeld t.now }
     requires leg_on_grid { LegOnGrid leg × Small x }
     ensures { If result (EntryShuts leg t.now x.a x.c) }
 {

@@ -7,226 +7,226 @@ use mathlib.Core.Option.{Option, none, some}
 use Prim.Native.Nat.{ℕ, suc, ◌+◌, ◌≤◌, ◌<◌}
 use native.Mathlib.Omega.{arith}
 use lib.ListN.{length}
-use Rattle.limits.specs.Limits.{maxSites}
+use Rattle.limits.specs.Limits.{max_sites}
 use Rattle.grid.specs.declared.Site.{Site}
 use Rattle.grid.specs.declared.Leg.{Leg}
 use Rattle.grid.specs.Position.{LegOnGrid}
 use Rattle.grid.specs.Says.{Says, If}
 use Rattle.split.specs.SplitList.{Entry, IsSplitList, Numbered, SameSites}
 use Rattle.split.specs.Hull.{points}
-use Rattle.split.specs.SplitOf.{build, splitOf}
-use Rattle.split.proofs.Exists.{split-is, split-only}
-use Rattle.split.proofs.Insertion.{build-hull}
-use Rattle.split.proofs.Skipping.{skip-hull}
-use Rattle.split.proofs.Dealing.{order-free-of, hull-list}
+use Rattle.split.specs.SplitOf.{build, split_of}
+use Rattle.split.proofs.Exists.{split_is, split_only}
+use Rattle.split.proofs.Insertion.{build_hull}
+use Rattle.split.proofs.Skipping.{skip_hull}
+use Rattle.split.proofs.Dealing.{order_free_of, hull_list}
 use Rattle.split.proofs.Unlisted.{unlisted}
-use Rattle.list_row.specs.Places.{siteAt}
+use Rattle.list_row.specs.Places.{site_at}
 use Rattle.list_row.specs.declared.Vertex.{Vertex}
-use Rattle.list_row.specs.Vertices.{pointAt, IsVertex, rowBytes, Held, entriesIn}
-use Rattle.list_row.proofs.Listing.{lists-is}
+use Rattle.list_row.specs.Vertices.{point_at, IsVertex, row_bytes, Held, entries_in}
+use Rattle.list_row.proofs.Listing.{lists_is}
 use Rattle.list_skip.specs.Skipping.{Space, Dealt}
-use Rattle.book.specs.Book.{isClosed, sites_of, strikeLine, holds, list_of, standingList}
-use Rattle.book.proofs.Marks.{open-member, member-open, open-rising, closed-absent}
+use Rattle.book.specs.Book.{is_closed, sites_of, strike_line, holds, list_of, standing_list}
+use Rattle.book.proofs.Marks.{open_member, member_open, open_rising, closed_absent}
 use Rattle.book.specs.Proper.{Rising, LegOk}
-use Rattle.book.proofs.Lines.{HeldLine, holds-member, member-holds, strike-from, strike-sites, strike-none, strike-length}
+use Rattle.book.proofs.Lines.{HeldLine, holds_member, member_holds, strike_from, strike_sites, strike_none, strike_length}
 use Rattle.table_header.specs.declared.Standing.{Standing}
-use Rattle.table_header.specs.Header.{legIn, asOption, lengthIn}
-use Rattle.table_sites.specs.Lines.{linesIn, markAt, closed_in, StandsAt}
-use Rattle.table_sites.proofs.Reading.{lines-length}
-use Rattle.table_sites.proofs.Kept.{mark-open, mark-shut}
-use Rattle.table_standing.specs.Standing.{standingIn, numbersOf, ListStored}
-use Rattle.table_standing.proofs.Numbers.{standing-length}
-use Rattle.table_rules.specs.Table.{bookOf, Whole, Sound}
-use Rattle.table_rules.proofs.Books.{open-sites, open-few, sound-few}
+use Rattle.table_header.specs.Header.{leg_in, as_option, length_in}
+use Rattle.table_sites.specs.Lines.{lines_in, mark_at, closed_in, StandsAt}
+use Rattle.table_sites.proofs.Reading.{lines_length}
+use Rattle.table_sites.proofs.Kept.{mark_open, mark_shut}
+use Rattle.table_standing.specs.Standing.{standing_in, numbers_of, ListStored}
+use Rattle.table_standing.proofs.Numbers.{standing_length}
+use Rattle.table_rules.specs.Table.{book_of, Whole, Sound}
+use Rattle.table_rules.proofs.Books.{open_sites, open_few, sound_few}
 use Rattle.demands.specs.Step.{Holds}
 use Rattle.table_list.specs.Loading.{PlaceOf, NumbersHeld, PlacesOf, EntryShuts}
-use Rattle.table_list.proofs.Rows.{Stored, stored-few, stored-held, places-held, places-list}
-use Rattle.table_list.proofs.Ends.{shut-true, entry-shuts-out}
+use Rattle.table_list.proofs.Rows.{Stored, stored_few, stored_held, places_held, places_list}
+use Rattle.table_list.proofs.Ends.{shut_true, entry_shuts_out}
 use Rattle.table_patch.specs.Patching.{ListsOthers, Patchable}
-use Rattle.table_patch.proofs.Restanding.{stored-holds}
+use Rattle.table_patch.proofs.Restanding.{stored_holds}
 
-numbered-same : (s u : List Site) → SameSites u s → Numbered u → Numbered s
-numbered-same s u w n =
+numbered_same : (s u : List Site) → SameSites u s → Numbered u → Numbered s
+numbered_same s u w n =
     record { small = λ p i. n.small p (w.back p i); one = λ p q i j. n.one p q (w.back p i) (w.back q j) }
 
 -- ---- a site that is not named may go
 
-numbers-in : (es : List Entry) (f : Entry) → Memᴰ f es → Memᴰ f.site.number (numbersOf es)
-unfolding numbersOf
-numbers-in (e ∷ es) f (Memᴰ.head q) = Memᴰ.head (ap (λ (x : Entry). x.site.number) q)
-numbers-in (e ∷ es) f (Memᴰ.tail m) = Memᴰ.tail (numbers-in es f m)
+numbers_in_lem : (es : List Entry) (f : Entry) → Memᴰ f es → Memᴰ f.site.number (numbers_of es)
+unfolding numbers_of
+numbers_in_lem (e ∷ es) f (Memᴰ.head q) = Memᴰ.head (ap (λ (x : Entry). x.site.number) q)
+numbers_in_lem (e ∷ es) f (Memᴰ.tail m) = Memᴰ.tail (numbers_in_lem es f m)
 
 module _ (l : Leg) (s : List Site) (n : ℕ) (r : Rising s) (num : Numbered s) where
-  numbered-struck : Numbered (strikeLine n s)
-  numbered-struck =
-      record { small = λ p m. num.small p (strike-from n s p m); one = λ p q i j. num.one p q (strike-from n s p i) (strike-from n s q j) }
+  numbered_struck : Numbered (strike_line n s)
+  numbered_struck =
+      record { small = λ p m. num.small p (strike_from n s p m); one = λ p q i j. num.one p q (strike_from n s p i) (strike_from n s q j) }
 
-  held-gone : (h : HeldLine n s) → ¬ Memᴰ n (numbersOf (splitOf l s)) → splitOf l s ≡ splitOf l (strikeLine n s)
-  held-gone h out = e ∙ go (splitOf l (p ∷ u)) (split-is l (p ∷ u) nu) (λ f m. out (subst (λ (x : List Entry). Memᴰ n (numbersOf x)) (sym e) (named f m)))
+  held_gone : (h : HeldLine n s) → ¬ Memᴰ n (numbers_of (split_of l s)) → split_of l s ≡ split_of l (strike_line n s)
+  held_gone h out = e ∙ go (split_of l (p ∷ u)) (split_is l (p ∷ u) nu) (λ f m. out (subst (λ (x : List Entry). Memᴰ n (numbers_of x)) (sym e) (named f m)))
     where
       p : Site
       p = h.line
 
       u : List Site
-      u = strikeLine n s
+      u = strike_line n s
 
       same : SameSites s (p ∷ u)
-      same = strike-sites n s p r h.held h.named
+      same = strike_sites n s p r h.held h.named
 
       nu : Numbered (p ∷ u)
-      nu = numbered-same (p ∷ u) s same num
+      nu = numbered_same (p ∷ u) s same num
 
-      e : splitOf l s ≡ splitOf l (p ∷ u)
-      e = order-free-of l s (p ∷ u) num nu same
+      e : split_of l s ≡ split_of l (p ∷ u)
+      e = order_free_of l s (p ∷ u) num nu same
 
-      named : (f : Entry) → Memᴰ f (splitOf l (p ∷ u)) × (f.site ≡ p) → Memᴰ n (numbersOf (splitOf l (p ∷ u)))
+      named : (f : Entry) → Memᴰ f (split_of l (p ∷ u)) × (f.site ≡ p) → Memᴰ n (numbers_of (split_of l (p ∷ u)))
       named f m =
-          subst (λ (x : ℕ). Memᴰ x (numbersOf (splitOf l (p ∷ u)))) (ap (λ (x : Site). x.number) m.1 ∙ h.named) (numbers-in (splitOf l (p ∷ u)) f m.0)
+          subst (λ (x : ℕ). Memᴰ x (numbers_of (split_of l (p ∷ u)))) (ap (λ (x : Site). x.number) m.1 ∙ h.named) (numbers_in_lem (split_of l (p ∷ u)) f m.0)
 
-      go : (es : List Entry) → IsSplitList l (p ∷ u) es → ((f : Entry) → Memᴰ f es × (f.site ≡ p) → ⊥) → es ≡ splitOf l u
+      go : (es : List Entry) → IsSplitList l (p ∷ u) es → ((f : Entry) → Memᴰ f es × (f.site ≡ p) → ⊥) → es ≡ split_of l u
       go [] k d = absurd (let z : ◌≡◌ {A = ℕ} (suc (length u)) 0 = ap length k.opens in omega arith)
       go (x ∷ es) k d =
-          split-only l u u numbered-struck (record { to = λ q m. m; back = λ q m. m }) (x ∷ es)
+          split_only l u u numbered_struck (record { to = λ q m. m; back = λ q m. m }) (x ∷ es)
           (unlisted l u p x es (λ f m q. d f (m, q)) k)
 
   -- THE LIST STAYS where a site goes that it does not name
-  pub unnamed-gone : ¬ Memᴰ n (numbersOf (splitOf l s)) → splitOf l s ≡ splitOf l (strikeLine n s)
-  unnamed-gone out = go (holds n s) refl
+  pub unnamed_gone : ¬ Memᴰ n (numbers_of (split_of l s)) → split_of l s ≡ split_of l (strike_line n s)
+  unnamed_gone out = go (holds n s) refl
     where
-      go : (c : Bool) → holds n s ≡ c → splitOf l s ≡ splitOf l (strikeLine n s)
-      go true h = held-gone (holds-member n s h) out
-      go false h = ap (splitOf l) (sym (strike-none n s h))
+      go : (c : Bool) → holds n s ≡ c → split_of l s ≡ split_of l (strike_line n s)
+      go true h = held_gone (holds_member n s h) out
+      go false h = ap (split_of l) (sym (strike_none n s h))
 
 -- with a leg or without
-pub unnamed-list : (o : Option Leg) (s : List Site) (n : ℕ) → Rising s → Numbered s → ¬ Memᴰ n (numbersOf (list_of o s))
-    → numbersOf (list_of o s) ≡ numbersOf (list_of o (strikeLine n s))
-unnamed-list none s n r num out = refl
-unnamed-list (some l) s n r num out = ap numbersOf (unnamed-gone l s n r num out)
+pub unnamed_list : (o : Option Leg) (s : List Site) (n : ℕ) → Rising s → Numbered s → ¬ Memᴰ n (numbers_of (list_of o s))
+    → numbers_of (list_of o s) ≡ numbers_of (list_of o (strike_line n s))
+unnamed_list none s n r num out = refl
+unnamed_list (some l) s n r num out = ap numbers_of (unnamed_gone l s n r num out)
 
 -- the numbers of the open sites rise
-rising-open : (b : List ℕ) → Whole b → Rising (sites_of (bookOf b))
-rising-open b w = open-rising (closed_in b) (linesIn b) w.sites.rising
+rising_open : (b : List ℕ) → Whole b → Rising (sites_of (book_of b))
+rising_open b w = open_rising (closed_in b) (lines_in b) w.sites.rising
 
 -- WHEN ONE LINE OR ITS MARK HAS CHANGED in a sound table, and its list has not
-pub patchable : (b b₁ : List ℕ) (n : ℕ) → Sound b → Whole b₁ → legIn b₁ ≡ legIn b → (lengthIn b ≤ maxSites → standingIn b₁ ≡ standingIn b)
-    → strikeLine n (sites_of (bookOf b₁)) ≡ strikeLine n (sites_of (bookOf b)) → Patchable n b₁
+pub patchable : (b b₁ : List ℕ) (n : ℕ) → Sound b → Whole b₁ → leg_in b₁ ≡ leg_in b → (length_in b ≤ max_sites → standing_in b₁ ≡ standing_in b)
+    → strike_line n (sites_of (book_of b₁)) ≡ strike_line n (sites_of (book_of b)) → Patchable n b₁
 patchable b b₁ n s w leg kept others =
-    let list : standingIn b₁ ≡ standingIn b = kept (sound-few b s) in
+    let list : standing_in b₁ ≡ standing_in b = kept (sound_few b s) in
     record {
       whole = w;
       leg = subst LegOk (sym leg) s.standing.leg;
-      few = omega (arith, standing-length b, standing-length b₁, ap length list, sound-few b s);
+      few = omega (arith, standing_length b, standing_length b₁, ap length list, sound_few b s);
       others = λ out. record {
         list = list ∙ s.standing.list
-            ∙ unnamed-list (legIn b) (sites_of (bookOf b)) n (rising-open b s.whole) (open-sites b s.whole)
+            ∙ unnamed_list (leg_in b) (sites_of (book_of b)) n (rising_open b s.whole) (open_sites b s.whole)
             (λ m. out (subst (Memᴰ n) (sym (list ∙ s.standing.list)) m))
-            ∙ sym (λ i. numbersOf (list_of (leg i) (others i)));
+            ∙ sym (λ i. numbers_of (list_of (leg i) (others i)));
       };
     }
 
 -- ---- nothing to do
 
-same-holds : (b : List ℕ) → Whole b → LegOk (legIn b)
-    → standingIn b ≡ numbersOf (standingList (bookOf b)) → Holds b (bookOf b)
-same-holds b w leg e = record { sound = record { whole = w; standing = record { leg = leg; list = e } }; book = refl }
+same_holds : (b : List ℕ) → Whole b → LegOk (leg_in b)
+    → standing_in b ≡ numbers_of (standing_list (book_of b)) → Holds b (book_of b)
+same_holds b w leg e = record { sound = record { whole = w; standing = record { leg = leg; list = e } }; book = refl }
 
-pub unset-holds : (b : List ℕ) (n : ℕ) (s : Standing) → Whole b → LegOk (legIn b) → ListsOthers n b → asOption s ≡ legIn b → s ≡ Standing.Unset → Holds b (bookOf b)
-unset-holds b n s w leg o q u =
-    let e : legIn b ≡ none = sym q ∙ ap asOption u in
-    same-holds b w leg
-    (o.list ∙ ap (λ (x : Option Leg). numbersOf (list_of x (strikeLine n (sites_of (bookOf b))))) e
-    ∙ sym (ap (λ (x : Option Leg). numbersOf (list_of x (sites_of (bookOf b)))) e))
+pub unset_holds : (b : List ℕ) (n : ℕ) (s : Standing) → Whole b → LegOk (leg_in b) → ListsOthers n b → as_option s ≡ leg_in b → s ≡ Standing.Unset → Holds b (book_of b)
+unset_holds b n s w leg o q u =
+    let e : leg_in b ≡ none = sym q ∙ ap as_option u in
+    same_holds b w leg
+    (o.list ∙ ap (λ (x : Option Leg). numbers_of (list_of x (strike_line n (sites_of (book_of b))))) e
+    ∙ sym (ap (λ (x : Option Leg). numbers_of (list_of x (sites_of (book_of b)))) e))
 
-pub along-is : (b : List ℕ) (s : Standing) (l : Leg) → asOption s ≡ legIn b → s ≡ Standing.Along l → legIn b ≡ some l
-along-is b s l q u = sym q ∙ ap asOption u
+pub along_is : (b : List ℕ) (s : Standing) (l : Leg) → as_option s ≡ leg_in b → s ≡ Standing.Along l → leg_in b ≡ some l
+along_is b s l q u = sym q ∙ ap as_option u
 
 -- ---- what the test says
 
 module _ (b : List ℕ) (n : ℕ) (h : Patchable n b) where
-  pub patch-others : (q : Bool) → Says q (Memᴰ n (standingIn b)) → q ≡ false → ListsOthers n b
-  patch-others true s e = absurd (true≢false e)
-  patch-others false s e = h.others s
+  pub patch_others : (q : Bool) → Says q (Memᴰ n (standing_in b)) → q ≡ false → ListsOthers n b
+  patch_others true s e = absurd (true≢false e)
+  patch_others false s e = h.others s
 
   -- A SITE THAT HAS GONE and was not named
-  pub patch-gone : (q : Bool) → Says q (Memᴰ n (standingIn b)) → q ≡ false → holds n (sites_of (bookOf b)) ≡ false → Holds b (bookOf b)
-  patch-gone q s e gone =
-      same-holds b h.whole h.leg
-      ((patch-others q s e).list
-      ∙ ap (λ (x : List Site). numbersOf (list_of (legIn b) x)) (strike-none n (sites_of (bookOf b)) gone))
+  pub patch_gone : (q : Bool) → Says q (Memᴰ n (standing_in b)) → q ≡ false → holds n (sites_of (book_of b)) ≡ false → Holds b (book_of b)
+  patch_gone q s e gone =
+      same_holds b h.whole h.leg
+      ((patch_others q s e).list
+      ∙ ap (λ (x : List Site). numbers_of (list_of (leg_in b) x)) (strike_none n (sites_of (book_of b)) gone))
 
 -- ---- by the mark
 
-module _ (b : List ℕ) (n k m : ℕ) (h : Patchable n b) (f : StandsAt k n (linesIn b)) where
-  pub patch-few : k < maxSites
-  patch-few = omega (arith, f.line, lines-length b, h.whole.sites.few)
+module _ (b : List ℕ) (n k m : ℕ) (h : Patchable n b) (f : StandsAt k n (lines_in b)) where
+  pub patch_few : k < max_sites
+  patch_few = omega (arith, f.line, lines_length b, h.whole.sites.few)
 
-  pub patch-open : m ≡ markAt b k → m ≡ 0 → isClosed n (closed_in b) ≡ false
-  patch-open e z = mark-open b k n f h.whole.sites.rising m e z
+  pub patch_open : m ≡ mark_at b k → m ≡ 0 → is_closed n (closed_in b) ≡ false
+  patch_open e z = mark_open b k n f h.whole.sites.rising m e z
 
-  pub patch-shut : m ≡ markAt b k → (m ≡ 0 → ⊥) → holds n (sites_of (bookOf b)) ≡ false
-  patch-shut e z = closed-absent (closed_in b) (linesIn b) n (mark-shut b k n f h.whole.sites.rising m e z)
+  pub patch_shut : m ≡ mark_at b k → (m ≡ 0 → ⊥) → holds n (sites_of (book_of b)) ≡ false
+  patch_shut e z = closed_absent (closed_in b) (lines_in b) n (mark_shut b k n f h.whole.sites.rising m e z)
 
 -- ---- one site dealt in
 
-module _ (b : List ℕ) (n : ℕ) (l : Leg) (w : Whole b) (leg : LegOk (legIn b)) (set : legIn b ≡ some l) (o : ListsOthers n b) (p : ℕ) (q : PlaceOf b n p) (free : isClosed n (closed_in b) ≡ false) where
+module _ (b : List ℕ) (n : ℕ) (l : Leg) (w : Whole b) (leg : LegOk (leg_in b)) (set : leg_in b ≡ some l) (o : ListsOthers n b) (p : ℕ) (q : PlaceOf b n p) (free : is_closed n (closed_in b) ≡ false) where
   abbrev all : List Site
-  all = sites_of (bookOf b)
+  all = sites_of (book_of b)
 
-  there : Memᴰ (siteAt b p) (sites_of (bookOf b))
-  there = member-open (closed_in b) (linesIn b) (siteAt b p) q.line (ap (λ (x : ℕ). isClosed x (closed_in b)) q.number ∙ free)
+  there : Memᴰ (site_at b p) (sites_of (book_of b))
+  there = member_open (closed_in b) (lines_in b) (site_at b p) q.line (ap (λ (x : ℕ). is_closed x (closed_in b)) q.number ∙ free)
 
-  held : holds n (sites_of (bookOf b)) ≡ true
-  held = member-holds n (sites_of (bookOf b)) (siteAt b p) there q.number
+  held : holds n (sites_of (book_of b)) ≡ true
+  held = member_holds n (sites_of (book_of b)) (site_at b p) there q.number
 
-  fewer : 1 + length (strikeLine n (sites_of (bookOf b))) ≤ maxSites
-  fewer = omega (arith, strike-length n (sites_of (bookOf b)) (rising-open b w) held, open-few b w)
+  fewer : 1 + length (strike_line n (sites_of (book_of b))) ≤ max_sites
+  fewer = omega (arith, strike_length n (sites_of (book_of b)) (rising_open b w) held, open_few b w)
 
-  others : Stored l (strikeLine n (sites_of (bookOf b))) b
+  others : Stored l (strike_line n (sites_of (book_of b))) b
   others =
       record {
         sites = w.sites;
-        lines = λ x m. open-member (closed_in b) (linesIn b) x (strike-from n (sites_of (bookOf b)) x m);
+        lines = λ x m. open_member (closed_in b) (lines_in b) x (strike_from n (sites_of (book_of b)) x m);
         few = omega (arith, fewer);
-        list = o.list ∙ ap (λ (x : Option Leg). numbersOf (list_of x (strikeLine n (sites_of (bookOf b))))) set;
+        list = o.list ∙ ap (λ (x : Option Leg). numbers_of (list_of x (strike_line n (sites_of (book_of b))))) set;
       }
 
-  pub others-held : NumbersHeld b
-  others-held = stored-held l _ b others
+  pub others_held : NumbersHeld b
+  others_held = stored_held l _ b others
 
-  pub others-leg : LegOnGrid l
-  others-leg = subst LegOk set leg
+  pub others_leg : LegOnGrid l
+  others_leg = subst LegOk set leg
 
   -- KEPT OUT by an entry: the list of the others is that of all
-  pub shut-holds : (x : Vertex) → IsVertex l b p x → (c : Bool) → c ≡ true → If c (EntryShuts l b x.a x.c) → Holds b (bookOf b)
-  unfolding splitOf
-  shut-holds x v c e h =
-      let same : SameSites all (siteAt b p ∷ strikeLine n all) = strike-sites n all (siteAt b p) (rising-open b w) there q.number in
-      let num = open-sites b w in
-      let out = entry-shuts-out l _ b others x.a x.c (shut-true l b x.a x.c c e h) in
-      let hull = skip-hull out (pointAt l b p) (omega (arith, v.a-is)) (omega (arith, v.c-is)) (build-hull (points l (strikeLine n all))) in
-      let list = hull-list l (siteAt b p ∷ strikeLine n all) all
-      (numbered-same (siteAt b p ∷ strikeLine n all) all same num) num same
-      (build (points l (strikeLine n all))) hull in
-      same-holds b w leg
-      (others.list ∙ ap numbersOf list ∙ sym (ap (λ (x : Option Leg). numbersOf (list_of x (sites_of (bookOf b)))) set))
+  pub shut_holds : (x : Vertex) → IsVertex l b p x → (c : Bool) → c ≡ true → If c (EntryShuts l b x.a x.c) → Holds b (book_of b)
+  unfolding split_of
+  shut_holds x v c e h =
+      let same : SameSites all (site_at b p ∷ strike_line n all) = strike_sites n all (site_at b p) (rising_open b w) there q.number in
+      let num = open_sites b w in
+      let out = entry_shuts_out l _ b others x.a x.c (shut_true l b x.a x.c c e h) in
+      let hull = skip_hull out (point_at l b p) (omega (arith, v.a_is)) (omega (arith, v.c_is)) (build_hull (points l (strike_line n all))) in
+      let list = hull_list l (site_at b p ∷ strike_line n all) all
+      (numbered_same (site_at b p ∷ strike_line n all) all same num) num same
+      (build (points l (strike_line n all))) hull in
+      same_holds b w leg
+      (others.list ∙ ap numbers_of list ∙ sym (ap (λ (x : Option Leg). numbers_of (list_of x (sites_of (book_of b)))) set))
 
-  module _ (k : ℕ) (r r' : List ℕ) (room : rowBytes ≤ length r) (m : PlacesOf b r r' k) where
-    pub others-row : Held l b r' k
-    others-row = places-held l _ b others k r r' (omega arith) m
+  module _ (k : ℕ) (r r' : List ℕ) (room : row_bytes ≤ length r) (m : PlacesOf b r r' k) where
+    pub others_row : Held l b r' k
+    others_row = places_held l _ b others k r r' (omega arith) m
 
-    pub others-space : Space l b r' k p
-    others-space h = absurd (omega (arith, m.count, stored-few l _ b others, fewer))
+    pub others_space : Space l b r' k p
+    others_space h = absurd (omega (arith, m.count, stored_few l _ b others, fewer))
 
-    pub others-rows : rowBytes ≤ length r'
-    others-rows = omega (arith, m.only.len)
+    pub others_rows : row_bytes ≤ length r'
+    others_rows = omega (arith, m.only.len)
 
     -- DEALT IN
-    pub dealt-holds : (j : ℕ) (r'' b' : List ℕ) → Dealt l b r' k p r'' j → ListStored (entriesIn l b r'' j) b b' → Holds b' (bookOf b)
-    dealt-holds j r'' b' d st =
-        let same : SameSites all (siteAt b p ∷ strikeLine n all) = strike-sites n all (siteAt b p) (rising-open b w) there q.number in
-        let num = open-sites b w in
-        let list = lists-is l b r'' j (siteAt b p ∷ strikeLine n all) all
-        (numbered-same (siteAt b p ∷ strikeLine n all) all same num) num same
-        (d.lists (strikeLine n all) (places-list l _ b others k r r' (omega arith) m)) in
-        stored-holds b b' w (entriesIn l b r'' j) st leg
-        (ap numbersOf list ∙ sym (ap (λ (x : Option Leg). numbersOf (list_of x (sites_of (bookOf b)))) set))
+    pub dealt_holds : (j : ℕ) (r'' b' : List ℕ) → Dealt l b r' k p r'' j → ListStored (entries_in l b r'' j) b b' → Holds b' (book_of b)
+    dealt_holds j r'' b' d st =
+        let same : SameSites all (site_at b p ∷ strike_line n all) = strike_sites n all (site_at b p) (rising_open b w) there q.number in
+        let num = open_sites b w in
+        let list = lists_is l b r'' j (site_at b p ∷ strike_line n all) all
+        (numbered_same (site_at b p ∷ strike_line n all) all same num) num same
+        (d.lists (strike_line n all) (places_list l _ b others k r r' (omega arith) m)) in
+        stored_holds b b' w (entries_in l b r'' j) st leg
+        (ap numbers_of list ∙ sym (ap (λ (x : Option Leg). numbers_of (list_of x (sites_of (book_of b)))) set))

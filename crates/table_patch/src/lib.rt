@@ -2,12 +2,12 @@
 // search of the tree.
 ghost use Rattle.std.specs.Prelude.{◌≡◌, false, ◌≤◌, length};
 ghost use Rattle.std.proofs.Math.Option.{some};
-ghost use Rattle.list_row.specs.Vertices.{rowBytes};
-ghost use Rattle.book.specs.Book.{isClosed, sites_of, holds};
+ghost use Rattle.list_row.specs.Vertices.{row_bytes};
+ghost use Rattle.book.specs.Book.{is_closed, sites_of, holds};
 ghost use Rattle.book.specs.Proper.{LegOk};
-ghost use Rattle.table_header.specs.Header.{legIn};
-ghost use Rattle.table_sites.specs.Lines.{linesIn, closed_in, StandsAt};
-ghost use Rattle.table_rules.specs.Table.{bookOf, Whole};
+ghost use Rattle.table_header.specs.Header.{leg_in};
+ghost use Rattle.table_sites.specs.Lines.{lines_in, closed_in, StandsAt};
+ghost use Rattle.table_rules.specs.Table.{book_of, Whole};
 ghost use Rattle.demands.specs.Step.{Holds};
 ghost use Rattle.table_list.specs.Loading.{PlaceOf};
 ghost use Rattle.table_patch.specs.Patching.{ListsOthers, Patchable};
@@ -17,8 +17,8 @@ use table_header::Standing;
 
 // Makes the standing list anew.
 pub fn restand(t: &mut [u8], work: &mut [u8])
-    requires { Whole t.old × LegOk (legIn t.old) × (rowBytes ≤ length work.old) }
-    ensures { Holds t.new (bookOf t.old) }
+    requires { Whole t.old × LegOk (leg_in t.old) × (row_bytes ≤ length work.old) }
+    ensures { Holds t.new (book_of t.old) }
 {
     let s = table_header::leg(t);
     match s {
@@ -33,9 +33,9 @@ pub fn restand(t: &mut [u8], work: &mut [u8])
 // Deals site n, which is open and whose place is p, into the list of the leg over the other open sites. Places are
 // loaded from the changed table: a record that comes moves those behind it.
 fn deal_in(t: &mut [u8], work: &mut [u8], leg: Leg, n: u16, p: usize)
-    requires whole { Whole t.old × LegOk (legIn t.old) × (legIn t.old ≡ some leg) × (rowBytes ≤ length work.old) }
-    requires lists_others { ListsOthers n t.old × PlaceOf t.old n p × (isClosed n (closed_in t.old) ≡ false) }
-    ensures { Holds t.new (bookOf t.old) }
+    requires whole { Whole t.old × LegOk (leg_in t.old) × (leg_in t.old ≡ some leg) × (row_bytes ≤ length work.old) }
+    requires lists_others { ListsOthers n t.old × PlaceOf t.old n p × (is_closed n (closed_in t.old) ≡ false) }
+    ensures { Holds t.new (book_of t.old) }
 {
     let k = table_list::places(t, work);
     let m = list_skip::deal(t, leg, p, work, k);
@@ -45,9 +45,9 @@ fn deal_in(t: &mut [u8], work: &mut [u8], leg: Leg, n: u16, p: usize)
 // Deals site n, of record k, into the list of the leg over the other open sites. Most sites are far from the leg: an
 // end of the list keeps them out, and it stays.
 fn deal_along(t: &mut [u8], work: &mut [u8], leg: Leg, n: u16, k: usize)
-    requires whole { Whole t.old × LegOk (legIn t.old) × (legIn t.old ≡ some leg) × (rowBytes ≤ length work.old) }
-    requires lists_others { ListsOthers n t.old × StandsAt k n (linesIn t.old) × (isClosed n (closed_in t.old) ≡ false) }
-    ensures { Holds t.new (bookOf t.old) }
+    requires whole { Whole t.old × LegOk (leg_in t.old) × (leg_in t.old ≡ some leg) × (row_bytes ≤ length work.old) }
+    requires lists_others { ListsOthers n t.old × StandsAt k n (lines_in t.old) × (is_closed n (closed_in t.old) ≡ false) }
+    ensures { Holds t.new (book_of t.old) }
 {
     let p = table_list::place_at(t, n, k);
     let x = list_row::vertex_at(t, leg, p);
@@ -59,9 +59,9 @@ fn deal_along(t: &mut [u8], work: &mut [u8], leg: Leg, n: u16, k: usize)
 
 // Deals site n, of record k, into the standing list, which is that of the other open sites.
 fn deal_site(t: &mut [u8], work: &mut [u8], n: u16, k: usize)
-    requires whole { Whole t.old × LegOk (legIn t.old) × (rowBytes ≤ length work.old) }
-    requires lists_others { ListsOthers n t.old × StandsAt k n (linesIn t.old) × (isClosed n (closed_in t.old) ≡ false) }
-    ensures { Holds t.new (bookOf t.old) }
+    requires whole { Whole t.old × LegOk (leg_in t.old) × (row_bytes ≤ length work.old) }
+    requires lists_others { ListsOthers n t.old × StandsAt k n (lines_in t.old) × (is_closed n (closed_in t.old) ≡ false) }
+    ensures { Holds t.new (book_of t.old) }
 {
     let s = table_header::leg(t);
     match s {
@@ -74,9 +74,9 @@ fn deal_site(t: &mut [u8], work: &mut [u8], n: u16, k: usize)
 // that does not name n is that of the other open sites, so n is dealt in. Where n is named, sites that it kept out may
 // come in, and only a search finds them.
 fn patch_held(t: &mut [u8], work: &mut [u8], n: u16, k: usize)
-    requires { Patchable n t.old × StandsAt k n (linesIn t.old) × (isClosed n (closed_in t.old) ≡ false)
-        × (rowBytes ≤ length work.old) }
-    ensures { Holds t.new (bookOf t.old) }
+    requires { Patchable n t.old × StandsAt k n (lines_in t.old) × (is_closed n (closed_in t.old) ≡ false)
+        × (row_bytes ≤ length work.old) }
+    ensures { Holds t.new (book_of t.old) }
 {
     if table_list::lists(t, n) {
         restand(t, work);
@@ -88,9 +88,9 @@ fn patch_held(t: &mut [u8], work: &mut [u8], n: u16, k: usize)
 // Brings the standing list up to date when site n is not open: it has gone, or is closed. A list that does not name it
 // stays.
 pub fn patch_gone(t: &mut [u8], work: &mut [u8], n: u16)
-    requires { Patchable n t.old × (holds n (sites_of (bookOf t.old)) ≡ false)
-        × (rowBytes ≤ length work.old) }
-    ensures { Holds t.new (bookOf t.old) }
+    requires { Patchable n t.old × (holds n (sites_of (book_of t.old)) ≡ false)
+        × (row_bytes ≤ length work.old) }
+    ensures { Holds t.new (book_of t.old) }
 {
     let named = table_list::lists(t, n);
     if named {
@@ -101,8 +101,8 @@ pub fn patch_gone(t: &mut [u8], work: &mut [u8], n: u16)
 // Brings the standing list up to date when site n, of record k, has come or moved or has another mark: its mark says
 // whether it is dealt in.
 pub fn patch(t: &mut [u8], work: &mut [u8], n: u16, k: usize)
-    requires { Patchable n t.old × StandsAt k n (linesIn t.old) × (rowBytes ≤ length work.old) }
-    ensures { Holds t.new (bookOf t.old) }
+    requires { Patchable n t.old × StandsAt k n (lines_in t.old) × (row_bytes ≤ length work.old) }
+    ensures { Holds t.new (book_of t.old) }
 {
     let mark = table_sites::mark(t, k);
     if mark == 0 {

@@ -6,77 +6,77 @@ use mathlib.Core.Option.{Option, none, some}
 use Prim.Native.Nat.{ℕ, ◌≤◌}
 use native.Mathlib.Omega.{arith}
 use lib.ListN.{length}
-use Rattle.limits.specs.Limits.{tableBytes, maxSites}
+use Rattle.limits.specs.Limits.{table_bytes, max_sites}
 use Rattle.grid.specs.declared.Leg.{Leg}
 use Rattle.grid.specs.declared.Site.{Site}
 use Rattle.split.specs.SplitList.{Numbered}
-use Rattle.split.specs.SplitOf.{splitOf}
-use Rattle.split.proofs.Exists.{split-is}
+use Rattle.split.specs.SplitOf.{split_of}
+use Rattle.split.proofs.Exists.{split_is}
 use Rattle.split.proofs.Once.{few}
 use Rattle.book.specs.Book.{Book, sites_of, list_of}
 use Rattle.book.specs.Proper.{Proper}
-use Rattle.book.proofs.Lines.{rising-one}
-use Rattle.book.proofs.Marks.{open-length, open-numbered}
-use Rattle.table_header.specs.Header.{legIn, lengthIn}
-use Rattle.table_sites.specs.Lines.{linesIn, closed_in}
-use Rattle.table_sites.proofs.Reading.{lines-length}
-use Rattle.table_sites.proofs.Kept.{closed-ok}
-use Rattle.table_standing.specs.Standing.{numbersOf}
-use Rattle.table_standing.proofs.Numbers.{numbers-length, standing-length}
-use Rattle.table_rules.specs.Table.{bookOf, Whole, StandingOk, Sound}
+use Rattle.book.proofs.Lines.{rising_one}
+use Rattle.book.proofs.Marks.{open_length, open_numbered}
+use Rattle.table_header.specs.Header.{leg_in, length_in}
+use Rattle.table_sites.specs.Lines.{lines_in, closed_in}
+use Rattle.table_sites.proofs.Reading.{lines_length}
+use Rattle.table_sites.proofs.Kept.{closed_ok}
+use Rattle.table_standing.specs.Standing.{numbers_of}
+use Rattle.table_standing.proofs.Numbers.{numbers_length, standing_length}
+use Rattle.table_rules.specs.Table.{book_of, Whole, StandingOk, Sound}
 
-pub sound-len : (b : List ℕ) → Sound b → length b ≡ tableBytes
-sound-len b s = s.whole.len
+pub sound_len : (b : List ℕ) → Sound b → length b ≡ table_bytes
+sound_len b s = s.whole.len
 
 -- no number is held twice
-pub whole-numbered : (b : List ℕ) → Whole b → Numbered (linesIn b)
-whole-numbered b w = record { small = λ p m. (w.sites.numbers p m).most; one = rising-one (linesIn b) w.sites.rising }
+pub whole_numbered : (b : List ℕ) → Whole b → Numbered (lines_in b)
+whole_numbered b w = record { small = λ p m. (w.sites.numbers p m).most; one = rising_one (lines_in b) w.sites.rising }
 
 -- nor is one open twice
-pub open-sites : (b : List ℕ) → Whole b → Numbered (sites_of (bookOf b))
-open-sites b w = open-numbered (closed_in b) (linesIn b) (whole-numbered b w)
+pub open_sites : (b : List ℕ) → Whole b → Numbered (sites_of (book_of b))
+open_sites b w = open_numbered (closed_in b) (lines_in b) (whole_numbered b w)
 
-pub open-few : (b : List ℕ) → Whole b → length (sites_of (bookOf b)) ≤ maxSites
-open-few b w = omega (arith, open-length (closed_in b) (linesIn b), lines-length b, w.sites.few)
+pub open_few : (b : List ℕ) → Whole b → length (sites_of (book_of b)) ≤ max_sites
+open_few b w = omega (arith, open_length (closed_in b) (lines_in b), lines_length b, w.sites.few)
 
 -- no more entries than sites
-list-few : (o : Option Leg) (s : List Site) → Numbered s → length (numbersOf (list_of o s)) ≤ length s
-unfolding numbersOf
-list-few none s num = omega arith
-list-few (some l) s num = omega (arith, numbers-length (splitOf l s), few l s num (splitOf l s) (split-is l s num))
+list_few : (o : Option Leg) (s : List Site) → Numbered s → length (numbers_of (list_of o s)) ≤ length s
+unfolding numbers_of
+list_few none s num = omega arith
+list_few (some l) s num = omega (arith, numbers_length (split_of l s), few l s num (split_of l s) (split_is l s num))
 
-pub standing-few : (b : List ℕ) → Whole b → StandingOk b → lengthIn b ≤ length (sites_of (bookOf b))
-standing-few b w s = omega (arith, standing-length b, ap length s.list, list-few (legIn b) (sites_of (bookOf b)) (open-sites b w))
+pub standing_few : (b : List ℕ) → Whole b → StandingOk b → length_in b ≤ length (sites_of (book_of b))
+standing_few b w s = omega (arith, standing_length b, ap length s.list, list_few (leg_in b) (sites_of (book_of b)) (open_sites b w))
 
-pub sound-few : (b : List ℕ) → Sound b → lengthIn b ≤ maxSites
-sound-few b s = omega (arith, standing-few b s.whole s.standing, open-few b s.whole)
+pub sound_few : (b : List ℕ) → Sound b → length_in b ≤ max_sites
+sound_few b s = omega (arith, standing_few b s.whole s.standing, open_few b s.whole)
 
 -- the lines of a table with their marks as a book, with no standing leg and no tour
-abbrev pub linesAlone : List ℕ → Book
-linesAlone b = record { lines = linesIn b; closed = closed_in b; leg = none; tour = none }
+abbrev pub lines_alone : List ℕ → Book
+lines_alone b = record { lines = lines_in b; closed = closed_in b; leg = none; tour = none }
 
 -- WHERE THE FIRST HALF IS KEPT the lines are proper, whatever the standing leg is
-pub whole-proper : (b : List ℕ) → Whole b → Proper (linesAlone b)
-whole-proper b w =
+pub whole_proper : (b : List ℕ) → Whole b → Proper (lines_alone b)
+whole_proper b w =
     record {
       rising = w.sites.rising;
       numbers = w.sites.numbers;
-      onGrid = w.sites.onGrid;
-      marks = closed-ok b w.sites.rising;
-      few = omega (arith, lines-length b, w.sites.few);
-      legOk = tt;
-      tourOk = tt;
+      on_grid = w.sites.on_grid;
+      marks = closed_ok b w.sites.rising;
+      few = omega (arith, lines_length b, w.sites.few);
+      leg_ok = tt;
+      tour_ok = tt;
     }
 
 -- A SOUND TABLE HOLDS A PROPER BOOK
-pub sound-proper : (b : List ℕ) → Sound b → Proper (bookOf b)
-sound-proper b s =
+pub sound_proper : (b : List ℕ) → Sound b → Proper (book_of b)
+sound_proper b s =
     record {
       rising = s.whole.sites.rising;
       numbers = s.whole.sites.numbers;
-      onGrid = s.whole.sites.onGrid;
-      marks = closed-ok b s.whole.sites.rising;
-      few = omega (arith, lines-length b, s.whole.sites.few);
-      legOk = s.standing.leg;
-      tourOk = s.whole.tour;
+      on_grid = s.whole.sites.on_grid;
+      marks = closed_ok b s.whole.sites.rising;
+      few = omega (arith, lines_length b, s.whole.sites.few);
+      leg_ok = s.standing.leg;
+      tour_ok = s.whole.tour;
     }

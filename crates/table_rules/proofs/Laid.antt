@@ -11,102 +11,102 @@ use Rattle.words.specs.Words.{word_at}
 use Rattle.grid.specs.declared.Site.{Site}
 use Rattle.grid.specs.declared.Leg.{Leg}
 use Rattle.book.specs.Tour.{Tour}
-use Rattle.book.specs.Book.{emptyBook, open_in, sites_of, list_of}
+use Rattle.book.specs.Book.{empty_book, open_in, sites_of, list_of}
 use Rattle.book.specs.Proper.{LegOk, TourOk, Rising}
-use Rattle.table_header.specs.Layout.{flagStart, lengthStart, tourStart}
-use Rattle.table_header.specs.Header.{countIn, legIn, tourIn, ZeroFrom, HeaderOk}
-use Rattle.table_sites.specs.Lines.{lines_from, linesIn, marksIn, closedOf, closed_in, MarkBits}
+use Rattle.table_header.specs.Layout.{flag_start, length_start, tour_start}
+use Rattle.table_header.specs.Header.{count_in, leg_in, tour_in, ZeroFrom, HeaderOk}
+use Rattle.table_sites.specs.Lines.{lines_from, lines_in, marks_in, closed_of, closed_in, MarkBits}
 use Rattle.table_sites.specs.Rules.{SitesOk}
-use Rattle.table_standing.specs.Layout.{listStart}
-use Rattle.table_standing.specs.Standing.{wordsFrom, standingIn, numbersOf}
+use Rattle.table_standing.specs.Layout.{list_start}
+use Rattle.table_standing.specs.Standing.{words_from, standing_in, numbers_of}
 use Rattle.tree_node.specs.Tally.{total}
-use Rattle.table_empty.specs.EmptyTable.{emptyTable}
-use Rattle.table_empty.proofs.EmptyTree.{empty-length, empty-low, empty-behind, empty-past, empty-word, empty-layout, empty-rooted, empty-leaves}
+use Rattle.table_empty.specs.EmptyTable.{empty_table}
+use Rattle.table_empty.proofs.EmptyTree.{empty_length, empty_low, empty_behind, empty_past, empty_word, empty_layout, empty_rooted, empty_leaves}
 use Rattle.tree_rules.proofs.Sums.{carried}
-use Rattle.tree_check.specs.Leaves.{leafEntries}
-use Rattle.tree_check.specs.Opens.{opensStart, opensIn}
-use Rattle.table_rules.specs.Table.{bookOf, Sound}
+use Rattle.tree_check.specs.Leaves.{leaf_entries}
+use Rattle.tree_check.specs.Opens.{opens_start, opens_in}
+use Rattle.table_rules.specs.Table.{book_of, Sound}
 
-no-count : countIn emptyTable ≡ 0
-no-count = empty-word 0 (omega arith)
+no_count : count_in empty_table ≡ 0
+no_count = empty_word 0 (omega arith)
 
-no_lines : linesIn emptyTable ≡ []
-unfolding linesIn lines_from
-no_lines = ap (lines_from emptyTable 0) no-count
+no_lines : lines_in empty_table ≡ []
+unfolding lines_in lines_from
+no_lines = ap (lines_from empty_table 0) no_count
 
-no-closed : closed_in emptyTable ≡ []
-unfolding closed_in closedOf
-no-closed = ap (λ (s : List Site). closedOf s (marksIn emptyTable)) no_lines
+no_closed : closed_in empty_table ≡ []
+unfolding closed_in closed_of
+no_closed = ap (λ (s : List Site). closed_of s (marks_in empty_table)) no_lines
 
-no-sites : sites_of (bookOf emptyTable) ≡ []
+no_sites : sites_of (book_of empty_table) ≡ []
 unfolding open_in
-no-sites = ap (open_in (closed_in emptyTable)) no_lines
+no_sites = ap (open_in (closed_in empty_table)) no_lines
 
-no-leg : legIn emptyTable ≡ none
-unfolding legIn
-no-leg = rw (eq-eqb (word_at emptyTable flagStart) 0 (empty-word flagStart (omega arith))) refl
+no_leg : leg_in empty_table ≡ none
+unfolding leg_in
+no_leg = rw (eq-eqb (word_at empty_table flag_start) 0 (empty_word flag_start (omega arith))) refl
 
 -- the words behind the layout's number are 0
-no_flag : word_at emptyTable tourStart ≡ 0
+no_flag : word_at empty_table tour_start ≡ 0
 unfolding word_at
-no_flag = omega (arith, empty-behind tourStart (omega arith) (omega arith), empty-behind (tourStart + 1) (omega arith) (omega arith))
+no_flag = omega (arith, empty_behind tour_start (omega arith) (omega arith), empty_behind (tour_start + 1) (omega arith) (omega arith))
 
-no-tour : tourIn emptyTable ≡ none
-unfolding tourIn
-no-tour = rw (eq-eqb (word_at emptyTable tourStart) 0 no_flag) refl
+no_tour : tour_in empty_table ≡ none
+unfolding tour_in
+no_tour = rw (eq-eqb (word_at empty_table tour_start) 0 no_flag) refl
 
 -- THE EMPTY BOOK
-pub laid-book : bookOf emptyTable ≡ emptyBook
-laid-book = λ i. record { lines = no_lines i; closed = no-closed i; leg = no-leg i; tour = no-tour i }
+pub laid_book : book_of empty_table ≡ empty_book
+laid_book = λ i. record { lines = no_lines i; closed = no_closed i; leg = no_leg i; tour = no_tour i }
 
-laid-sites : SitesOk emptyTable
+laid_sites : SitesOk empty_table
 unfolding MarkBits
-laid-sites =
+laid_sites =
     record {
-      few = omega (arith, no-count);
+      few = omega (arith, no_count);
       numbers = λ p m. absurd (Memᴰ.not-nil (subst (λ (s : List Site). Memᴰ p s) no_lines m));
       rising = subst (λ (s : List Site). Rising s) (sym no_lines) tt;
-      onGrid = λ p m. absurd (Memᴰ.not-nil (subst (λ (s : List Site). Memᴰ p s) no_lines m));
-      bits = λ k h. absurd (omega (arith, no-count));
+      on_grid = λ p m. absurd (Memᴰ.not-nil (subst (λ (s : List Site). Memᴰ p s) no_lines m));
+      bits = λ k h. absurd (omega (arith, no_count));
     }
 
-laid-header : HeaderOk emptyTable
+laid_header : HeaderOk empty_table
 unfolding ZeroFrom
-laid-header =
+laid_header =
     record {
-      layout = empty-layout;
-      leg = record { flag = omega (arith, empty-word flagStart (omega arith)); unset = λ z i l u. empty-low i (omega arith) };
-      tour = record { flag = omega (arith, no_flag); unset = λ z i l u. empty-behind i (omega arith) (omega arith) };
-      kept = λ i l u. empty-behind i (omega arith) (omega arith);
+      layout = empty_layout;
+      leg = record { flag = omega (arith, empty_word flag_start (omega arith)); unset = λ z i l u. empty_low i (omega arith) };
+      tour = record { flag = omega (arith, no_flag); unset = λ z i l u. empty_behind i (omega arith) (omega arith) };
+      kept = λ i l u. empty_behind i (omega arith) (omega arith);
     }
 
-no-list : standingIn emptyTable ≡ []
-unfolding standingIn wordsFrom
-no-list = ap (wordsFrom emptyTable listStart) (empty-word lengthStart (omega arith))
+no_list : standing_in empty_table ≡ []
+unfolding standing_in words_from
+no_list = ap (words_from empty_table list_start) (empty_word length_start (omega arith))
 
 -- no site is open
-no-opens : opensIn emptyTable ≡ 0
-unfolding opensIn word_at
-no-opens = omega (arith, empty-past opensStart (omega arith) (omega arith), empty-past (opensStart + 1) (omega arith) (omega arith))
+no_opens : opens_in empty_table ≡ 0
+unfolding opens_in word_at
+no_opens = omega (arith, empty_past opens_start (omega arith) (omega arith), empty_past (opens_start + 1) (omega arith) (omega arith))
 
 -- THE TABLE JUST LAID OUT IS SOUND
-pub laid-sound : Sound emptyTable
-unfolding leafEntries numbersOf total
-laid-sound =
+pub laid_sound : Sound empty_table
+unfolding leaf_entries numbers_of total
+laid_sound =
     record {
       whole = record {
-        len = empty-length;
-        sites = laid-sites;
-        header = laid-header;
-        tour = subst (λ (o : Option Tour). TourOk o (sites_of (bookOf emptyTable))) (sym no-tour) tt;
+        len = empty_length;
+        sites = laid_sites;
+        header = laid_header;
+        tour = subst (λ (o : Option Tour). TourOk o (sites_of (book_of empty_table))) (sym no_tour) tt;
         tree = record {
-          rooted = empty-rooted;
-          leaf = λ w. ap (total w) empty-leaves ∙ sym (λ i. total w (leafEntries (no-closed i) (no_lines i)));
-          opens = no-opens ∙ sym (ap (total carried) empty-leaves);
+          rooted = empty_rooted;
+          leaf = λ w. ap (total w) empty_leaves ∙ sym (λ i. total w (leaf_entries (no_closed i) (no_lines i)));
+          opens = no_opens ∙ sym (ap (total carried) empty_leaves);
         };
       };
       standing = record {
-        leg = subst (λ (o : Option Leg). LegOk o) (sym no-leg) tt;
-        list = no-list ∙ sym (ap numbersOf (λ i. list_of (no-leg i) (no-sites i)));
+        leg = subst (λ (o : Option Leg). LegOk o) (sym no_leg) tt;
+        list = no_list ∙ sym (ap numbers_of (λ i. list_of (no_leg i) (no_sites i)));
       };
     }

@@ -4,16 +4,16 @@ use Rattle.std.specs.Prelude.{◌≡◌, List, ℕ}
 use Rattle.std.proofs.Math.Option.{none, some}
 use Rattle.grid.specs.declared.Leg.{Leg}
 use Rattle.grid.specs.Position.{OnGrid}
-use Rattle.split.specs.SplitOf.{splitOf}
-use Rattle.book.specs.Tour.{Tour, lastNumber}
+use Rattle.split.specs.SplitOf.{split_of}
+use Rattle.book.specs.Tour.{Tour, last_number}
 use Rattle.book.specs.Book.{sites_of}
-use Rattle.table_header.specs.Header.{tourIn}
-use Rattle.table_rules.specs.Table.{bookOf}
+use Rattle.table_header.specs.Header.{tour_in}
+use Rattle.table_rules.specs.Table.{book_of}
 
 -- the leg begins at the tour's last corner and ends on the grid, and site n ends its whole list
 pub record Follows (l : Leg) (n : ℕ) (b : List ℕ) : Type 0 where
   pub tour : Tour
-  pub runs : tourIn b ≡ some tour
+  pub runs : tour_in b ≡ some tour
   pub from : tour.corner ≡ l.s
-  pub onGrid : OnGrid l.e
-  pub last : lastNumber none (splitOf l (sites_of (bookOf b))) ≡ some n
+  pub on_grid : OnGrid l.e
+  pub last : last_number none (split_of l (sites_of (book_of b))) ≡ some n

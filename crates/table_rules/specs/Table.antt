@@ -4,29 +4,29 @@
 -- and C-17 gives the last two a number of their own: "65 is kept for the layout and the rules on tree, sites and tour."
 -- Assumes nothing.
 use Rattle.std.specs.Prelude.{◌≡◌, List, ℕ, length}
-use Rattle.limits.specs.Limits.{tableBytes}
-use Rattle.book.specs.Book.{Book, sites_of, standingList}
+use Rattle.limits.specs.Limits.{table_bytes}
+use Rattle.book.specs.Book.{Book, sites_of, standing_list}
 use Rattle.book.specs.Proper.{LegOk, TourOk}
-use Rattle.table_header.specs.Header.{legIn, tourIn, HeaderOk}
-use Rattle.table_sites.specs.Lines.{linesIn, closed_in}
+use Rattle.table_header.specs.Header.{leg_in, tour_in, HeaderOk}
+use Rattle.table_sites.specs.Lines.{lines_in, closed_in}
 use Rattle.table_sites.specs.Rules.{SitesOk}
-use Rattle.table_standing.specs.Standing.{standingIn, numbersOf}
+use Rattle.table_standing.specs.Standing.{standing_in, numbers_of}
 use Rattle.tree_check.specs.Tied.{Tied}
 
 -- the book that a table holds: its site array with the marks, its standing leg and its tour
-abbrev pub bookOf : List ℕ → Book
-bookOf b = record { lines = linesIn b; closed = closed_in b; leg = legIn b; tour = tourIn b }
+abbrev pub book_of : List ℕ → Book
+book_of b = record { lines = lines_in b; closed = closed_in b; leg = leg_in b; tour = tour_in b }
 
 -- the first half: length, sites, header, tour and tree. Where it is broken, 65
 pub record Whole (b : List ℕ) : Type 0 where
-  pub len : length b ≡ tableBytes
+  pub len : length b ≡ table_bytes
   -- "a rule on sites (number 0 or held twice, position off the grid, over 512)"
   pub sites : SitesOk b
   -- "the docs/ layout": the flag of the standing leg and the zeros without one belong to it
   pub header : HeaderOk b
   -- "a stored corner off the grid or a remembered site that isn't held counts under 65"; C-19: "a remembered site that
   -- is closed counts under 65"
-  pub tour : TourOk (tourIn b) (sites_of (bookOf b))
+  pub tour : TourOk (tour_in b) (sites_of (book_of b))
   -- "a tree rule"; every held site is in one leaf entry, and there is no other; each entry has the number of open sites
   -- under it
   pub tree : Tied b
@@ -35,9 +35,9 @@ pub record Whole (b : List ℕ) : Type 0 where
 -- kept and this one broken, 69: "A sound tree with a wrong standing list, or a standing leg off the grid"
 pub record StandingOk (b : List ℕ) : Type 0 where
   -- "the standing leg (off the grid)"
-  pub leg : LegOk (legIn b)
+  pub leg : LegOk (leg_in b)
   -- "The standing list is always the list of the standing leg", and empty while no site is open (C-19)
-  pub list : standingIn b ≡ numbersOf (standingList (bookOf b))
+  pub list : standing_in b ≡ numbers_of (standing_list (book_of b))
 
 -- A SOUND TABLE
 pub record Sound (b : List ℕ) : Type 0 where

@@ -5,12 +5,12 @@ use Prim.Native.Nat.{ℕ}
 use Rattle.grid.specs.declared.Leg.{Leg}
 use Rattle.book.specs.Book.{sites_of}
 use Rattle.tree_search.specs.Searching.{ListsTree}
-use Rattle.tree_search.proofs.Finding.{found-is}
-use Rattle.table_rules.specs.Table.{bookOf, Whole}
+use Rattle.tree_search.proofs.Finding.{found_is}
+use Rattle.table_rules.specs.Table.{book_of, Whole}
 use Rattle.table_rules.specs.Listing.{ListsTable}
-use Rattle.table_rules.proofs.Books.{open-sites}
-use Rattle.table_search.proofs.Points.{tree-sites}
+use Rattle.table_rules.proofs.Books.{open_sites}
+use Rattle.table_search.proofs.Points.{tree_sites}
 
 -- THE LIST OF A LEG
-pub searched-list : (l : Leg) (b r r' : List ℕ) (k : ℕ) → Whole b → ListsTree l b r r' k → ListsTable l b r' k
-searched-list l b r r' k w f = record { held = f.held; list = found-is f (sites_of (bookOf b)) (open-sites b w) (tree-sites b w) }
+pub searched_list : (l : Leg) (b r r' : List ℕ) (k : ℕ) → Whole b → ListsTree l b r r' k → ListsTable l b r' k
+searched_list l b r r' k w f = record { held = f.held; list = found_is f (sites_of (book_of b)) (open_sites b w) (tree_sites b w) }

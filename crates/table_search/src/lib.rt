@@ -2,7 +2,7 @@
 // a stored one is tested against.
 ghost use Rattle.std.specs.Prelude.{◌≤◌, length};
 ghost use Rattle.grid.specs.Position.{LegOnGrid};
-ghost use Rattle.list_row.specs.Vertices.{rowBytes};
+ghost use Rattle.list_row.specs.Vertices.{row_bytes};
 ghost use Rattle.table_rules.specs.Table.{Whole};
 ghost use Rattle.table_rules.specs.Listing.{ListsTable};
 
@@ -10,7 +10,7 @@ use grid::Leg;
 
 // Makes the list in the row that begins the work buffer, and counts its entries.
 pub fn search(t: &[u8], leg: Leg, work: &mut [u8]) -> usize
-    requires { Whole t.now × LegOnGrid leg × (rowBytes ≤ length work.old) }
+    requires { Whole t.now × LegOnGrid leg × (row_bytes ≤ length work.old) }
     ensures { ListsTable leg t.now work.new result }
 {
     tree_search::search(t, leg, work)

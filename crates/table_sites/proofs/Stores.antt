@@ -5,48 +5,48 @@ use mathlib.Core.List.{List}
 use Prim.Native.Nat.{ℕ, ◌+◌, ◌≤◌}
 use native.Mathlib.Omega.{arith}
 use lib.ListN.{length}
-use Rattle.words.specs.Words.{word_at, putWord, Only}
-use Rattle.words.proofs.Frame.{only-trans, only_wider, only-putWord, word-putWord, word_low}
+use Rattle.words.specs.Words.{word_at, put_word, Only}
+use Rattle.words.proofs.Frame.{only_trans, only_wider, only_put_word, word_put_word, word_low}
 use Rattle.grid.specs.declared.Position.{Position}
 use Rattle.grid.specs.declared.Site.{Site}
-use Rattle.table_sites.specs.Layout.{siteBytes, eastOffset, northOffset, markOffset}
+use Rattle.table_sites.specs.Layout.{site_bytes, east_offset, north_offset, mark_offset}
 use Rattle.table_sites.specs.Changes.{PutPosition, PutSite}
-use Rattle.table_sites.proofs.Reading.{site-is}
+use Rattle.table_sites.proofs.Reading.{site_is}
 
 -- one word stored
-module _ (b b' : List ℕ) (o v : ℕ) (e : b' ≡ putWord b o v) where
-  pub stored-only : Only o (o + 2) b b'
-  stored-only = subst (λ (x : List ℕ). Only o (o + 2) b x) (sym e) (only-putWord b o v)
+module _ (b b' : List ℕ) (o v : ℕ) (e : b' ≡ put_word b o v) where
+  pub stored_only : Only o (o + 2) b b'
+  stored_only = subst (λ (x : List ℕ). Only o (o + 2) b x) (sym e) (only_put_word b o v)
 
-  pub stored-word : o + 2 ≤ length b → word_at b' o ≡ v
-  stored-word h = ap (λ (x : List ℕ). word_at x o) e ∙ word-putWord b o v h
+  pub stored_word : o + 2 ≤ length b → word_at b' o ≡ v
+  stored_word h = ap (λ (x : List ℕ). word_at x o) e ∙ word_put_word b o v h
 
-pub position-put : (i : ℕ) (p : Position) (b b₁ b₂ : List ℕ) → i + siteBytes ≤ length b → b₁ ≡ putWord b (i + eastOffset) p.east
-    → b₂ ≡ putWord b₁ (i + northOffset) p.north → PutPosition i p b b₂
-position-put i p b b₁ b₂ room e₁ e₂ =
-    let o₁ : Only (i + eastOffset) ((i + eastOffset) + 2) b b₁ = stored-only b b₁ _ _ e₁ in
-    let o₂ : Only (i + northOffset) ((i + northOffset) + 2) b₁ b₂ = stored-only b₁ b₂ _ _ e₂ in
+pub position_put : (i : ℕ) (p : Position) (b b₁ b₂ : List ℕ) → i + site_bytes ≤ length b → b₁ ≡ put_word b (i + east_offset) p.east
+    → b₂ ≡ put_word b₁ (i + north_offset) p.north → PutPosition i p b b₂
+position_put i p b b₁ b₂ room e₁ e₂ =
+    let o₁ : Only (i + east_offset) ((i + east_offset) + 2) b b₁ = stored_only b b₁ _ _ e₁ in
+    let o₂ : Only (i + north_offset) ((i + north_offset) + 2) b₁ b₂ = stored_only b₁ b₂ _ _ e₂ in
     record {
-      only = only-trans (only_wider (omega arith) (omega arith) o₁) (only_wider (omega arith) (omega arith) o₂);
-      east = word_low o₂ (i + eastOffset) (omega arith) ∙ stored-word b b₁ _ _ e₁ (omega arith);
-      north = stored-word b₁ b₂ _ _ e₂ (omega (arith, o₁.len));
+      only = only_trans (only_wider (omega arith) (omega arith) o₁) (only_wider (omega arith) (omega arith) o₂);
+      east = word_low o₂ (i + east_offset) (omega arith) ∙ stored_word b b₁ _ _ e₁ (omega arith);
+      north = stored_word b₁ b₂ _ _ e₂ (omega (arith, o₁.len));
     }
 
-pub site-put : (i : ℕ) (p : Site) (b b₁ b₂ b₃ : List ℕ) → i + siteBytes ≤ length b → b₁ ≡ putWord b i p.number
-    → PutPosition i p.position b₁ b₂ → b₃ ≡ putWord b₂ (i + markOffset) 0 → PutSite i p b b₃
-site-put i p b b₁ b₂ b₃ room e₁ q e₃ =
-    let o₁ : Only i (i + 2) b b₁ = stored-only b b₁ _ _ e₁ in
-    let o₂ : Only (i + eastOffset) (i + markOffset) b₁ b₂ = q.only in
-    let o₃ : Only (i + markOffset) ((i + markOffset) + 2) b₂ b₃ = stored-only b₂ b₃ _ _ e₃ in
+pub site_put : (i : ℕ) (p : Site) (b b₁ b₂ b₃ : List ℕ) → i + site_bytes ≤ length b → b₁ ≡ put_word b i p.number
+    → PutPosition i p.position b₁ b₂ → b₃ ≡ put_word b₂ (i + mark_offset) 0 → PutSite i p b b₃
+site_put i p b b₁ b₂ b₃ room e₁ q e₃ =
+    let o₁ : Only i (i + 2) b b₁ = stored_only b b₁ _ _ e₁ in
+    let o₂ : Only (i + east_offset) (i + mark_offset) b₁ b₂ = q.only in
+    let o₃ : Only (i + mark_offset) ((i + mark_offset) + 2) b₂ b₃ = stored_only b₂ b₃ _ _ e₃ in
     record {
       only =
-          only-trans (only_wider (omega arith) (omega arith) o₁)
-          (only-trans (only_wider (omega arith) (omega arith) o₂) (only_wider (omega arith) (omega arith) o₃));
+          only_trans (only_wider (omega arith) (omega arith) o₁)
+          (only_trans (only_wider (omega arith) (omega arith) o₂) (only_wider (omega arith) (omega arith) o₃));
       site =
           sym
-          (site-is b₃ i p.number p.position.east p.position.north
-          (sym (word_low o₃ i (omega arith) ∙ word_low o₂ i (omega arith) ∙ stored-word b b₁ _ _ e₁ (omega arith)))
-          (sym (word_low o₃ (i + eastOffset) (omega arith) ∙ q.east))
-          (sym (word_low o₃ (i + northOffset) (omega arith) ∙ q.north)));
-      mark = stored-word b₂ b₃ _ _ e₃ (omega (arith, o₁.len, o₂.len));
+          (site_is b₃ i p.number p.position.east p.position.north
+          (sym (word_low o₃ i (omega arith) ∙ word_low o₂ i (omega arith) ∙ stored_word b b₁ _ _ e₁ (omega arith)))
+          (sym (word_low o₃ (i + east_offset) (omega arith) ∙ q.east))
+          (sym (word_low o₃ (i + north_offset) (omega arith) ∙ q.north)));
+      mark = stored_word b₂ b₃ _ _ e₃ (omega (arith, o₁.len, o₂.len));
     }

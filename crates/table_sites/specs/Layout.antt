@@ -1,32 +1,32 @@
 -- Where the site array stands in the table (docs/LAYOUT.md): behind the header, which has the count.
 -- Assumes nothing.
 use Rattle.std.specs.Prelude.{ℕ, ◌+◌, ◌*◌}
-use Rattle.limits.specs.Limits.{maxSites}
+use Rattle.limits.specs.Limits.{max_sites}
 
 -- the records: number, east, north and the mark, 16 bits each
-abbrev pub siteStart : ℕ
-siteStart = 64
+abbrev pub site_start : ℕ
+site_start = 64
 
 -- the bytes of a record
-abbrev pub siteBytes : ℕ
-siteBytes = 8
+abbrev pub site_bytes : ℕ
+site_bytes = 8
 
 -- where in a record its easting stands
-abbrev pub eastOffset : ℕ
-eastOffset = 2
+abbrev pub east_offset : ℕ
+east_offset = 2
 
 -- where in a record its northing stands
-abbrev pub northOffset : ℕ
-northOffset = 4
+abbrev pub north_offset : ℕ
+north_offset = 4
 
 -- where in a record its mark stands: 0 where the site is open, 1 where it is closed (document 02, C-19)
-abbrev pub markOffset : ℕ
-markOffset = 6
+abbrev pub mark_offset : ℕ
+mark_offset = 6
 
 -- where record k begins
-abbrev pub recordStart : ℕ → ℕ
-recordStart k = siteStart + siteBytes * k
+abbrev pub record_start : ℕ → ℕ
+record_start k = site_start + site_bytes * k
 
 -- where the last record ends
-abbrev pub siteEnd : ℕ
-siteEnd = siteStart + siteBytes * maxSites
+abbrev pub site_end : ℕ
+site_end = site_start + site_bytes * max_sites

@@ -2,18 +2,18 @@
 -- document 02, C-19, "Each site now has an open mark".
 -- Assumes nothing.
 use Rattle.std.specs.Prelude.{◌≡◌, cond, List, [], ◌∷◌, ℕ, zero, suc, ◌+◌, ◌≤◌, ◌<◌, eqb, length, get_or}
-use Rattle.limits.specs.Limits.{maxSites, tableBytes}
+use Rattle.limits.specs.Limits.{max_sites, table_bytes}
 use Rattle.words.specs.Words.{word_at}
 use Rattle.grid.specs.declared.Site.{Site}
-use Rattle.list_row.specs.Places.{siteAtByte}
+use Rattle.list_row.specs.Places.{site_at_byte}
 use Rattle.book.specs.Proper.{Rising}
-use Rattle.table_header.specs.Header.{countIn}
-use Rattle.table_sites.specs.Layout.{markOffset, recordStart}
+use Rattle.table_header.specs.Header.{count_in}
+use Rattle.table_sites.specs.Layout.{mark_offset, record_start}
 use Rattle.table_sites.specs.declared.Found.{Found}
 
 -- the site of record k
 abbrev pub line_at : List ℕ → ℕ → Site
-line_at b k = siteAtByte b (recordStart k)
+line_at b k = site_at_byte b (record_start k)
 
 -- the n lines from record k on
 unfoldable pub lines_from : List ℕ → ℕ → ℕ → List Site
@@ -21,42 +21,42 @@ lines_from b k zero = []
 lines_from b k (suc n) = line_at b k ∷ lines_from b (suc k) n
 
 -- the lines of the table
-unfoldable pub linesIn : List ℕ → List Site
-linesIn b = lines_from b 0 (countIn b)
+unfoldable pub lines_in : List ℕ → List Site
+lines_in b = lines_from b 0 (count_in b)
 
 -- the mark of record k
-abbrev pub markAt : List ℕ → ℕ → ℕ
-markAt b k = word_at b (recordStart k + markOffset)
+abbrev pub mark_at : List ℕ → ℕ → ℕ
+mark_at b k = word_at b (record_start k + mark_offset)
 
 -- the n marks from record k on
-unfoldable pub marksFrom : List ℕ → ℕ → ℕ → List ℕ
-marksFrom b k zero = []
-marksFrom b k (suc n) = markAt b k ∷ marksFrom b (suc k) n
+unfoldable pub marks_from : List ℕ → ℕ → ℕ → List ℕ
+marks_from b k zero = []
+marks_from b k (suc n) = mark_at b k ∷ marks_from b (suc k) n
 
 -- the marks of the table's lines
-unfoldable pub marksIn : List ℕ → List ℕ
-marksIn b = marksFrom b 0 (countIn b)
+unfoldable pub marks_in : List ℕ → List ℕ
+marks_in b = marks_from b 0 (count_in b)
 
 -- the numbers of the lines whose mark is not 0
-unfoldable pub closedOf : List Site → List ℕ → List ℕ
-closedOf [] ms = []
-closedOf (p ∷ s) [] = []
-closedOf (p ∷ s) (m ∷ ms) = cond (eqb m 0) (closedOf s ms) (p.number ∷ closedOf s ms)
+unfoldable pub closed_of : List Site → List ℕ → List ℕ
+closed_of [] ms = []
+closed_of (p ∷ s) [] = []
+closed_of (p ∷ s) (m ∷ ms) = cond (eqb m 0) (closed_of s ms) (p.number ∷ closed_of s ms)
 
 -- the closed numbers of the table
 unfoldable pub closed_in : List ℕ → List ℕ
-closed_in b = closedOf (linesIn b) (marksIn b)
+closed_in b = closed_of (lines_in b) (marks_in b)
 
 -- the mark of each of the first n records is 0 or 1
 unfoldable pub MarkBits : List ℕ → ℕ → Type 0
-MarkBits b n = (k : ℕ) → k < n → markAt b k ≤ 1
+MarkBits b n = (k : ℕ) → k < n → mark_at b k ≤ 1
 
 -- the array may be searched and changed: lines in rising order of number, no more than there is room for
 pub record Array (b : List ℕ) : Type 0 where
-  pub len : length b ≡ tableBytes
-  pub few : countIn b ≤ maxSites
-  pub rising : Rising (linesIn b)
-  pub bits : MarkBits b (countIn b)
+  pub len : length b ≡ table_bytes
+  pub few : count_in b ≤ max_sites
+  pub rising : Rising (lines_in b)
+  pub bits : MarkBits b (count_in b)
 
 -- what stands past the last line: no site has the number 0
 abbrev pub no_site : Site
@@ -85,6 +85,6 @@ FoundAs (Found.Absent k) n s = StandsNowhere k n s
 -- the number is not below lo, nor from hi on
 pub record Narrowed (b : List ℕ) (n lo hi : ℕ) : Type 0 where
   pub order : lo ≤ hi
-  pub within : hi ≤ countIn b
-  pub lower : (i : ℕ) → i < lo → number_of (linesIn b) i < n
-  pub higher : (i : ℕ) → hi ≤ i → i < countIn b → n < number_of (linesIn b) i
+  pub within : hi ≤ count_in b
+  pub lower : (i : ℕ) → i < lo → number_of (lines_in b) i < n
+  pub higher : (i : ℕ) → hi ≤ i → i < count_in b → n < number_of (lines_in b) i

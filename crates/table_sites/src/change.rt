@@ -1,9 +1,9 @@
 // Changes of the site array: a record is put between others, taken out, or given another position or mark.
 ghost use Rattle.std.specs.Prelude.{◌+◌, ◌<◌, ◌≤◌, length, set};
-ghost use Rattle.limits.specs.Limits.{maxSites};
-ghost use Rattle.table_header.specs.Header.{countIn};
-ghost use Rattle.table_sites.specs.Layout.{siteBytes};
-ghost use Rattle.table_sites.specs.Lines.{linesIn, marksIn, Array};
+ghost use Rattle.limits.specs.Limits.{max_sites};
+ghost use Rattle.table_header.specs.Header.{count_in};
+ghost use Rattle.table_sites.specs.Layout.{site_bytes};
+ghost use Rattle.table_sites.specs.Lines.{lines_in, marks_in, Array};
 ghost use Rattle.table_sites.specs.Changes.{inserted, deleted, placed, ArrayChanged, PutPosition, PutSite};
 
 use crate::{EAST_OFFSET, MARK_OFFSET, NORTH_OFFSET, SITE_BYTES, SITE_START};
@@ -11,7 +11,7 @@ use grid::{Position, Site};
 
 // Gives the record at byte i a position.
 fn put_position(t: &mut [u8], i: usize, position: Position)
-    requires { i + siteBytes ≤ length t.old }
+    requires { i + site_bytes ≤ length t.old }
     ensures { PutPosition i position t.old t.new }
 {
     words::put_word(t, i + EAST_OFFSET, position.east);
@@ -20,7 +20,7 @@ fn put_position(t: &mut [u8], i: usize, position: Position)
 
 // Stores a site in the record at byte i: it is open.
 fn put_site(t: &mut [u8], i: usize, site: Site)
-    requires { i + siteBytes ≤ length t.old }
+    requires { i + site_bytes ≤ length t.old }
     ensures { PutSite i site t.old t.new }
 {
     words::put_word(t, i, site.number);
@@ -30,9 +30,9 @@ fn put_site(t: &mut [u8], i: usize, site: Site)
 
 // Puts a site before record k: the records from k on go up by one.
 pub fn insert(t: &mut [u8], k: usize, site: Site)
-    requires { Array t.old × (countIn t.old < maxSites) × (k ≤ countIn t.old) }
-    ensures { ArrayChanged (inserted k site (linesIn t.old))
-        (inserted k 0 (marksIn t.old)) t.old t.new }
+    requires { Array t.old × (count_in t.old < max_sites) × (k ≤ count_in t.old) }
+    ensures { ArrayChanged (inserted k site (lines_in t.old))
+        (inserted k 0 (marks_in t.old)) t.old t.new }
 {
     let n = table_header::count(t);
     let to = SITE_START + SITE_BYTES * k;
@@ -44,9 +44,9 @@ pub fn insert(t: &mut [u8], k: usize, site: Site)
 
 // Takes record k out: the records behind it go down by one.
 pub fn delete(t: &mut [u8], k: usize)
-    requires { Array t.old × (k < countIn t.old) }
-    ensures { ArrayChanged (deleted k (linesIn t.old))
-        (deleted k (marksIn t.old)) t.old t.new }
+    requires { Array t.old × (k < count_in t.old) }
+    ensures { ArrayChanged (deleted k (lines_in t.old))
+        (deleted k (marks_in t.old)) t.old t.new }
 {
     let n = table_header::count(t);
     let rest = n - 1;
@@ -58,9 +58,9 @@ pub fn delete(t: &mut [u8], k: usize)
 
 // Gives record k another position.
 pub fn place(t: &mut [u8], k: usize, position: Position)
-    requires { Array t.old × (k < countIn t.old) }
-    ensures { ArrayChanged (placed k position (linesIn t.old))
-        (marksIn t.old) t.old t.new }
+    requires { Array t.old × (k < count_in t.old) }
+    ensures { ArrayChanged (placed k position (lines_in t.old))
+        (marks_in t.old) t.old t.new }
 {
     let at = SITE_START + SITE_BYTES * k;
     put_position(t, at, position);
@@ -68,9 +68,9 @@ pub fn place(t: &mut [u8], k: usize, position: Position)
 
 // Gives record k another mark: 0 for open, 1 for closed.
 pub fn mark(t: &mut [u8], k: usize, m: u16)
-    requires { Array t.old × (k < countIn t.old) × (m ≤ 1) }
-    ensures { ArrayChanged (linesIn t.old)
-        (set (marksIn t.old) k m) t.old t.new }
+    requires { Array t.old × (k < count_in t.old) × (m ≤ 1) }
+    ensures { ArrayChanged (lines_in t.old)
+        (set (marks_in t.old) k m) t.old t.new }
 {
     let at = SITE_START + SITE_BYTES * k;
     words::put_word(t, at + MARK_OFFSET, m);

@@ -1,10 +1,10 @@
 // The site array of the table, sorted by site number: it is the site book's lines. Document 01, "The site book";
 // docs/LAYOUT.md. A record is a site's number, its easting and its northing, and its mark, 16 bits each.
 ghost use Rattle.std.specs.Prelude.{◌≡◌, ◌*◌, ◌-◌, ◌<◌, ◌≤◌, length};
-ghost use Rattle.limits.specs.Limits.{maxSites, tableBytes};
+ghost use Rattle.limits.specs.Limits.{max_sites, table_bytes};
 ghost use Rattle.words.specs.Words.{word_at};
-ghost use Rattle.table_sites.specs.Layout.{recordStart};
-ghost use Rattle.table_sites.specs.Lines.{linesIn, line_at, markAt, Array, FoundAs, Narrowed};
+ghost use Rattle.table_sites.specs.Layout.{record_start};
+ghost use Rattle.table_sites.specs.Lines.{lines_in, line_at, mark_at, Array, FoundAs, Narrowed};
 
 use grid::{Position, Site};
 
@@ -32,8 +32,8 @@ pub enum Found {
 
 // The number in record k.
 pub fn number(t: &[u8], k: usize) -> u16
-    requires { (length t.now ≡ tableBytes) × (k < maxSites) }
-    ensures { result ≡ word_at t.now (recordStart k) }
+    requires { (length t.now ≡ table_bytes) × (k < max_sites) }
+    ensures { result ≡ word_at t.now (record_start k) }
 {
     let i = SITE_START + SITE_BYTES * k;
     words::word(t, i)
@@ -41,7 +41,7 @@ pub fn number(t: &[u8], k: usize) -> u16
 
 // The site of record k.
 pub fn line(t: &[u8], k: usize) -> Site
-    requires { (length t.now ≡ tableBytes) × (k < maxSites) }
+    requires { (length t.now ≡ table_bytes) × (k < max_sites) }
     ensures { result ≡ line_at t.now k }
 {
     let i = SITE_START + SITE_BYTES * k;
@@ -59,8 +59,8 @@ pub fn line(t: &[u8], k: usize) -> Site
 
 // The mark of record k: 0 where its site is open, 1 where it is closed. Document 02, C-19.
 pub fn mark(t: &[u8], k: usize) -> u16
-    requires { (length t.now ≡ tableBytes) × (k < maxSites) }
-    ensures { result ≡ markAt t.now k }
+    requires { (length t.now ≡ table_bytes) × (k < max_sites) }
+    ensures { result ≡ mark_at t.now k }
 {
     let i = SITE_START + SITE_BYTES * k;
     words::word(t, i + MARK_OFFSET)
@@ -68,8 +68,8 @@ pub fn mark(t: &[u8], k: usize) -> u16
 
 // The place of record k: half the byte at which it begins.
 pub fn place_of_record(k: usize) -> usize
-    requires { k ≤ maxSites }
-    ensures { 2 * result ≡ recordStart k }
+    requires { k ≤ max_sites }
+    ensures { 2 * result ≡ record_start k }
 {
     let start = SITE_START + SITE_BYTES * k;
     start / 2
@@ -104,7 +104,7 @@ fn lowest(k: usize, gap: usize) -> usize
 // Where number n stands, by bisection of the records from `from` up to `to`.
 fn bisect(t: &[u8], n: u16, from: usize, to: usize) -> Found
     requires { Array t.now × Narrowed t.now n from to }
-    ensures { FoundAs result n (linesIn t.now) }
+    ensures { FoundAs result n (lines_in t.now) }
 {
     let mut lo = from;
     let mut hi = to;
@@ -126,7 +126,7 @@ fn bisect(t: &[u8], n: u16, from: usize, to: usize) -> Found
 // The record, of those from lo up to hi, at which number n stands if the numbers rise evenly to m, that of record hi.
 // Any of them would do.
 fn share(n: u16, m: u16, lo: usize, hi: usize) -> usize
-    requires { (n < m) × (lo < hi) × (hi ≤ maxSites) }
+    requires { (n < m) × (lo < hi) × (hi ≤ max_sites) }
     ensures { (lo ≤ result) × (result < hi) }
 {
     let all = hi + 1;
@@ -144,7 +144,7 @@ fn share(n: u16, m: u16, lo: usize, hi: usize) -> usize
 // Where number n stands, of the records from `from` up to `to`: a look at the first, and on in steps that double.
 fn climb(t: &[u8], n: u16, from: usize, to: usize) -> Found
     requires { Array t.now × Narrowed t.now n from to }
-    ensures { FoundAs result n (linesIn t.now) }
+    ensures { FoundAs result n (lines_in t.now) }
 {
     let mut lo = from;
     let mut step = 0;
@@ -166,7 +166,7 @@ fn climb(t: &[u8], n: u16, from: usize, to: usize) -> Found
 // The same from the last one down.
 fn fall(t: &[u8], n: u16, from: usize, to: usize) -> Found
     requires { Array t.now × Narrowed t.now n from to }
-    ensures { FoundAs result n (linesIn t.now) }
+    ensures { FoundAs result n (lines_in t.now) }
 {
     let mut hi = to;
     let mut step = 1;
@@ -189,7 +189,7 @@ fn fall(t: &[u8], n: u16, from: usize, to: usize) -> Found
 // first look finds it, or is a few records off.
 fn find_spread(t: &[u8], n: u16, lo: usize, hi: usize, m: u16) -> Found
     requires { Array t.now × Narrowed t.now n lo hi × (n < m) }
-    ensures { FoundAs result n (linesIn t.now) }
+    ensures { FoundAs result n (lines_in t.now) }
 {
     if lo == hi {
         return Found::Absent(lo);
@@ -209,7 +209,7 @@ fn find_spread(t: &[u8], n: u16, lo: usize, hi: usize, m: u16) -> Found
 // records. Else they are taken for evenly spread. A bisection of all records takes steps that cannot be foreseen.
 pub fn find(t: &[u8], n: u16) -> Found
     requires { Array t.now }
-    ensures { FoundAs result n (linesIn t.now) }
+    ensures { FoundAs result n (lines_in t.now) }
 {
     let k = table_header::count(t);
     if k == 0 {
@@ -249,7 +249,7 @@ fn either(there: bool, j: usize, k: usize) -> usize
 // Where number n stands, looked for at record k and at the one behind it first. Any k would do.
 pub fn find_near(t: &[u8], n: u16, k: usize) -> Found
     requires { Array t.now }
-    ensures { FoundAs result n (linesIn t.now) }
+    ensures { FoundAs result n (lines_in t.now) }
 {
     let c = table_header::count(t);
     if k < c {

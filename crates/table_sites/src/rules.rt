@@ -1,15 +1,15 @@
 // The test of the site array in any bytes.
 ghost use Rattle.std.specs.Prelude.{◌≡◌, ◌+◌, ◌≤◌, length};
-ghost use Rattle.limits.specs.Limits.{tableBytes};
+ghost use Rattle.limits.specs.Limits.{table_bytes};
 ghost use Rattle.grid.specs.Says.{Says};
-ghost use Rattle.table_sites.specs.Layout.{siteBytes};
+ghost use Rattle.table_sites.specs.Layout.{site_bytes};
 ghost use Rattle.table_sites.specs.Rules.{SitesOk, RecordOk};
 
 use crate::{EAST_OFFSET, MARK_OFFSET, NORTH_OFFSET, SITE_BYTES, SITE_START};
 
 // Whether the record at byte i keeps the rules, where the record before it has the number low.
 fn record_ok(t: &[u8], i: usize, low: u16) -> bool
-    requires { i + siteBytes ≤ length t.now }
+    requires { i + site_bytes ≤ length t.now }
     ensures { Says result (RecordOk t.now i low) }
 {
     let number = words::word(t, i);
@@ -33,7 +33,7 @@ fn record_ok(t: &[u8], i: usize, low: u16) -> bool
 
 // Whether the site array keeps the rules on sites.
 pub fn check(t: &[u8]) -> bool
-    requires { length t.now ≡ tableBytes }
+    requires { length t.now ≡ table_bytes }
     ensures { Says result (SitesOk t.now) }
 {
     let n = table_header::count(t);

@@ -5,22 +5,22 @@ use mathlib.Core.List.{List, [], ◌∷◌, ◌++◌, append-nil}
 use Prim.Native.Nat.{ℕ, ◌≤◌}
 use native.Mathlib.Omega.{arith}
 use lib.ListN.{length, set}
-use Rattle.limits.specs.Limits.{maxEntries}
-use Rattle.words.proofs.Frame.{only-refl}
+use Rattle.limits.specs.Limits.{max_entries}
+use Rattle.words.proofs.Frame.{only_refl}
 use Rattle.tree_node.specs.declared.NodeEntry.{NodeEntry}
 use Rattle.tree_node.specs.Node.{entries, Wrote}
 use Rattle.tree_node.specs.Boxes.{hull}
 use Rattle.tree_add.specs.declared.Room.{Room}
 use Rattle.tree_add.specs.Steps.{spill, PutBehind}
 
-pub placed-kept : (n : ℕ) (e : NodeEntry) (b b' : List ℕ) → Wrote n (entries b n ++ (e ∷ [])) b b' → PutBehind Room.Kept n e b b'
+pub placed_kept : (n : ℕ) (e : NodeEntry) (b b' : List ℕ) → Wrote n (entries b n ++ (e ∷ [])) b b' → PutBehind Room.Kept n e b b'
 unfolding spill
-placed-kept n e b b' w =
+placed_kept n e b b' w =
     record { here = append-nil (entries b' n) ∙ w.here; full = omega arith; only = w.only }
 
-pub placed-over : (n c : ℕ) (e : NodeEntry) (b : List ℕ) → c ≡ length (entries b n) → maxEntries ≤ c → PutBehind (Room.Over e) n e b b
+pub placed_over : (n c : ℕ) (e : NodeEntry) (b : List ℕ) → c ≡ length (entries b n) → max_entries ≤ c → PutBehind (Room.Over e) n e b b
 unfolding spill
-placed-over n c e b q ge = record { here = refl; full = omega arith; only = only-refl }
+placed_over n c e b q ge = record { here = refl; full = omega arith; only = only_refl }
 
 pub renewed : (n k c : ℕ) (f : NodeEntry) (b b' : List ℕ) → f ≡ hull c (entries b c) → Wrote n (set (entries b n) k f) b b' → Wrote n (set (entries b n) k (hull c (entries b c))) b b'
 renewed n k c f b b' q w = subst (λ (x : NodeEntry). Wrote n (set (entries b n) k x) b b') q w

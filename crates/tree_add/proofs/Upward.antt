@@ -6,38 +6,38 @@ use Prim.Native.Nat.{ℕ, suc, ◌+◌, ◌-◌, ◌≤◌, ◌<◌}
 use native.Mathlib.Omega.{arith}
 use lib.ListN.{length, get_or, set, take, drop, length-set, length-append}
 use lib.Seq.{set_split}
-use Rattle.limits.specs.Limits.{minEntries, maxEntries, tableBytes}
+use Rattle.limits.specs.Limits.{min_entries, max_entries, table_bytes}
 use Rattle.words.specs.Words.{Only}
-use Rattle.words.proofs.Frame.{only-trans}
+use Rattle.words.proofs.Frame.{only_trans}
 use Rattle.tree_node.specs.declared.NodeEntry.{NodeEntry}
-use Rattle.tree_node.specs.Layout.{poolStart}
-use Rattle.tree_node.specs.Node.{entries, noEntry, Wrote}
+use Rattle.tree_node.specs.Layout.{pool_start}
+use Rattle.tree_node.specs.Node.{entries, no_entry, Wrote}
 use Rattle.tree_node.specs.Free.{free}
 use Rattle.tree_node.specs.Boxes.{grow, hull}
 use Rattle.tree_node.specs.Tally.{total, hit, tally, Within}
 use Rattle.tree_node.proofs.Counting.{hit_same}
 use Rattle.tree_node.proofs.Reading.{eight}
-use Rattle.tree_node.proofs.Storing.{others, in-pool, in_tree}
-use Rattle.tree_node.proofs.FreeStack.{free-kept}
-use Rattle.tree_rules.specs.Tree.{Store, joined, leaves, nodes, leavesAt, nodesAt, Each, SoundUnder}
+use Rattle.tree_node.proofs.Storing.{others, in_pool, in_tree}
+use Rattle.tree_node.proofs.FreeStack.{free_kept}
+use Rattle.tree_rules.specs.Tree.{Store, joined, leaves, nodes, leaves_at, nodes_at, Each, SoundUnder}
 use Rattle.tree_rules.specs.Change.{Ready}
 use Rattle.tree_rules.proofs.Every.{each_append, each_left, each_right, each_snoc}
-use Rattle.tree_rules.proofs.Totals.{total-both, total-cons, total-joined, total-snoc, leaves_at, nodes-at, leaves-under}
-use Rattle.tree_rules.proofs.Kept.{Agree, kept_leaves, kept-nodes, kept-sound}
-use Rattle.tree_rules.proofs.Descent.{child-parted, child, child-total, child-ready}
+use Rattle.tree_rules.proofs.Totals.{total_both, total_cons, total_joined, total_snoc, leaves_at_lem, nodes_at_lem, leaves_under}
+use Rattle.tree_rules.proofs.Kept.{Agree, kept_leaves, kept_nodes, kept_sound}
+use Rattle.tree_rules.proofs.Descent.{child_parted, child, child_total, child_ready}
 use Rattle.tree_add.specs.declared.Room.{Room}
 use Rattle.tree_add.specs.Steps.{spill, PutBehind, Divisible, Renewed, InsertedUnder}
 use Rattle.tree_add.proofs.Rooms.{renewed}
-use Rattle.tree_add.proofs.Halves.{renewed-same}
-use Rattle.tree_add.proofs.Grown.{hull-grown}
+use Rattle.tree_add.proofs.Halves.{renewed_same}
+use Rattle.tree_add.proofs.Grown.{hull_grown}
 
 -- a leaf takes the entry, or hands it back
-inserted-at : (r : Room) (n : ℕ) (e : NodeEntry) (b b' : List ℕ) → Ready 0 n b → PutBehind r n e b b' → InsertedUnder r 0 n e b b'
+inserted_at : (r : Room) (n : ℕ) (e : NodeEntry) (b b' : List ℕ) → Ready 0 n b → PutBehind r n e b b' → InsertedUnder r 0 n e b b'
 unfolding SoundUnder leaves nodes total
-inserted-at r n e b b' rd pl =
+inserted_at r n e b b' rd pl =
     let E : Store = entries b in
     let E' : Store = entries b' in
-    let o : Only poolStart tableBytes b b' = in-pool rd.id pl.only in
+    let o : Only pool_start table_bytes b b' = in_pool rd.id pl.only in
     let long : length (E' n) + length (spill r) ≡ suc (length (E n)) =
     omega (arith, ap length pl.here, length-append (E' n) (spill r), length-append (E n) (e ∷ [])) in
     record {
@@ -48,27 +48,27 @@ inserted-at r n e b b' rd pl =
           omega (
             arith,
             ap (λ (l : List NodeEntry). total w (joined (leaves E' 0) l)) pl.here,
-            leaves_at E 0 n (E n) refl w,
-            total-snoc w (leaves E 0) (E n) e,
+            leaves_at_lem E 0 n (E n) refl w,
+            total_snoc w (leaves E 0) (E n) e,
           );
       ids = λ w.
           omega (
             arith,
             ap (λ (l : List NodeEntry). total w (joined (nodes E' 0) l)) pl.here,
-            nodes-at E 0 n (E n) refl w,
-            total-snoc w (nodes E 0) (E n) e,
-            ap (total w) (free-kept o),
+            nodes_at_lem E 0 n (E n) refl w,
+            total_snoc w (nodes E 0) (E n) e,
+            ap (total w) (free_kept o),
           );
-      used = omega (arith, ap length (free-kept o));
-      left = λ m. omega (arith, ap (tally m) (free-kept o));
-      rest = λ m z. others pl.only m (λ (y : m ≡ n). omega (arith, nodes-at E 0 n (E n) refl (hit m), hit_same m n y));
+      used = omega (arith, ap length (free_kept o));
+      left = λ m. omega (arith, ap (tally m) (free_kept o));
+      rest = λ m z. others pl.only m (λ (y : m ≡ n). omega (arith, nodes_at_lem E 0 n (E n) refl (hit m), hit_same m n y));
       only = in_tree o;
     }
 
-pub inserted-leaf : (r : Room) (h n : ℕ) (e : NodeEntry) (b b' : List ℕ) → h ≡ 0 → Ready h n b → PutBehind r n e b b' → InsertedUnder r h n e b b'
-inserted-leaf r h n e b b' z rd pl =
+pub inserted_leaf : (r : Room) (h n : ℕ) (e : NodeEntry) (b b' : List ℕ) → h ≡ 0 → Ready h n b → PutBehind r n e b b' → InsertedUnder r h n e b b'
+inserted_leaf r h n e b b' z rd pl =
     let rd₀ : Ready 0 n b = rw z at rd in
-    rw z (inserted-at r n e b b' rd₀ pl)
+    rw z (inserted_at r n e b b' rd₀ pl)
 
 -- after an addition under node n, it and what it hands back may be taken apart
 pub after_open : (r : Room) (h n : ℕ) (e : NodeEntry) (b b₁ : List ℕ) → Ready h n b → InsertedUnder r h n e b b₁ → Divisible h n (spill r) b₁
@@ -83,55 +83,55 @@ after_open r h n e b b₁ rd ad =
     }
 
 -- a node that hands an entry back has eight
-pub after-full : (x : NodeEntry) (h n : ℕ) (e : NodeEntry) (b b₁ : List ℕ) → InsertedUnder (Room.Over x) h n e b b₁ → length (entries b₁ n) ≡ maxEntries
+pub after_full : (x : NodeEntry) (h n : ℕ) (e : NodeEntry) (b b₁ : List ℕ) → InsertedUnder (Room.Over x) h n e b b₁ → length (entries b₁ n) ≡ max_entries
 unfolding spill
-after-full x h n e b b₁ ad = omega (arith, ad.full, eight b₁ n)
+after_full x h n e b b₁ ad = omega (arith, ad.full, eight b₁ n)
 
 -- entry k of node n, whose entries stand at height g + 1
-module _ (g n k : ℕ) (b : List ℕ) (f : NodeEntry) (rd : Ready (suc g) n b) (lt : k < length (entries b n)) (qf : f ≡ get_or (entries b n) k noEntry) where
-  at_n : (w : ℕ → ℕ) → total w (nodesAt (entries b) (suc g) n)
-      ≡ w n + (total w (joined (nodes (entries b) (suc g)) (take k (entries b n))) + total w (nodesAt (entries b) g f.reference) + total w (joined (nodes (entries b) (suc g)) (drop (suc k) (entries b n))))
-  at_n = child-total g n k b f rd lt qf
+module _ (g n k : ℕ) (b : List ℕ) (f : NodeEntry) (rd : Ready (suc g) n b) (lt : k < length (entries b n)) (qf : f ≡ get_or (entries b n) k no_entry) where
+  at_n : (w : ℕ → ℕ) → total w (nodes_at (entries b) (suc g) n)
+      ≡ w n + (total w (joined (nodes (entries b) (suc g)) (take k (entries b n))) + total w (nodes_at (entries b) g f.reference) + total w (joined (nodes (entries b) (suc g)) (drop (suc k) (entries b n))))
+  at_n = child_total g n k b f rd lt qf
 
   -- an addition under it
   module _ (q : Room) (e : NodeEntry) (b₁ : List ℕ) (ad : InsertedUnder q g f.reference e b b₁) where
-    n-out : tally n (nodesAt (entries b) g f.reference) + tally n (free b) ≡ 0
-    n-out = omega (arith, at_n (hit n), rd.apart n, hit_same n n refl)
+    n_out : tally n (nodes_at (entries b) g f.reference) + tally n (free b) ≡ 0
+    n_out = omega (arith, at_n (hit n), rd.apart n, hit_same n n refl)
 
     pub above_kept : entries b₁ n ≡ entries b n
-    above_kept = ad.rest n n-out
+    above_kept = ad.rest n n_out
 
-    pub above-out : hit n f.reference + tally n (joined (nodes (entries b₁) g) (entries b₁ f.reference ++ spill q)) ≡ 0
-    above-out = omega (arith, ad.ids (hit n), n-out)
+    pub above_out : hit n f.reference + tally n (joined (nodes (entries b₁) g) (entries b₁ f.reference ++ spill q)) ≡ 0
+    above_out = omega (arith, ad.ids (hit n), n_out)
 
-    pub above-not-free : tally n (free b₁) ≡ 0
-    above-not-free = omega (arith, ad.ids (hit n), n-out)
+    pub above_not_free : tally n (free b₁) ≡ 0
+    above_not_free = omega (arith, ad.ids (hit n), n_out)
 
     -- then the entry is set anew
     module _ (r : Room) (b₂ : List ℕ) (md : Renewed r g n k f.reference (spill q) b₁ b₂) where
-      c-in : (m : ℕ) → tally m (nodesAt (entries b) g f.reference) ≡ 0 → m ≡ f.reference → ⊥
-      c-in m z y =
-          omega (arith, nodes-at (entries b) g f.reference (entries b f.reference) refl (hit m), hit_same m f.reference y)
+      c_in : (m : ℕ) → tally m (nodes_at (entries b) g f.reference) ≡ 0 → m ≡ f.reference → ⊥
+      c_in m z y =
+          omega (arith, nodes_at_lem (entries b) g f.reference (entries b f.reference) refl (hit m), hit_same m f.reference y)
 
-      both : (m : ℕ) → (m ≡ n → ⊥) → tally m (nodesAt (entries b) g f.reference) ≡ 0 → tally m (free b) ≡ 0 → entries b₂ m ≡ entries b m
-      both m u v z = md.rest m u (c-in m v) (omega (arith, ad.left m)) ∙ ad.rest m (omega arith)
+      both : (m : ℕ) → (m ≡ n → ⊥) → tally m (nodes_at (entries b) g f.reference) ≡ 0 → tally m (free b) ≡ 0 → entries b₂ m ≡ entries b m
+      both m u v z = md.rest m u (c_in m v) (omega (arith, ad.left m)) ∙ ad.rest m (omega arith)
 
-      agree-a : Agree (entries b) (entries b₂) (joined (nodes (entries b) (suc g)) (take k (entries b n)))
-      agree-a m z =
+      agree_a : Agree (entries b) (entries b₂) (joined (nodes (entries b) (suc g)) (take k (entries b n)))
+      agree_a m z =
           both m
           (λ (y : m ≡ n). omega (arith, at_n (hit m), rd.apart m, hit_same m n y))
           (omega (arith, at_n (hit m), rd.apart m))
           (omega (arith, at_n (hit m), rd.apart m))
 
-      agree-z : Agree (entries b) (entries b₂) (joined (nodes (entries b) (suc g)) (drop (suc k) (entries b n)))
-      agree-z m z =
+      agree_z : Agree (entries b) (entries b₂) (joined (nodes (entries b) (suc g)) (drop (suc k) (entries b n)))
+      agree_z m z =
           both m
           (λ (y : m ≡ n). omega (arith, at_n (hit m), rd.apart m, hit_same m n y))
           (omega (arith, at_n (hit m), rd.apart m))
           (omega (arith, at_n (hit m), rd.apart m))
 
-      now-n : entries b₂ n ++ spill r ≡ (take k (entries b n) ++ hull f.reference (entries b₂ f.reference) ∷ drop (suc k) (entries b n)) ++ md.extra
-      now-n =
+      now_n : entries b₂ n ++ spill r ≡ (take k (entries b n) ++ hull f.reference (entries b₂ f.reference) ∷ drop (suc k) (entries b n)) ++ md.extra
+      now_n =
           md.here
           ∙ rw above_kept (ap (λ (l : List NodeEntry). l ++ md.extra) (set_split (entries b n) k (hull f.reference (entries b₂ f.reference)) lt))
 
@@ -144,24 +144,24 @@ module _ (g n k : ℕ) (b : List ℕ) (f : NodeEntry) (rd : Ready (suc g) n b) (
           let Z : List NodeEntry = drop (suc k) (entries b n) in
           omega (
             arith,
-            ap (λ (l : List NodeEntry). total w (joined F l)) now-n,
-            total-both w F (A ++ H ∷ Z) md.extra,
-            total-joined w F A H Z,
-            total-cons w F H md.extra,
+            ap (λ (l : List NodeEntry). total w (joined F l)) now_n,
+            total_both w F (A ++ H ∷ Z) md.extra,
+            total_joined w F A H Z,
+            total_cons w F H md.extra,
           )
 
-      inserted-inner : InsertedUnder r (suc g) n e b b₂
+      inserted_inner : InsertedUnder r (suc g) n e b b₂
       unfolding Each
-      inserted-inner =
+      inserted_inner =
           let E : Store = entries b in
           let E₂ : Store = entries b₂ in
           let A : List NodeEntry = take k (entries b n) in
           let Z : List NodeEntry = drop (suc k) (entries b n) in
           let H : NodeEntry = hull f.reference (entries b₂ f.reference) in
-          let parted : E n ≡ A ++ f ∷ Z = child-parted g n k b f rd lt qf in
+          let parted : E n ≡ A ++ f ∷ Z = child_parted g n k b f rd lt qf in
           let sd : Each (SoundUnder E (suc g)) (A ++ f ∷ Z) = rw parted at rd.sound in
-          let sa : Each (SoundUnder E₂ (suc g)) A = kept-sound E E₂ (suc g) A agree-a (each_left _ A (f ∷ Z) sd) in
-          let sz : Each (SoundUnder E₂ (suc g)) Z = kept-sound E E₂ (suc g) Z agree-z (each_right (SoundUnder E (suc g)) A (f ∷ Z) sd).1 in
+          let sa : Each (SoundUnder E₂ (suc g)) A = kept_sound E E₂ (suc g) A agree_a (each_left _ A (f ∷ Z) sd) in
+          let sz : Each (SoundUnder E₂ (suc g)) Z = kept_sound E E₂ (suc g) Z agree_z (each_right (SoundUnder E (suc g)) A (f ∷ Z) sd).1 in
           let sh = md.sound in
           let len : length (E₂ n) + length (spill r) ≡ length (E n) + length md.extra =
           omega (
@@ -173,27 +173,27 @@ module _ (g n k : ℕ) (b : List ℕ) (f : NodeEntry) (rd : Ready (suc g) n b) (
             ap length above_kept,
           ) in
           record {
-            sound = rw now-n (each_append _ (A ++ H ∷ Z) md.extra (each_append _ A (H ∷ Z) sa (sh.0, sz)) sh.1);
+            sound = rw now_n (each_append _ (A ++ H ∷ Z) md.extra (each_append _ A (H ∷ Z) sa (sh.0, sz)) sh.1);
             least = omega (arith, md.full, md.few, eight b n);
             full = md.full;
             leaf = λ w.
                 omega (
                   arith,
                   parts w (leaves E₂ (suc g)),
-                  ap (total w) (kept_leaves E E₂ (suc g) A agree-a),
-                  ap (total w) (kept_leaves E E₂ (suc g) Z agree-z),
+                  ap (total w) (kept_leaves E E₂ (suc g) A agree_a),
+                  ap (total w) (kept_leaves E E₂ (suc g) Z agree_z),
                   md.leaf w,
                   ad.leaf w,
-                  leaves_at E (suc g) n _ parted w,
-                  total-joined w (leaves E (suc g)) A f Z,
-                  ap (total w) (leaves-under E g f),
+                  leaves_at_lem E (suc g) n _ parted w,
+                  total_joined w (leaves E (suc g)) A f Z,
+                  ap (total w) (leaves_under E g f),
                 );
             ids = λ w.
                 omega (
                   arith,
                   parts w (nodes E₂ (suc g)),
-                  ap (total w) (kept-nodes E E₂ (suc g) A agree-a),
-                  ap (total w) (kept-nodes E E₂ (suc g) Z agree-z),
+                  ap (total w) (kept_nodes E E₂ (suc g) A agree_a),
+                  ap (total w) (kept_nodes E E₂ (suc g) Z agree_z),
                   md.ids w,
                   ad.ids w,
                   at_n w,
@@ -202,53 +202,53 @@ module _ (g n k : ℕ) (b : List ℕ) (f : NodeEntry) (rd : Ready (suc g) n b) (
             left = λ m. omega (arith, md.left m, ad.left m);
             rest = λ m z.
                 both m (λ (y : m ≡ n). omega (arith, at_n (hit m), hit_same m n y)) (omega (arith, at_n (hit m))) (omega arith);
-            only = only-trans ad.only md.only;
+            only = only_trans ad.only md.only;
           }
 
 -- the steps of an addition above the leaves
-module _ (h n k : ℕ) (f : NodeEntry) (b : List ℕ) (rd : Ready h n b) (nz : h ≡ 0 → ⊥) (lt : k < length (entries b n)) (qf : f ≡ get_or (entries b n) k noEntry) where
+module _ (h n k : ℕ) (f : NodeEntry) (b : List ℕ) (rd : Ready h n b) (nz : h ≡ 0 → ⊥) (lt : k < length (entries b n)) (qf : f ≡ get_or (entries b n) k no_entry) where
   up : suc (h - 1) ≡ h
   up = omega arith
 
   above : Ready (suc (h - 1)) n b
   above = rw up rd
 
-  pub down-ready : Ready (h - 1) f.reference b
-  down-ready = child-ready (h - 1) n k b f above lt qf
+  pub down_ready : Ready (h - 1) f.reference b
+  down_ready = child_ready (h - 1) n k b f above lt qf
 
-  pub down-three : minEntries ≤ length (entries b f.reference)
-  down-three = (child (h - 1) n k b f above lt qf).least
+  pub down_three : min_entries ≤ length (entries b f.reference)
+  down_three = (child (h - 1) n k b f above lt qf).least
 
-  pub down-some : (h - 1 ≡ 0 → ⊥) → 0 < length (entries b f.reference)
-  down-some z = omega (arith, down-three)
+  pub down_some : (h - 1 ≡ 0 → ⊥) → 0 < length (entries b f.reference)
+  down_some z = omega (arith, down_three)
 
   module _ (q : Room) (e : NodeEntry) (b₁ : List ℕ) (ad : InsertedUnder q (h - 1) f.reference e b b₁) where
     kept : entries b₁ n ≡ entries b n
     kept = above_kept (h - 1) n k b f above lt qf q e b₁ ad
 
-    pub up-len : length b₁ ≡ tableBytes
-    up-len = ad.only.len ∙ rd.len
+    pub up_len : length b₁ ≡ table_bytes
+    up_len = ad.only.len ∙ rd.len
 
     pub up_in : k < length (entries b₁ n)
     up_in = rw kept lt
 
-    pub up-free : h ≤ length (free b) → 0 < length (free b₁)
-    up-free le = omega (arith, ad.used)
+    pub up_free : h ≤ length (free b) → 0 < length (free b₁)
+    up_free le = omega (arith, ad.used)
 
-    pub up-not-free : tally n (free b₁) ≡ 0
-    up-not-free = above-not-free (h - 1) n k b f above lt qf q e b₁ ad
+    pub up_not_free : tally n (free b₁) ≡ 0
+    up_not_free = above_not_free (h - 1) n k b f above lt qf q e b₁ ad
 
     -- the child's smallest box is the one that it had, grown by e
-    grown-is : (d : NodeEntry) → InsertedUnder Room.Kept (h - 1) f.reference e b b₁ → d ≡ grow e f → d ≡ hull f.reference (entries b₁ f.reference)
-    unfolding spill leavesAt
-    grown-is d a qd =
+    grown_is : (d : NodeEntry) → InsertedUnder Room.Kept (h - 1) f.reference e b b₁ → d ≡ grow e f → d ≡ hull f.reference (entries b₁ f.reference)
+    unfolding spill leaves_at
+    grown_is d a qd =
         let c : ℕ = f.reference in
         let nil : entries b₁ c ++ [] ≡ entries b₁ c = append-nil (entries b₁ c) in
         let box : f ≡ hull c (entries b c) = (child (h - 1) n k b f above lt qf).box in
         let sd : Each (SoundUnder (entries b₁) (h - 1)) (entries b₁ c) = subst (λ (l : List NodeEntry). Each (SoundUnder (entries b₁) (h - 1)) l) nil a.sound in
         qd
         ∙ ap (grow e) box
-        ∙ hull-grown (entries b) (entries b₁) (h - 1) c e (entries b c) (entries b₁ c) down-ready.sound sd
+        ∙ hull_grown (entries b) (entries b₁) (h - 1) c e (entries b c) (entries b₁ c) down_ready.sound sd
         (λ w. ap (λ (l : List NodeEntry). total w (joined (leaves (entries b₁) (h - 1)) l)) (sym nil) ∙ a.leaf w)
 
     pub up_kept : (d : NodeEntry) (b₂ : List ℕ) → q ≡ Room.Kept → d ≡ grow e f → Wrote n (set (entries b₁ n) k d) b₁ b₂ → InsertedUnder Room.Kept h n e b b₂
@@ -257,29 +257,29 @@ module _ (h n k : ℕ) (f : NodeEntry) (b : List ℕ) (rd : Ready h n b) (nz : h
         let g : ℕ = h - 1 in
         let a : InsertedUnder Room.Kept g f.reference e b b₁ = rw eq at ad in
         let w : Wrote n (set (entries b₁ n) k (hull f.reference (entries b₁ f.reference))) b₁ b₂ =
-        renewed n k f.reference d b₁ b₂ (grown-is d a qd) v in
-        let op : Divisible g f.reference [] b₁ = after_open Room.Kept g f.reference e b b₁ down-ready a in
-        let out = above-out g n k b f above lt qf Room.Kept e b₁ a in
-        let three : minEntries ≤ length (entries b₁ f.reference) = omega (arith, a.least, down-three) in
-        let md : Renewed Room.Kept g n k f.reference [] b₁ b₂ = renewed-same g n k f.reference b₁ b₂ op out rd.id three w in
-        subst (λ (x : ℕ). InsertedUnder Room.Kept x n e b b₂) up (inserted-inner g n k b f above lt qf Room.Kept e b₁ a Room.Kept b₂ md)
+        renewed n k f.reference d b₁ b₂ (grown_is d a qd) v in
+        let op : Divisible g f.reference [] b₁ = after_open Room.Kept g f.reference e b b₁ down_ready a in
+        let out = above_out g n k b f above lt qf Room.Kept e b₁ a in
+        let three : min_entries ≤ length (entries b₁ f.reference) = omega (arith, a.least, down_three) in
+        let md : Renewed Room.Kept g n k f.reference [] b₁ b₂ = renewed_same g n k f.reference b₁ b₂ op out rd.id three w in
+        subst (λ (x : ℕ). InsertedUnder Room.Kept x n e b b₂) up (inserted_inner g n k b f above lt qf Room.Kept e b₁ a Room.Kept b₂ md)
 
     module _ (x : NodeEntry) (eq : q ≡ Room.Over x) where
       spilt : InsertedUnder (Room.Over x) (h - 1) f.reference e b b₁
       spilt = rw eq at ad
 
-      pub up-open : Divisible (h - 1) f.reference (x ∷ []) b₁
+      pub up_open : Divisible (h - 1) f.reference (x ∷ []) b₁
       unfolding spill
-      up-open = after_open (Room.Over x) (h - 1) f.reference e b b₁ down-ready spilt
+      up_open = after_open (Room.Over x) (h - 1) f.reference e b b₁ down_ready spilt
 
-      pub up-full : length (entries b₁ f.reference) ≡ maxEntries
-      up-full = after-full x (h - 1) f.reference e b b₁ spilt
+      pub up_full : length (entries b₁ f.reference) ≡ max_entries
+      up_full = after_full x (h - 1) f.reference e b b₁ spilt
 
-      pub up-out : hit n f.reference + tally n (joined (nodes (entries b₁) (h - 1)) (entries b₁ f.reference ++ (x ∷ []))) ≡ 0
+      pub up_out : hit n f.reference + tally n (joined (nodes (entries b₁) (h - 1)) (entries b₁ f.reference ++ (x ∷ []))) ≡ 0
       unfolding spill
-      up-out = above-out (h - 1) n k b f above lt qf (Room.Over x) e b₁ spilt
+      up_out = above_out (h - 1) n k b f above lt qf (Room.Over x) e b₁ spilt
 
-      pub up-over : (r : Room) (b₂ : List ℕ) → Renewed r (h - 1) n k f.reference (x ∷ []) b₁ b₂ → InsertedUnder r h n e b b₂
+      pub up_over : (r : Room) (b₂ : List ℕ) → Renewed r (h - 1) n k f.reference (x ∷ []) b₁ b₂ → InsertedUnder r h n e b b₂
       unfolding spill
-      up-over r b₂ md =
-          subst (λ (z : ℕ). InsertedUnder r z n e b b₂) up (inserted-inner (h - 1) n k b f above lt qf (Room.Over x) e b₁ spilt r b₂ md)
+      up_over r b₂ md =
+          subst (λ (z : ℕ). InsertedUnder r z n e b b₂) up (inserted_inner (h - 1) n k b f above lt qf (Room.Over x) e b₁ spilt r b₂ md)

@@ -1,7 +1,7 @@
 // Under which entry a new one goes: a heuristic. The box that grows least in half-perimeter, and of those the smallest.
 // Guttman's ChooseLeaf goes by area, which is 0 for all points on a line along an axis.
 ghost use Rattle.std.specs.Prelude.{◌≡◌, ◌<◌, length};
-ghost use Rattle.limits.specs.Limits.{maxNodes, tableBytes};
+ghost use Rattle.limits.specs.Limits.{max_nodes, table_bytes};
 ghost use Rattle.tree_node.specs.Node.{entries};
 
 use tree_node::{NodeEntry, boxes, pool};
@@ -32,7 +32,7 @@ fn cost(e: NodeEntry, f: NodeEntry) -> u64 {
 
 // The entry of node n under which e goes.
 pub fn choose(table: &[u8], n: usize, e: NodeEntry) -> usize
-    requires { (length table.now ≡ tableBytes) × (n < maxNodes) × (0 < length (entries table.now n)) }
+    requires { (length table.now ≡ table_bytes) × (n < max_nodes) × (0 < length (entries table.now n)) }
     ensures { result < length (entries table.now n) }
 {
     let count = pool::count(table, n);

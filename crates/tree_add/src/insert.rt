@@ -1,8 +1,8 @@
 // The addition below the root: down to a leaf, and splits on the way up. "An entry above the leaves" is read "by
 // reading its child node", by two functions that call each other.
 ghost use Rattle.std.specs.Prelude.{◌≡◌, [], ◌∷◌, ◌++◌, ◌+◌, ◌≤◌, ◌<◌, length, get_or, set};
-ghost use Rattle.limits.specs.Limits.{maxEntries, maxNodes, tableBytes};
-ghost use Rattle.tree_node.specs.Node.{entries, noEntry, Wrote};
+ghost use Rattle.limits.specs.Limits.{max_entries, max_nodes, table_bytes};
+ghost use Rattle.tree_node.specs.Node.{entries, no_entry, Wrote};
 ghost use Rattle.tree_node.specs.Free.{free};
 ghost use Rattle.tree_node.specs.Boxes.{hull};
 ghost use Rattle.tree_node.specs.Tally.{hit, tally};
@@ -16,7 +16,7 @@ use tree_node::{NodeEntry, boxes, pool};
 
 // Adds e to node n, or hands it back where n has eight entries.
 pub fn put_in(table: &mut [u8], n: usize, e: NodeEntry) -> Room
-    requires { (length table.old ≡ tableBytes) × (n < maxNodes) }
+    requires { (length table.old ≡ table_bytes) × (n < max_nodes) }
     ensures { PutBehind result n e table.old table.new }
 {
     if pool::count(table, n) < MAX_ENTRIES {
@@ -28,7 +28,7 @@ pub fn put_in(table: &mut [u8], n: usize, e: NodeEntry) -> Room
 
 // Sets entry k of node n anew for its child c.
 fn renew(table: &mut [u8], n: usize, k: usize, c: usize)
-    requires { (length table.old ≡ tableBytes) × (n < maxNodes) × (c < maxNodes)
+    requires { (length table.old ≡ table_bytes) × (n < max_nodes) × (c < max_nodes)
         × (k < length (entries table.old n)) }
     ensures { Wrote n (set (entries table.old n) k (hull c (entries table.old c)))
         table.old table.new }
@@ -39,8 +39,8 @@ fn renew(table: &mut [u8], n: usize, k: usize, c: usize)
 
 // Splits the child c of node n, its entry k, which has eight entries and hands x back.
 fn halve(table: &mut [u8], h: usize, n: usize, k: usize, c: usize, x: NodeEntry) -> Room
-    requires { Divisible h c (x ∷ []) table.old × (n < maxNodes) × (k < length (entries table.old n))
-        × (length (entries table.old c) ≡ maxEntries) × (0 < length (free table.old))
+    requires { Divisible h c (x ∷ []) table.old × (n < max_nodes) × (k < length (entries table.old n))
+        × (length (entries table.old c) ≡ max_entries) × (0 < length (free table.old))
         × (hit n c + tally n (joined (nodes (entries table.old) h) (entries table.old c ++ (x ∷ []))) ≡ 0)
         × (tally n (free table.old) ≡ 0) }
     ensures { Renewed result h n k c (x ∷ []) table.old table.new }
@@ -56,7 +56,7 @@ fn halve(table: &mut [u8], h: usize, n: usize, k: usize, c: usize, x: NodeEntry)
 #[cycle(insert_insert_under)]
 fn insert_under(table: &mut [u8], h: usize, n: usize, k: usize, f: NodeEntry, e: NodeEntry) -> Room
     requires ready { Ready h n table.old × (h ≡ 0 → ⊥) × (h ≤ length (free table.old)) }
-    requires k_in_bounds { (k < length (entries table.old n)) × (f ≡ get_or (entries table.old n) k noEntry) }
+    requires k_in_bounds { (k < length (entries table.old n)) × (f ≡ get_or (entries table.old n) k no_entry) }
     ensures { InsertedUnder result h n e table.old table.new }
 {
     let c = f.reference as usize;

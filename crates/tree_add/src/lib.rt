@@ -3,9 +3,9 @@
 // on the way up a box grows by the new one, and is recomputed from the child's entries where the child was split. It
 // never fails: that a node is free for each split, and that the levels fit, is proved.
 ghost use Rattle.std.specs.Prelude.{◌<◌, length};
-ghost use Rattle.limits.specs.Limits.{maxSites};
-ghost use Rattle.tree_node.specs.Header.{rootIn};
-ghost use Rattle.tree_rules.specs.Rooted.{Rooted, leavesIn};
+ghost use Rattle.limits.specs.Limits.{max_sites};
+ghost use Rattle.tree_node.specs.Header.{root_in};
+ghost use Rattle.tree_rules.specs.Rooted.{Rooted, leaves_in};
 ghost use Rattle.tree_add.specs.Added.{Added};
 
 use tree_node::{NodeEntry, header};
@@ -23,7 +23,7 @@ pub enum Room {
 
 // Adds the leaf entry e to the tree that the table's header tells.
 pub fn add(table: &mut [u8], e: NodeEntry)
-    requires { Rooted (rootIn table.old) table.old × (length (leavesIn table.old) < maxSites) }
+    requires { Rooted (root_in table.old) table.old × (length (leaves_in table.old) < max_sites) }
     ensures { Added e table.old table.new }
 {
     let r = header::read_root(table);

@@ -14,67 +14,67 @@ use lib.Seq.{get_or-set_same, get_or-set_other}
 use Rattle.grid.specs.Says.{Says}
 use Rattle.tree_node.specs.Tally.{hit}
 use Rattle.tree_node.proofs.Counting.{hit_same}
-use Rattle.tree_check.specs.Marks.{markBytes, seenBytes, Blank, Full, Fresh, Marked, Bits, Prepared}
+use Rattle.tree_check.specs.Marks.{mark_bytes, seen_bytes, Blank, Full, Fresh, Marked, Bits, Prepared}
 
-pub hit-not : (x y : ℕ) → (x ≡ y → ⊥) → hit x y ≡ 0
+pub hit_not : (x y : ℕ) → (x ≡ y → ⊥) → hit x y ≡ 0
 unfolding hit
-hit-not x y ne = rw (ne_eqb x y ne)
+hit_not x y ne = rw (ne_eqb x y ne)
 
-pub hit-most : (x y : ℕ) → hit x y ≤ 1
-hit-most x y = go (ℕ_discrete x y)
+pub hit_most : (x y : ℕ) → hit x y ≤ 1
+hit_most x y = go (ℕ_discrete x y)
   where
     go : Dec (x ≡ y) → hit x y ≤ 1
     go (yes q) = omega (arith, hit_same x y q)
-    go (no ne) = omega (arith, hit-not x y ne)
+    go (no ne) = omega (arith, hit_not x y ne)
 
 -- mark p is set, which was not set before
-pub marked-one : (o : List ℕ) (p : ℕ) → p < length o → get_or o p 0 ≡ 0 → (m : ℕ) → get_or (set o p 1) m 0 ≡ get_or o m 0 + hit m p
-marked-one o p lt z m = go (ℕ_discrete m p)
+pub marked_one : (o : List ℕ) (p : ℕ) → p < length o → get_or o p 0 ≡ 0 → (m : ℕ) → get_or (set o p 1) m 0 ≡ get_or o m 0 + hit m p
+marked_one o p lt z m = go (ℕ_discrete m p)
   where
     go : Dec (m ≡ p) → get_or (set o p 1) m 0 ≡ get_or o m 0 + hit m p
     go (yes q) = rw q (omega (arith, get_or-set_same o p 1 0 lt, hit_same p p refl))
-    go (no ne) = omega (arith, get_or-set_other o p m 1 0 ne, hit-not m p ne)
+    go (no ne) = omega (arith, get_or-set_other o p m 1 0 ne, hit_not m p ne)
 
-pub fresh-hit : (o : List ℕ) (p : ℕ) → get_or o p 0 ≡ 0 → (m : ℕ) → get_or o m 0 ≤ 1 → get_or o m 0 + hit m p ≤ 1
-fresh-hit o p z m le = go (ℕ_discrete m p)
+pub fresh_hit : (o : List ℕ) (p : ℕ) → get_or o p 0 ≡ 0 → (m : ℕ) → get_or o m 0 ≤ 1 → get_or o m 0 + hit m p ≤ 1
+fresh_hit o p z m le = go (ℕ_discrete m p)
   where
     go : Dec (m ≡ p) → get_or o m 0 + hit m p ≤ 1
-    go (yes q) = omega (arith, hit-most m p, ap (λ (x : ℕ). get_or o x 0) q)
-    go (no ne) = omega (arith, hit-not m p ne)
+    go (yes q) = omega (arith, hit_most m p, ap (λ (x : ℕ). get_or o x 0) q)
+    go (no ne) = omega (arith, hit_not m p ne)
 
 -- the marks that f tells, and then those that g tells
-pub marked-both : (f g k : ℕ → ℕ) (o o₁ o₂ : List ℕ) → ((m : ℕ) → k m ≡ f m + g m) → Marked f o o₁ → Marked g o₁ o₂ → Marked k o o₂
+pub marked_both : (f g k : ℕ → ℕ) (o o₁ o₂ : List ℕ) → ((m : ℕ) → k m ≡ f m + g m) → Marked f o o₁ → Marked g o₁ o₂ → Marked k o o₂
 unfolding Marked
-marked-both f g k o o₁ o₂ q p r m lt = omega (arith, q m, p m lt, r m lt)
+marked_both f g k o o₁ o₂ q p r m lt = omega (arith, q m, p m lt, r m lt)
 
 -- what is fresh in part
 module _ (f g k : ℕ → ℕ) (o o₁ : List ℕ) (q : (m : ℕ) → k m ≡ f m + g m) where
-  pub fresh-first : Fresh k o → Fresh f o
+  pub fresh_first : Fresh k o → Fresh f o
   unfolding Fresh
-  fresh-first p m lt = omega (arith, q m, p m lt)
+  fresh_first p m lt = omega (arith, q m, p m lt)
 
-  pub fresh-then : Marked f o o₁ → Fresh k o → Fresh g o₁
+  pub fresh_then : Marked f o o₁ → Fresh k o → Fresh g o₁
   unfolding Fresh Marked
-  fresh-then r p m lt = omega (arith, q m, p m lt, r m lt)
+  fresh_then r p m lt = omega (arith, q m, p m lt, r m lt)
 
-  pub fresh-both : Marked f o o₁ → Fresh g o₁ → Fresh k o
+  pub fresh_both : Marked f o o₁ → Fresh g o₁ → Fresh k o
   unfolding Fresh Marked
-  fresh-both r p m lt = omega (arith, q m, p m lt, r m lt)
+  fresh_both r p m lt = omega (arith, q m, p m lt, r m lt)
 
 -- one mark is set
-pub marked-set : (o o₁ : List ℕ) (p : ℕ) → length o ≡ seenBytes → p < markBytes → get_or o p 0 ≡ 0 → o₁ ≡ set o p 1 → Marked (λ m. hit m p) o o₁
+pub marked_set : (o o₁ : List ℕ) (p : ℕ) → length o ≡ seen_bytes → p < mark_bytes → get_or o p 0 ≡ 0 → o₁ ≡ set o p 1 → Marked (λ m. hit m p) o o₁
 unfolding Marked
-marked-set o o₁ p len lt z q m l = rw q (marked-one o p (omega arith) z m)
+marked_set o o₁ p len lt z q m l = rw q (marked_one o p (omega arith) z m)
 
 -- a mark that is asked for is not set
-pub fresh_at : (f : ℕ → ℕ) (o : List ℕ) (p : ℕ) → p < markBytes → 0 < f p → Fresh f o → get_or o p 0 ≡ 0
+pub fresh_at : (f : ℕ → ℕ) (o : List ℕ) (p : ℕ) → p < mark_bytes → 0 < f p → Fresh f o → get_or o p 0 ≡ 0
 unfolding Fresh
 fresh_at f o p lt h p' = omega (arith, p' p lt)
 
 -- a walk goes on after what it has marked
-pub prepared-on : (b o o₁ : List ℕ) (f : ℕ → ℕ) → Prepared b o → Fresh f o → Marked f o o₁ → length o₁ ≡ length o → Prepared b o₁
+pub prepared_on : (b o o₁ : List ℕ) (f : ℕ → ℕ) → Prepared b o → Fresh f o → Marked f o o₁ → length o₁ ≡ length o → Prepared b o₁
 unfolding Fresh Marked Bits
-prepared-on b o o₁ f s p r len =
+prepared_on b o o₁ f s p r len =
     record {
       array = s.array;
       room = len ∙ s.room;
@@ -82,25 +82,25 @@ prepared-on b o o₁ f s p r len =
     }
 
 -- no mark asked for
-pub fresh-none : (o : List ℕ) (f : ℕ → ℕ) → ((m : ℕ) → f m ≡ 0) → Bits o → Fresh f o
+pub fresh_none : (o : List ℕ) (f : ℕ → ℕ) → ((m : ℕ) → f m ≡ 0) → Bits o → Fresh f o
 unfolding Fresh Bits
-fresh-none o f z s m lt = omega (arith, z m, s m lt)
+fresh_none o f z s m lt = omega (arith, z m, s m lt)
 
-pub marked-none : (o : List ℕ) (f : ℕ → ℕ) → ((m : ℕ) → f m ≡ 0) → Marked f o o
+pub marked_none : (o : List ℕ) (f : ℕ → ℕ) → ((m : ℕ) → f m ≡ 0) → Marked f o o
 unfolding Marked
-marked-none o f z m lt = omega (arith, z m)
+marked_none o f z m lt = omega (arith, z m)
 
 -- the loop of `clear`: the first i marks are taken away
 pub record Cleared (o : List ℕ) (i : ℕ) : Type 0 where
-  pub most : i ≤ markBytes
-  pub room : length o ≡ seenBytes
+  pub most : i ≤ mark_bytes
+  pub room : length o ≡ seen_bytes
   pub so_far : (m : ℕ) → m < i → get_or o m 0 ≡ 0
 
-pub cleared-none : (o : List ℕ) → length o ≡ seenBytes → Cleared o 0
-cleared-none o len = record { most = omega arith; room = len; so_far = λ m l. absurd (omega arith) }
+pub cleared_none : (o : List ℕ) → length o ≡ seen_bytes → Cleared o 0
+cleared_none o len = record { most = omega arith; room = len; so_far = λ m l. absurd (omega arith) }
 
-pub cleared-one : (o : List ℕ) (i : ℕ) → i < markBytes → Cleared o i → Cleared (set o i 0) (i + 1)
-cleared-one o i lt p =
+pub cleared_one : (o : List ℕ) (i : ℕ) → i < mark_bytes → Cleared o i → Cleared (set o i 0) (i + 1)
+cleared_one o i lt p =
     record {
       most = omega arith;
       room = simp length-set p.room;
@@ -112,13 +112,13 @@ cleared-one o i lt p =
           (get_or-set_same o i 0 0 (omega (arith, p.room)));
     }
 
-pub cleared-all : (o : List ℕ) (i : ℕ) → markBytes ≤ i → Cleared o i → Blank o
+pub cleared_all : (o : List ℕ) (i : ℕ) → mark_bytes ≤ i → Cleared o i → Blank o
 unfolding Blank
-cleared-all o i le p m lt = p.so_far m (omega arith)
+cleared_all o i le p m lt = p.so_far m (omega arith)
 
-pub blank-bits : (o : List ℕ) → Blank o → Bits o
+pub blank_bits : (o : List ℕ) → Blank o → Bits o
 unfolding Blank Bits
-blank-bits o z m lt = omega (arith, z m lt)
+blank_bits o z m lt = omega (arith, z m lt)
 
 -- the loop of `full`
 -- v is above 0 where each of the first i marks is set, and nowhere else
@@ -126,20 +126,20 @@ pub record Least (o : List ℕ) (i v : ℕ) : Type 0 where
   pub yes : 0 < v → Full i o
   pub no : Full i o → 0 < v
 
-pub least-none : (o : List ℕ) → Least o 0 255
+pub least_none : (o : List ℕ) → Least o 0 255
 unfolding Full
-least-none o = record { yes = λ z m l. absurd (omega arith); no = λ p. omega arith }
+least_none o = record { yes = λ z m l. absurd (omega arith); no = λ p. omega arith }
 
-pub least-one : (o : List ℕ) (i v r : ℕ) → Least o i v → r ≡ min v (get_or o i 0) → Least o (i + 1) r
+pub least_one : (o : List ℕ) (i v r : ℕ) → Least o i v → r ≡ min v (get_or o i 0) → Least o (i + 1) r
 unfolding Full
-least-one o i v r l q =
+least_one o i v r l q =
     record {
       yes = λ z. below_more (λ m. 0 < get_or o m 0) i (l.yes (omega arith)) (omega arith);
       no = λ p. omega (arith, l.no (λ m lt. p m (omega arith)), p i (omega arith));
     }
 
-pub least-told : (o : List ℕ) (l i v : ℕ) → l ≤ i → i ≤ l → Least o i v → Says (ltb 0 v) (Full l o)
-least-told o l i v ge le p = go (ltb 0 v) refl
+pub least_told : (o : List ℕ) (l i v : ℕ) → l ≤ i → i ≤ l → Least o i v → Says (ltb 0 v) (Full l o)
+least_told o l i v ge le p = go (ltb 0 v) refl
   where
     all : Least o l v
     all = let q : i ≡ l = omega arith in rw q at p

@@ -8,146 +8,146 @@ use native.Mathlib.Omega.{arith}
 use borrow.Author.Tests.{eqb-true, eqb-false}
 use lib.Dec.{eqb}
 use lib.ListN.{length}
-use Rattle.limits.specs.Limits.{maxNodes, maxSites, tableBytes}
-use Rattle.words.specs.Words.{word_at, putWord, Only}
-use Rattle.words.proofs.Frame.{only_wider, only-putWord, word-putWord, word_low, word-high}
+use Rattle.limits.specs.Limits.{max_nodes, max_sites, table_bytes}
+use Rattle.words.specs.Words.{word_at, put_word, Only}
+use Rattle.words.proofs.Frame.{only_wider, only_put_word, word_put_word, word_low, word_high}
 use Rattle.grid.specs.declared.Site.{Site}
 use Rattle.grid.specs.Says.{Says}
-use Rattle.grid.proofs.Says.{says-yes, says-no}
-use Rattle.book.specs.Book.{isClosed}
-use Rattle.table_sites.specs.Lines.{linesIn, closed_in, Array}
-use Rattle.table_sites.proofs.Reading.{lines-length}
+use Rattle.grid.proofs.Says.{says_yes, says_no}
+use Rattle.book.specs.Book.{is_closed}
+use Rattle.table_sites.specs.Lines.{lines_in, closed_in, Array}
+use Rattle.table_sites.proofs.Reading.{lines_length}
 use Rattle.tree_node.specs.declared.NodeEntry.{NodeEntry}
 use Rattle.tree_node.specs.declared.Root.{Root}
-use Rattle.tree_node.specs.Layout.{treeStart, rootStart, freeStart, stackStart, poolStart, up_to}
+use Rattle.tree_node.specs.Layout.{tree_start, root_start, free_start, stack_start, pool_start, up_to}
 use Rattle.tree_node.specs.Boxes.{hull}
 use Rattle.tree_node.specs.Node.{entries}
 use Rattle.tree_node.specs.Free.{numbers, free}
-use Rattle.tree_node.specs.Header.{rootOf, rootIn}
+use Rattle.tree_node.specs.Header.{root_of, root_in}
 use Rattle.tree_node.specs.Tally.{total}
-use Rattle.tree_node.proofs.Counting.{upTo-most}
-use Rattle.tree_node.proofs.Hulls.{hull-sum}
-use Rattle.tree_node.proofs.Storing.{nodes-kept}
-use Rattle.tree_rules.specs.Tree.{Store, leavesAt}
-use Rattle.tree_rules.specs.Rooted.{treeLeaves, RootNode, RootSound, Rooted, leavesIn}
-use Rattle.tree_rules.proofs.Outside.{rooted-same, same-leaves}
-use Rattle.tree_rules.proofs.Sums.{carried, each-sum}
-use Rattle.tree_check.specs.Leaves.{leafEntries}
-use Rattle.tree_check.specs.Opens.{opensStart, opensIn, openLeaves, Tells, OpensTold, Noted}
+use Rattle.tree_node.proofs.Counting.{up_to_most}
+use Rattle.tree_node.proofs.Hulls.{hull_sum}
+use Rattle.tree_node.proofs.Storing.{nodes_kept}
+use Rattle.tree_rules.specs.Tree.{Store, leaves_at}
+use Rattle.tree_rules.specs.Rooted.{tree_leaves, RootNode, RootSound, Rooted, leaves_in}
+use Rattle.tree_rules.proofs.Outside.{rooted_same, same_leaves}
+use Rattle.tree_rules.proofs.Sums.{carried, each_sum}
+use Rattle.tree_check.specs.Leaves.{leaf_entries}
+use Rattle.tree_check.specs.Opens.{opens_start, opens_in, open_leaves, Tells, OpensTold, Noted}
 use Rattle.tree_check.specs.Tied.{Joined, Tied}
-use Rattle.tree_check.proofs.Leaves.{tied-joined}
+use Rattle.tree_check.proofs.Leaves.{tied_joined}
 
-pub opens-read : (b : List ℕ) (r : ℕ) → r ≡ word_at b opensStart → r ≡ opensIn b
-unfolding opensIn
-opens-read b r q = q
+pub opens_read : (b : List ℕ) (r : ℕ) → r ≡ word_at b opens_start → r ≡ opens_in b
+unfolding opens_in
+opens_read b r q = q
 
 -- a change below the tree leaves it
-pub opens-below : {lo : ℕ} {b b' : List ℕ} → Only lo treeStart b b' → opensIn b' ≡ opensIn b
-unfolding opensIn
-opens-below p = word-high p opensStart (omega arith)
+pub opens_below : {lo : ℕ} {b b' : List ℕ} → Only lo tree_start b b' → opens_in b' ≡ opens_in b
+unfolding opens_in
+opens_below p = word_high p opens_start (omega arith)
 
 -- ---- the sum over the root's entries
 
 module _ (b : List ℕ) where
-  sum-empty : (r : Root) → r ≡ Root.Empty → 0 ≡ min 65535 (total carried (treeLeaves (entries b) r))
-  unfolding treeLeaves total
-  sum-empty r q = rw q refl
+  sum_empty : (r : Root) → r ≡ Root.Empty → 0 ≡ min 65535 (total carried (tree_leaves (entries b) r))
+  unfolding tree_leaves total
+  sum_empty r q = rw q refl
 
-  pub tells-empty : (r : Root) → r ≡ Root.Empty → r ≡ rootIn b → Tells 0 b
-  unfolding leavesIn
-  tells-empty r q z = record { sum = λ s. sum-empty (rootIn b) (sym z ∙ q) }
+  pub tells_empty : (r : Root) → r ≡ Root.Empty → r ≡ root_in b → Tells 0 b
+  unfolding leaves_in
+  tells_empty r q z = record { sum = λ s. sum_empty (root_in b) (sym z ∙ q) }
 
-  top-far : (g c : ℕ) (r : Root) → r ≡ Root.Top g c → maxNodes ≤ c → RootSound (entries b) r → ⊥
+  top_far : (g c : ℕ) (r : Root) → r ≡ Root.Top g c → max_nodes ≤ c → RootSound (entries b) r → ⊥
   unfolding RootSound
-  top-far g c r q le s = let t : RootNode (entries b) g c = rw q at s in omega (arith, t.id)
+  top_far g c r q le s = let t : RootNode (entries b) g c = rw q at s in omega (arith, t.id)
 
-  pub tells-far : (g c : ℕ) (r : Root) → r ≡ Root.Top g c → r ≡ rootIn b → maxNodes ≤ c → Tells 0 b
-  tells-far g c r q z le = record { sum = λ s. absurd (top-far g c (rootIn b) (sym z ∙ q) le s) }
+  pub tells_far : (g c : ℕ) (r : Root) → r ≡ Root.Top g c → r ≡ root_in b → max_nodes ≤ c → Tells 0 b
+  tells_far g c r q z le = record { sum = λ s. absurd (top_far g c (root_in b) (sym z ∙ q) le s) }
 
-  top-sum : (g c : ℕ) (r : Root) → r ≡ Root.Top g c → RootSound (entries b) r → (hull c (entries b c)).opens ≡ min 65535 (total carried (treeLeaves (entries b) r))
-  unfolding RootSound treeLeaves leavesAt
-  top-sum g c r q s =
+  top_sum : (g c : ℕ) (r : Root) → r ≡ Root.Top g c → RootSound (entries b) r → (hull c (entries b c)).opens ≡ min 65535 (total carried (tree_leaves (entries b) r))
+  unfolding RootSound tree_leaves leaves_at
+  top_sum g c r q s =
       let t : RootNode (entries b) g c = rw q at s in
-      rw q (hull-sum c (entries b c) ∙ each-sum (entries b) g (entries b c) t.below)
+      rw q (hull_sum c (entries b c) ∙ each_sum (entries b) g (entries b c) t.below)
 
-  pub tells-top : (g c : ℕ) (r : Root) (e : NodeEntry) → r ≡ Root.Top g c → r ≡ rootIn b → e ≡ hull c (entries b c) → Tells e.opens b
-  unfolding leavesIn
-  tells-top g c r e q z h = record { sum = λ s. ap carried h ∙ top-sum g c (rootIn b) (sym z ∙ q) s }
+  pub tells_top : (g c : ℕ) (r : Root) (e : NodeEntry) → r ≡ Root.Top g c → r ≡ root_in b → e ≡ hull c (entries b c) → Tells e.opens b
+  unfolding leaves_in
+  tells_top g c r e q z h = record { sum = λ s. ap carried h ∙ top_sum g c (root_in b) (sym z ∙ q) s }
 
 -- ---- it is stored
 
-numbers-ext : (b b' : List ℕ) (i k : ℕ) → ((j : ℕ) → j < k → word_at b' (i + 2 * j) ≡ word_at b (i + 2 * j)) → numbers b' i k ≡ numbers b i k
+numbers_ext : (b b' : List ℕ) (i k : ℕ) → ((j : ℕ) → j < k → word_at b' (i + 2 * j) ≡ word_at b (i + 2 * j)) → numbers b' i k ≡ numbers b i k
 unfolding numbers
-numbers-ext b b' i zero h = refl
-numbers-ext b b' i (suc k) h =
-    ap₂ (λ (x : ℕ) (l : List ℕ). x ∷ l) (h k (omega arith)) (numbers-ext b b' i k (λ j l. h j (omega arith)))
+numbers_ext b b' i zero h = refl
+numbers_ext b b' i (suc k) h =
+    ap₂ (λ (x : ℕ) (l : List ℕ). x ∷ l) (h k (omega arith)) (numbers_ext b b' i k (λ j l. h j (omega arith)))
 
-module _ {b b' : List ℕ} (p : Only opensStart (opensStart + 2) b b') where
-  kept-entries : (m : ℕ) → entries b' m ≡ entries b m
-  kept-entries = nodes-kept (only_wider {lo' = opensStart} {hi' = poolStart} (omega arith) (omega arith) p)
+module _ {b b' : List ℕ} (p : Only opens_start (opens_start + 2) b b') where
+  kept_entries : (m : ℕ) → entries b' m ≡ entries b m
+  kept_entries = nodes_kept (only_wider {lo' = opens_start} {hi' = pool_start} (omega arith) (omega arith) p)
 
   kept_free : free b' ≡ free b
   unfolding free
   kept_free =
-      rw (word_low p freeStart (omega arith))
-      (numbers-ext b b' stackStart _ (λ j l. word_low p (stackStart + 2 * j) (omega (arith, upTo-most maxNodes (word_at b freeStart)))))
+      rw (word_low p free_start (omega arith))
+      (numbers_ext b b' stack_start _ (λ j l. word_low p (stack_start + 2 * j) (omega (arith, up_to_most max_nodes (word_at b free_start)))))
 
-  kept-root : rootIn b' ≡ rootIn b
-  unfolding rootIn
-  kept-root = ap₂ rootOf (word_low p treeStart (omega arith)) (word_low p rootStart (omega arith))
+  kept_root : root_in b' ≡ root_in b
+  unfolding root_in
+  kept_root = ap₂ root_of (word_low p tree_start (omega arith)) (word_low p root_start (omega arith))
 
-  kept-rooted : Rooted (rootIn b) b → Rooted (rootIn b') b'
-  kept-rooted rt = rw kept-root (rooted-same (rootIn b) b b' p.len kept-entries kept_free rt)
+  kept_rooted : Rooted (root_in b) b → Rooted (root_in b') b'
+  kept_rooted rt = rw kept_root (rooted_same (root_in b) b b' p.len kept_entries kept_free rt)
 
-  kept_leaves : leavesIn b' ≡ leavesIn b
-  unfolding leavesIn
-  kept_leaves = rw kept-root (same-leaves (entries b) (entries b') kept-entries (rootIn b))
+  kept_leaves : leaves_in b' ≡ leaves_in b
+  unfolding leaves_in
+  kept_leaves = rw kept_root (same_leaves (entries b) (entries b') kept_entries (root_in b))
 
-pub noted : (b b' : List ℕ) (n : ℕ) → Rooted (rootIn b) b → Tells n b → b' ≡ putWord b opensStart n → Noted b b'
-unfolding opensIn
+pub noted : (b b' : List ℕ) (n : ℕ) → Rooted (root_in b) b → Tells n b → b' ≡ put_word b opens_start n → Noted b b'
+unfolding opens_in
 noted b b' n rt t q =
     rw q
     record {
       opens = record {
-        told = word-putWord b opensStart n (omega (arith, rt.len)) ∙ t.sum rt.top ∙ ap (λ (l : List NodeEntry). min 65535 (total carried l)) (sym (kept_leaves p));
+        told = word_put_word b opens_start n (omega (arith, rt.len)) ∙ t.sum rt.top ∙ ap (λ (l : List NodeEntry). min 65535 (total carried l)) (sym (kept_leaves p));
       };
-      rooted = kept-rooted p rt;
+      rooted = kept_rooted p rt;
       leaves = kept_leaves p;
       only = only_wider (omega arith) (omega arith) p;
     }
   where
-    p : Only opensStart (opensStart + 2) b (putWord b opensStart n)
-    p = only-putWord b opensStart n
+    p : Only opens_start (opens_start + 2) b (put_word b opens_start n)
+    p = only_put_word b opens_start n
 
 -- ---- it is tested
 
 -- a leaf entry has at most 1
-pub carried-most : (c : List ℕ) (s : List Site) → total carried (leafEntries c s) ≤ length s
-unfolding leafEntries total
-carried-most c [] = omega arith
-carried-most c (p ∷ s) = go (isClosed p.number c) (carried-most c s)
+pub carried_most : (c : List ℕ) (s : List Site) → total carried (leaf_entries c s) ≤ length s
+unfolding leaf_entries total
+carried_most c [] = omega arith
+carried_most c (p ∷ s) = go (is_closed p.number c) (carried_most c s)
   where
-    go : (t : Bool) → total carried (leafEntries c s) ≤ length s → cond t 0 1 + total carried (leafEntries c s) ≤ suc (length s)
+    go : (t : Bool) → total carried (leaf_entries c s) ≤ length s → cond t 0 1 + total carried (leaf_entries c s) ≤ suc (length s)
     go true ih = omega arith
     go false ih = omega arith
 
 -- so the number is not at its limit
-pub told-exact : (b : List ℕ) (l : List Site) (c : List ℕ) → ((w : NodeEntry → ℕ) → total w (leavesIn b) ≡ total w (leafEntries c l)) → length l ≤ maxSites
-    → (r : ℕ) → r ≡ min 65535 (openLeaves b) → r ≡ openLeaves b
-told-exact b l c t few r q = omega (arith, t carried, carried-most c l)
+pub told_exact : (b : List ℕ) (l : List Site) (c : List ℕ) → ((w : NodeEntry → ℕ) → total w (leaves_in b) ≡ total w (leaf_entries c l)) → length l ≤ max_sites
+    → (r : ℕ) → r ≡ min 65535 (open_leaves b) → r ≡ open_leaves b
+told_exact b l c t few r q = omega (arith, t carried, carried_most c l)
 
 module _ (b : List ℕ) (r : Bool) (s : Says r (Joined b)) where
-  pub check-no : r ≡ false → ¬ Tied b
-  check-no w t = says-no r s w (tied-joined b t)
+  pub check_no : r ≡ false → ¬ Tied b
+  check_no w t = says_no r s w (tied_joined b t)
 
-  pub check-opens : (n o : ℕ) → Array b → r ≡ true → Tells n b → o ≡ opensIn b → Says (eqb n o) (Tied b)
-  check-opens n o a w t q = go (eqb n o) refl
+  pub check_opens : (n o : ℕ) → Array b → r ≡ true → Tells n b → o ≡ opens_in b → Says (eqb n o) (Tied b)
+  check_opens n o a w t q = go (eqb n o) refl
     where
       j : Joined b
-      j = says-yes r s w
+      j = says_yes r s w
 
-      exact : n ≡ openLeaves b
-      exact = told-exact b (linesIn b) (closed_in b) j.leaf (omega (arith, lines-length b, a.few)) n (t.sum j.rooted.top)
+      exact : n ≡ open_leaves b
+      exact = told_exact b (lines_in b) (closed_in b) j.leaf (omega (arith, lines_length b, a.few)) n (t.sum j.rooted.top)
 
       go : (u : Bool) → eqb n o ≡ u → Says u (Tied b)
       go true e = record { rooted = j.rooted; leaf = j.leaf; opens = sym q ∙ sym (eqb-true n o e) ∙ exact }

@@ -11,20 +11,20 @@ use Rattle.grid.specs.declared.Site.{Site}
 use Rattle.table_sites.specs.Lines.{no_site}
 use Rattle.tree_node.specs.declared.NodeEntry.{NodeEntry}
 use Rattle.tree_node.specs.Tally.{total, hit, tally, Within}
-use Rattle.tree_node.proofs.Counting.{hit_same, total-one}
+use Rattle.tree_node.proofs.Counting.{hit_same, total_one}
 use Rattle.tree_rules.specs.Tree.{Each}
-use Rattle.tree_check.specs.Leaves.{leafEntry, leafEntries, index_of, Known}
-use Rattle.tree_check.proofs.Marking.{hit-not}
+use Rattle.tree_check.specs.Leaves.{leaf_entry, leaf_entries, index_of, Known}
+use Rattle.tree_check.proofs.Marking.{hit_not}
 
 -- f 0 + f 1 + .., n of them
 unfoldable pub sum : (ℕ → ℕ) → ℕ → ℕ
 sum f zero = 0
 sum f (suc n) = sum f n + f n
 
-pub sum-ext : (f g : ℕ → ℕ) (n : ℕ) → ((k : ℕ) → k < n → f k ≡ g k) → sum f n ≡ sum g n
+pub sum_ext : (f g : ℕ → ℕ) (n : ℕ) → ((k : ℕ) → k < n → f k ≡ g k) → sum f n ≡ sum g n
 unfolding sum
-sum-ext f g zero q = refl
-sum-ext f g (suc n) q = omega (arith, sum-ext f g n (λ k l. q k (omega arith)), q n (omega arith))
+sum_ext f g zero q = refl
+sum_ext f g (suc n) q = omega (arith, sum_ext f g n (λ k l. q k (omega arith)), q n (omega arith))
 
 -- the first one apart
 sum_first : (f : ℕ → ℕ) (n : ℕ) → sum f (suc n) ≡ f 0 + sum (λ k. f (suc k)) n
@@ -32,116 +32,116 @@ unfolding sum
 sum_first f zero = omega arith
 sum_first f (suc n) = omega (arith, sum_first f n)
 
-sum-zero : (f : ℕ → ℕ) (n : ℕ) → ((k : ℕ) → k < n → f k ≡ 0) → sum f n ≡ 0
+sum_zero : (f : ℕ → ℕ) (n : ℕ) → ((k : ℕ) → k < n → f k ≡ 0) → sum f n ≡ 0
 unfolding sum
-sum-zero f zero z = refl
-sum-zero f (suc n) z = omega (arith, sum-zero f n (λ k l. z k (omega arith)), z n (omega arith))
+sum_zero f zero z = refl
+sum_zero f (suc n) z = omega (arith, sum_zero f n (λ k l. z k (omega arith)), z n (omega arith))
 
 pub sum_one : (f : ℕ → ℕ) (n : ℕ) → ((k : ℕ) → k < n → f k ≡ 1) → sum f n ≡ n
 unfolding sum
 sum_one f zero z = refl
 sum_one f (suc n) z = omega (arith, sum_one f n (λ k l. z k (omega arith)), z n (omega arith))
 
-sum-most : (f : ℕ → ℕ) (n : ℕ) → ((k : ℕ) → k < n → f k ≤ 1) → sum f n ≤ n
+sum_most : (f : ℕ → ℕ) (n : ℕ) → ((k : ℕ) → k < n → f k ≤ 1) → sum f n ≤ n
 unfolding sum
-sum-most f zero z = omega arith
-sum-most f (suc n) z = omega (arith, sum-most f n (λ k l. z k (omega arith)), z n (omega arith))
+sum_most f zero z = omega arith
+sum_most f (suc n) z = omega (arith, sum_most f n (λ k l. z k (omega arith)), z n (omega arith))
 
 -- where none is more than 1 and the sum is n, each is 1
-pub sum-full : (f : ℕ → ℕ) (n : ℕ) → ((k : ℕ) → k < n → f k ≤ 1) → sum f n ≡ n → (k : ℕ) → k < n → f k ≡ 1
+pub sum_full : (f : ℕ → ℕ) (n : ℕ) → ((k : ℕ) → k < n → f k ≤ 1) → sum f n ≡ n → (k : ℕ) → k < n → f k ≡ 1
 unfolding sum
-sum-full f zero z q k l = absurd (omega arith)
-sum-full f (suc n) z q k l =
-    let low = sum-most f n (λ j m. z j (omega arith)) in
+sum_full f zero z q k l = absurd (omega arith)
+sum_full f (suc n) z q k l =
+    let low = sum_most f n (λ j m. z j (omega arith)) in
     let top = z n (omega arith) in
     ⊎_elim
     (λ (e : k ≡ n). rw e (omega arith))
-    (λ (m : k < n). sum-full f n (λ j i. z j (omega arith)) (omega arith) k m)
+    (λ (m : k < n). sum_full f n (λ j i. z j (omega arith)) (omega arith) k m)
     (eq-or-lt_of_le (omega arith))
 
-pub sum-add : (f g : ℕ → ℕ) (n : ℕ) → sum (λ k. f k + g k) n ≡ sum f n + sum g n
+pub sum_add : (f g : ℕ → ℕ) (n : ℕ) → sum (λ k. f k + g k) n ≡ sum f n + sum g n
 unfolding sum
-sum-add f g zero = refl
-sum-add f g (suc n) = omega (arith, sum-add f g n)
+sum_add f g zero = refl
+sum_add f g (suc n) = omega (arith, sum_add f g n)
 
 -- the one k that is r
-sum-hit : (v : ℕ → ℕ) (n r : ℕ) → r < n → sum (λ k. hit k r * v k) n ≡ v r
+sum_hit : (v : ℕ → ℕ) (n r : ℕ) → r < n → sum (λ k. hit k r * v k) n ≡ v r
 unfolding sum
-sum-hit v zero r l = absurd (omega arith)
-sum-hit v (suc n) r l =
+sum_hit v zero r l = absurd (omega arith)
+sum_hit v (suc n) r l =
     ⊎_elim
     (λ (q : r ≡ n).
-    let z = sum-zero (λ k. hit k r * v k) n (λ k m. rw (hit-not k r (omega arith)) (omega arith)) in
-    hit-here n r q z)
-    (λ (m : r < n). rw (hit-not n r (omega arith)) (omega (arith, sum-hit v n r m)))
+    let z = sum_zero (λ k. hit k r * v k) n (λ k m. rw (hit_not k r (omega arith)) (omega arith)) in
+    hit_here n r q z)
+    (λ (m : r < n). rw (hit_not n r (omega arith)) (omega (arith, sum_hit v n r m)))
     (eq-or-lt_of_le (omega arith))
   where
-    hit-here : (n r : ℕ) → r ≡ n → sum (λ k. hit k r * v k) n ≡ 0 → sum (λ k. hit k r * v k) n + hit n r * v n ≡ v r
-    hit-here n r q z = rw (z, q, hit_same n n refl) (omega arith)
+    hit_here : (n r : ℕ) → r ≡ n → sum (λ k. hit k r * v k) n ≡ 0 → sum (λ k. hit k r * v k) n + hit n r * v n ≡ v r
+    hit_here n r q z = rw (z, q, hit_same n n refl) (omega arith)
 
 -- how often m is among a, a + 1, .., n of them
 module _ (m a : ℕ) where
-  pub hits-high : (n : ℕ) → a + n ≤ m → sum (λ k. hit m (a + k)) n ≡ 0
-  hits-high n l = sum-zero (λ k. hit m (a + k)) n (λ k h. hit-not m (a + k) (omega arith))
+  pub hits_high : (n : ℕ) → a + n ≤ m → sum (λ k. hit m (a + k)) n ≡ 0
+  hits_high n l = sum_zero (λ k. hit m (a + k)) n (λ k h. hit_not m (a + k) (omega arith))
 
-  pub hits-in : (n : ℕ) → a ≤ m → m < a + n → sum (λ k. hit m (a + k)) n ≡ 1
+  pub hits_in : (n : ℕ) → a ≤ m → m < a + n → sum (λ k. hit m (a + k)) n ≡ 1
   unfolding sum
-  hits-in zero l h = absurd (omega arith)
-  hits-in (suc n) l h =
+  hits_in zero l h = absurd (omega arith)
+  hits_in (suc n) l h =
       ⊎_elim
-      (λ (q : m ≡ a + n). omega (arith, hits-high n (omega arith), hit_same m (a + n) q))
-      (λ (i : m < a + n). omega (arith, hits-in n l i, hit-not m (a + n) (omega arith)))
+      (λ (q : m ≡ a + n). omega (arith, hits_high n (omega arith), hit_same m (a + n) q))
+      (λ (i : m < a + n). omega (arith, hits_in n l i, hit_not m (a + n) (omega arith)))
       (eq-or-lt_of_le (omega arith))
 
 -- a total over numbers below n, number by number
-within-tail : (n a : ℕ) (l : List ℕ) → Within n (a ∷ l) → Within n l
+within_tail : (n a : ℕ) (l : List ℕ) → Within n (a ∷ l) → Within n l
 unfolding Within total
-within-tail n a l w m z = w m (omega arith)
+within_tail n a l w m z = w m (omega arith)
 
-within-head : (n a : ℕ) (l : List ℕ) → Within n (a ∷ l) → a < n
+within_head : (n a : ℕ) (l : List ℕ) → Within n (a ∷ l) → a < n
 unfolding Within total
-within-head n a l w = w a (omega (arith, hit_same a a refl))
+within_head n a l w = w a (omega (arith, hit_same a a refl))
 
-total-spread : (v : ℕ → ℕ) (n : ℕ) (l : List ℕ) → Within n l → total v l ≡ sum (λ m. tally m l * v m) n
+total_spread : (v : ℕ → ℕ) (n : ℕ) (l : List ℕ) → Within n l → total v l ≡ sum (λ m. tally m l * v m) n
 unfolding total
-total-spread v n [] w = let z = sum-zero (λ m. 0 * v m) n (λ m h. omega arith) in omega arith
-total-spread v n (a ∷ l) w =
-    let e = sum-ext (λ m. (hit m a + tally m l) * v m) (λ m. hit m a * v m + tally m l * v m) n (λ m h. omega arith) in
+total_spread v n [] w = let z = sum_zero (λ m. 0 * v m) n (λ m h. omega arith) in omega arith
+total_spread v n (a ∷ l) w =
+    let e = sum_ext (λ m. (hit m a + tally m l) * v m) (λ m. hit m a * v m + tally m l * v m) n (λ m h. omega arith) in
     omega (
       arith,
       e,
-      sum-add (λ m. hit m a * v m) (λ m. tally m l * v m) n,
-      sum-hit v n a (within-head n a l w),
-      total-spread v n l (within-tail n a l w),
+      sum_add (λ m. hit m a * v m) (λ m. tally m l * v m) n,
+      sum_hit v n a (within_head n a l w),
+      total_spread v n l (within_tail n a l w),
     )
 
 -- so many are as many as the numbers below n stand in l
-pub length-spread : (n : ℕ) (l : List ℕ) → Within n l → length l ≡ sum (λ m. tally m l) n
-length-spread n l w =
-    let e = sum-ext (λ m. tally m l * 1) (λ m. tally m l) n (λ m h. omega arith) in
-    omega (arith, total-one l, total-spread (λ _. 1) n l w)
+pub length_spread : (n : ℕ) (l : List ℕ) → Within n l → length l ≡ sum (λ m. tally m l) n
+length_spread n l w =
+    let e = sum_ext (λ m. tally m l * 1) (λ m. tally m l) n (λ m h. omega arith) in
+    omega (arith, total_one l, total_spread (λ _. 1) n l w)
 
 -- a total over the leaf entries of lines, line by line
-pub total-known : (c : List ℕ) (s : List Site) (w : NodeEntry → ℕ) (l : List NodeEntry) → Each (Known c s) l
-    → total w l ≡ sum (λ k. total (λ e. hit k (index_of s e.reference)) l * w (leafEntry c (get_or s k no_site))) (length s)
+pub total_known : (c : List ℕ) (s : List Site) (w : NodeEntry → ℕ) (l : List NodeEntry) → Each (Known c s) l
+    → total w l ≡ sum (λ k. total (λ e. hit k (index_of s e.reference)) l * w (leaf_entry c (get_or s k no_site))) (length s)
 unfolding total Each
-total-known c s w [] p = let z = sum-zero (λ k. 0 * w (leafEntry c (get_or s k no_site))) (length s) (λ k h. omega arith) in omega arith
-total-known c s w (e ∷ l) p =
-    let v : ℕ → ℕ = λ k. w (leafEntry c (get_or s k no_site)) in
+total_known c s w [] p = let z = sum_zero (λ k. 0 * w (leaf_entry c (get_or s k no_site))) (length s) (λ k h. omega arith) in omega arith
+total_known c s w (e ∷ l) p =
+    let v : ℕ → ℕ = λ k. w (leaf_entry c (get_or s k no_site)) in
     let f : ℕ → ℕ = λ k. hit k (index_of s e.reference) in
     let g : ℕ → ℕ = λ k. total (λ d. hit k (index_of s d.reference)) l in
-    let q = sum-ext (λ k. (f k + g k) * v k) (λ k. f k * v k + g k * v k) (length s) (λ k h. omega arith) in
+    let q = sum_ext (λ k. (f k + g k) * v k) (λ k. f k * v k + g k * v k) (length s) (λ k h. omega arith) in
     omega (
       arith,
       q,
-      sum-add (λ k. f k * v k) (λ k. g k * v k) (length s),
-      sum-hit v (length s) (index_of s e.reference) p.0.held,
+      sum_add (λ k. f k * v k) (λ k. g k * v k) (length s),
+      sum_hit v (length s) (index_of s e.reference) p.0.held,
       ap w p.0.leaf,
-      total-known c s w l p.1,
+      total_known c s w l p.1,
     )
 
 -- a total over the leaf entries of all lines
-pub total-lines : (w : NodeEntry → ℕ) (c : List ℕ) (s : List Site) → total w (leafEntries c s) ≡ sum (λ k. w (leafEntry c (get_or s k no_site))) (length s)
-unfolding total leafEntries sum
-total-lines w c [] = refl
-total-lines w c (p ∷ s) = omega (arith, sum_first (λ k. w (leafEntry c (get_or (p ∷ s) k no_site))) (length s), total-lines w c s)
+pub total_lines : (w : NodeEntry → ℕ) (c : List ℕ) (s : List Site) → total w (leaf_entries c s) ≡ sum (λ k. w (leaf_entry c (get_or s k no_site))) (length s)
+unfolding total leaf_entries sum
+total_lines w c [] = refl
+total_lines w c (p ∷ s) = omega (arith, sum_first (λ k. w (leaf_entry c (get_or (p ∷ s) k no_site))) (length s), total_lines w c s)

@@ -1,32 +1,32 @@
 -- What a walk over the tree tests.
 -- Assumes nothing.
 use Rattle.std.specs.Prelude.{List, ◌≡◌, ℕ, ◌+◌, ◌≤◌, length}
-use Rattle.limits.specs.Limits.{minEntries, maxLevels}
+use Rattle.limits.specs.Limits.{min_entries, max_levels}
 use Rattle.grid.specs.declared.Site.{Site}
-use Rattle.table_sites.specs.Lines.{linesIn, closed_in}
+use Rattle.table_sites.specs.Lines.{lines_in, closed_in}
 use Rattle.tree_node.specs.declared.NodeEntry.{NodeEntry}
 use Rattle.tree_node.specs.declared.Root.{Root}
 use Rattle.tree_node.specs.Boxes.{hull}
 use Rattle.tree_node.specs.Node.{entries}
 use Rattle.tree_node.specs.Tally.{total, hit, tally}
 use Rattle.tree_rules.specs.Tree.{joined, leaves, nodes, Each, SoundUnder}
-use Rattle.tree_rules.specs.Rooted.{treeLeaves, treeNodes, RootSound}
+use Rattle.tree_rules.specs.Rooted.{tree_leaves, tree_nodes, RootSound}
 use Rattle.tree_check.specs.Leaves.{index_of, Known}
-use Rattle.tree_check.specs.Marks.{recordMark, Fresh}
+use Rattle.tree_check.specs.Marks.{record_mark, Fresh}
 
 -- how often mark m is asked for by the nodes N and the leaf entries L, where s are the lines
-unfoldable pub askedFor : List Site → List ℕ → List NodeEntry → ℕ → ℕ
-askedFor s N L m = tally m N + total (λ e. hit m (recordMark (index_of s e.reference))) L
+unfoldable pub asked_for : List Site → List ℕ → List NodeEntry → ℕ → ℕ
+asked_for s N L m = tally m N + total (λ e. hit m (record_mark (index_of s e.reference))) L
 
 -- how often mark m is asked for by what lies under the entries l, which stand at height h
 unfoldable pub met : List ℕ → ℕ → List NodeEntry → ℕ → ℕ
-met b h l = askedFor (linesIn b) (joined (nodes (entries b) h) l) (joined (leaves (entries b) h) l)
+met b h l = asked_for (lines_in b) (joined (nodes (entries b) h) l) (joined (leaves (entries b) h) l)
 
 -- the entries l, which stand at height h, keep the tree's rules, their leaf entries are those of lines, and nothing
 -- is met twice
 pub record Pass (b : List ℕ) (h : ℕ) (l : List NodeEntry) (o : List ℕ) : Type 0 where
   pub sound : Each (SoundUnder (entries b) h) l
-  pub known : Each (Known (closed_in b) (linesIn b)) (joined (leaves (entries b) h) l)
+  pub known : Each (Known (closed_in b) (lines_in b)) (joined (leaves (entries b) h) l)
   pub fresh : Fresh (met b h l) o
 
 -- e's child node keeps the rules on nodes, but for what its entries refer to
@@ -34,7 +34,7 @@ pub record Fits (b : List ℕ) (e : NodeEntry) : Type 0 where
   -- "Each box is the smallest that holds what lies under it"
   pub box : e ≡ hull e.reference (entries b e.reference)
   -- "A node other than the root holds at least 3"
-  pub least : minEntries ≤ length (entries b e.reference)
+  pub least : min_entries ≤ length (entries b e.reference)
 
 -- the root c, whose entries stand at height g, has as many as a root has to have
 pub record Enough (b : List ℕ) (g c : ℕ) : Type 0 where
@@ -46,15 +46,15 @@ pub record Enough (b : List ℕ) (g c : ℕ) : Type 0 where
 -- "There are at most six levels"
 unfoldable pub Low : Root → Type 0
 Low Root.Empty = Unit {0}
-Low (Root.Top g c) = g + 1 ≤ maxLevels
+Low (Root.Top g c) = g + 1 ≤ max_levels
 
 -- how often mark m is asked for by the tree under r
-unfoldable pub rootMet : List ℕ → Root → ℕ → ℕ
-rootMet b r = askedFor (linesIn b) (treeNodes (entries b) r) (treeLeaves (entries b) r)
+unfoldable pub root_met : List ℕ → Root → ℕ → ℕ
+root_met b r = asked_for (lines_in b) (tree_nodes (entries b) r) (tree_leaves (entries b) r)
 
 -- the tree under r keeps its rules, its leaf entries are those of lines, and nothing is met twice
 pub record RootPass (b : List ℕ) (r : Root) (o : List ℕ) : Type 0 where
   pub top : RootSound (entries b) r
   pub low : Low r
-  pub known : Each (Known (closed_in b) (linesIn b)) (treeLeaves (entries b) r)
-  pub fresh : Fresh (rootMet b r) o
+  pub known : Each (Known (closed_in b) (lines_in b)) (tree_leaves (entries b) r)
+  pub fresh : Fresh (root_met b r) o

@@ -1,17 +1,17 @@
 // The test of the free nodes.
 ghost use Rattle.std.specs.Prelude.{◌≡◌, length};
-ghost use Rattle.limits.specs.Limits.{tableBytes};
+ghost use Rattle.limits.specs.Limits.{table_bytes};
 ghost use Rattle.tree_node.specs.Free.{free};
 ghost use Rattle.tree_node.specs.Tally.{tally};
 ghost use Rattle.tree_node.specs.Told.{Told};
-ghost use Rattle.tree_check.specs.Marks.{seenBytes, Marked, Bits, FreePass};
+ghost use Rattle.tree_check.specs.Marks.{seen_bytes, Marked, Bits, FreePass};
 
 use crate::marks;
 use limits::MAX_NODES;
 
 // Whether each free node is one of the pool and has no mark yet. Marks them.
 pub fn check_free(t: &[u8], seen: &mut [u8]) -> bool
-    requires { (length t.now ≡ tableBytes) × (length seen.old ≡ seenBytes) × Bits seen.old }
+    requires { (length t.now ≡ table_bytes) × (length seen.old ≡ seen_bytes) × Bits seen.old }
     ensures { Told result (FreePass t.now seen.old)
         (Marked (λ m. tally m (free t.now)) seen.old seen.new) }
 {

@@ -1,9 +1,9 @@
 // Hints for the search of the site array, in lent bytes behind the marks: for a number modulo so many, half the index
 // of a record that has such a number. A hint only saves time: what stands there is tested.
 ghost use Rattle.std.specs.Prelude.{◌≡◌, ◌≤◌, ◌<◌, length};
-ghost use Rattle.limits.specs.Limits.{maxSites, tableBytes};
-ghost use Rattle.table_sites.specs.Lines.{linesIn, Array, FoundAs};
-ghost use Rattle.tree_check.specs.Marks.{markBytes, seenBytes};
+ghost use Rattle.limits.specs.Limits.{max_sites, table_bytes};
+ghost use Rattle.table_sites.specs.Lines.{lines_in, Array, FoundAs};
+ghost use Rattle.tree_check.specs.Marks.{mark_bytes, seen_bytes};
 
 use crate::marks;
 use table_sites::Found;
@@ -19,14 +19,14 @@ fn wide(x: u8) -> usize
 
 // Where the hint for the number x stands.
 fn hint_at(x: u16) -> usize
-    ensures { (markBytes ≤ result) × (result < seenBytes) }
+    ensures { (mark_bytes ≤ result) × (result < seen_bytes) }
 {
     marks::MARK_BYTES + x as usize % HINT_BYTES
 }
 
 // Stores a hint for each of the first n records.
 pub fn note(t: &[u8], n: usize, seen: &mut [u8])
-    requires { (length t.now ≡ tableBytes) × (n ≤ maxSites) × (length seen.old ≡ seenBytes) }
+    requires { (length t.now ≡ table_bytes) × (n ≤ max_sites) × (length seen.old ≡ seen_bytes) }
 {
     let mut k = 0;
     while k < n {
@@ -38,8 +38,8 @@ pub fn note(t: &[u8], n: usize, seen: &mut [u8])
 
 // Where the number x stands in the site array.
 pub fn find(t: &[u8], x: u16, seen: &[u8]) -> Found
-    requires { Array t.now × (length seen.now ≡ seenBytes) }
-    ensures { FoundAs result x (linesIn t.now) }
+    requires { Array t.now × (length seen.now ≡ seen_bytes) }
+    ensures { FoundAs result x (lines_in t.now) }
 {
     let i = hint_at(x);
     let k = 2 * wide(seen[i]);

@@ -10,8 +10,8 @@ pub mod walk;
 ghost use Rattle.std.specs.Prelude.{◌≡◌, length};
 ghost use Rattle.grid.specs.Says.{Says};
 ghost use Rattle.table_sites.specs.Lines.{Array};
-ghost use Rattle.tree_check.specs.Leaves.{opensBy, leafWith};
-ghost use Rattle.tree_check.specs.Marks.{seenBytes};
+ghost use Rattle.tree_check.specs.Leaves.{opens_by, leaf_with};
+ghost use Rattle.tree_check.specs.Marks.{seen_bytes};
 ghost use Rattle.tree_check.specs.Tied.{Joined, Tied};
 
 use grid::Site;
@@ -23,7 +23,7 @@ pub const SEEN_BYTES: usize = marks::MARK_BYTES + hints::HINT_BYTES;
 
 // How many open sites a leaf entry has under it, by its site's mark.
 fn opens_by(mark: u16) -> u16
-    ensures { result ≡ opensBy mark }
+    ensures { result ≡ opens_by mark }
 {
     if mark == 0 {
         return 1;
@@ -33,7 +33,7 @@ fn opens_by(mark: u16) -> u16
 
 // The leaf entry of a site with this mark.
 pub fn leaf_entry(p: Site, mark: u16) -> NodeEntry
-    ensures { result ≡ leafWith (opensBy mark) p }
+    ensures { result ≡ leaf_with (opens_by mark) p }
 {
     let opens = opens_by(mark);
     let east = p.position.east;
@@ -51,7 +51,7 @@ pub fn leaf_entry(p: Site, mark: u16) -> NodeEntry
 // Whether the tree in the table keeps its rules and has the leaf entries of the site array, whose numbers rise.
 // The bytes of `seen` are changed.
 fn check_tree(t: &[u8], seen: &mut [u8]) -> bool
-    requires { Array t.now × (length seen.old ≡ seenBytes) }
+    requires { Array t.now × (length seen.old ≡ seen_bytes) }
     ensures { Says result (Joined t.now) }
 {
     let n = table_header::count(t);
@@ -67,7 +67,7 @@ fn check_tree(t: &[u8], seen: &mut [u8]) -> bool
 
 // The same, and whether the number of open sites is stored that the tree has (C-20).
 pub fn check(t: &[u8], seen: &mut [u8]) -> bool
-    requires { Array t.now × (length seen.old ≡ seenBytes) }
+    requires { Array t.now × (length seen.old ≡ seen_bytes) }
     ensures { Says result (Tied t.now) }
 {
     if check_tree(t, seen) {

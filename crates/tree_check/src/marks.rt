@@ -2,14 +2,14 @@
 ghost use Rattle.std.specs.Prelude.{◌≡◌, ◌≤◌, ◌<◌, min, length, get_or, set};
 ghost use Rattle.grid.specs.Says.{Says};
 ghost use Rattle.tree_node.specs.Told.{Told};
-ghost use Rattle.tree_check.specs.Marks.{markBytes, seenBytes, Blank, Full};
+ghost use Rattle.tree_check.specs.Marks.{mark_bytes, seen_bytes, Blank, Full};
 
 // A byte for each node and for each record.
 pub const MARK_BYTES: usize = limits::MAX_NODES + limits::MAX_SITES;
 
 // Takes every mark away.
 pub fn clear(seen: &mut [u8])
-    requires { length seen.old ≡ seenBytes }
+    requires { length seen.old ≡ seen_bytes }
     ensures { Blank seen.new }
 {
     let mut i = 0;
@@ -40,7 +40,7 @@ fn lesser(a: u8, b: u8) -> u8
 // Whether each of the first l marks is set. All are read: the least of many bytes takes less time than a branch for
 // each.
 pub fn full(seen: &[u8], l: usize) -> bool
-    requires { (length seen.now ≡ seenBytes) × (l ≤ markBytes) }
+    requires { (length seen.now ≡ seen_bytes) × (l ≤ mark_bytes) }
     ensures { Says result (Full l seen.now) }
 {
     let mut least: u8 = 255;

@@ -1,14 +1,14 @@
 // The walk over the tree. "A node is read by reading its entries, and an entry above the leaves by reading its child
 // node": two functions that call each other, the height falling at each descent.
 ghost use Rattle.std.specs.Prelude.{[], ◌∷◌, ◌≡◌, ◌<◌, length};
-ghost use Rattle.limits.specs.Limits.{maxNodes, tableBytes};
+ghost use Rattle.limits.specs.Limits.{max_nodes, table_bytes};
 ghost use Rattle.grid.specs.Says.{Says};
 ghost use Rattle.tree_node.specs.declared.Root.{Root};
-ghost use Rattle.tree_node.specs.Header.{rootIn};
+ghost use Rattle.tree_node.specs.Header.{root_in};
 ghost use Rattle.tree_node.specs.Node.{entries};
 ghost use Rattle.tree_node.specs.Told.{Told};
 ghost use Rattle.tree_check.specs.Marks.{Marked, Prepared};
-ghost use Rattle.tree_check.specs.Walk.{met, Pass, Fits, Enough, rootMet, RootPass};
+ghost use Rattle.tree_check.specs.Walk.{met, Pass, Fits, Enough, root_met, RootPass};
 
 use crate::{hints, leaf_entry, marks};
 use limits::{MAX_LEVELS, MAX_NODES, MIN_ENTRIES};
@@ -36,7 +36,7 @@ fn check_leaf(t: &[u8], e: NodeEntry, seen: &mut [u8]) -> bool
 
 // Whether e's child node has entries enough and e is the smallest box of them.
 fn fits(t: &[u8], e: NodeEntry) -> bool
-    requires { (length t.now ≡ tableBytes) × (e.reference < maxNodes) }
+    requires { (length t.now ≡ table_bytes) × (e.reference < max_nodes) }
     ensures { Says result (Fits t.now e) }
 {
     let c = e.reference as usize;
@@ -49,7 +49,7 @@ fn fits(t: &[u8], e: NodeEntry) -> bool
 
 // Whether the entries of the leaf c pass. Marks their records.
 fn check_leaves(t: &[u8], c: usize, seen: &mut [u8]) -> bool
-    requires { Prepared t.now seen.old × (c < maxNodes) }
+    requires { Prepared t.now seen.old × (c < max_nodes) }
     ensures { Told result (Pass t.now 0 (entries t.now c) seen.old)
         (Marked (met t.now 0 (entries t.now c)) seen.old seen.new) }
 {
@@ -89,7 +89,7 @@ fn check_entry(t: &[u8], h: usize, e: NodeEntry, seen: &mut [u8]) -> bool
 // Whether the entries of node c, which stand at height h, pass. Marks what lies under them.
 #[cycle(check_entry_check_node)]
 fn check_node(t: &[u8], h: usize, c: usize, seen: &mut [u8]) -> bool
-    requires { Prepared t.now seen.old × (c < maxNodes) }
+    requires { Prepared t.now seen.old × (c < max_nodes) }
     ensures { Told result (Pass t.now h (entries t.now c) seen.old)
         (Marked (met t.now h (entries t.now c)) seen.old seen.new) }
 {
@@ -111,7 +111,7 @@ fn check_node(t: &[u8], h: usize, c: usize, seen: &mut [u8]) -> bool
 
 // Whether the root c, whose entries stand at height g, has as many as a root has to have.
 fn enough(t: &[u8], g: usize, c: usize) -> bool
-    requires { (length t.now ≡ tableBytes) × (c < maxNodes) }
+    requires { (length t.now ≡ table_bytes) × (c < max_nodes) }
     ensures { Says result (Enough t.now g c) }
 {
     let k = pool::count(t, c);
@@ -131,7 +131,7 @@ fn enough(t: &[u8], g: usize, c: usize) -> bool
 fn check_top(t: &[u8], g: usize, c: usize, seen: &mut [u8]) -> bool
     requires { Prepared t.now seen.old }
     ensures { Told result (RootPass t.now (Root.Top g c) seen.old)
-        (Marked (rootMet t.now (Root.Top g c)) seen.old seen.new) }
+        (Marked (root_met t.now (Root.Top g c)) seen.old seen.new) }
 {
     if MAX_LEVELS <= g {
         return false;
@@ -150,8 +150,8 @@ fn check_top(t: &[u8], g: usize, c: usize, seen: &mut [u8]) -> bool
 // Whether the tree that the header tells passes. Marks what lies under it.
 pub fn check_root(t: &[u8], seen: &mut [u8]) -> bool
     requires { Prepared t.now seen.old }
-    ensures { Told result (RootPass t.now (rootIn t.now) seen.old)
-        (Marked (rootMet t.now (rootIn t.now)) seen.old seen.new) }
+    ensures { Told result (RootPass t.now (root_in t.now) seen.old)
+        (Marked (root_met t.now (root_in t.now)) seen.old seen.new) }
 {
     match header::read_root(t) {
         Root::Empty => true,

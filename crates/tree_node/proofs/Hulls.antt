@@ -7,25 +7,25 @@ use native.Mathlib.Omega.{arith}
 use lib.ListN.{length, get_or, drop, drop_of_length-le}
 use lib.Seq.{drop-cons}
 use Rattle.tree_node.specs.declared.NodeEntry.{NodeEntry}
-use Rattle.tree_node.specs.Node.{entries, noEntry, Wrote}
+use Rattle.tree_node.specs.Node.{entries, no_entry, Wrote}
 use Rattle.tree_node.specs.Boxes.{grow, widen, summed, hull, InBox}
 use Rattle.tree_node.specs.Tally.{total}
 
 -- the entries are passed from the last to the first
-pub hull-end : (n : ℕ) (l : List NodeEntry) (k : ℕ) → k ≡ length l → record { reference = n; west = 65535; south = 65535; east = 0; north = 0; opens = 0 } ≡ hull n (drop k l)
+pub hull_end : (n : ℕ) (l : List NodeEntry) (k : ℕ) → k ≡ length l → record { reference = n; west = 65535; south = 65535; east = 0; north = 0; opens = 0 } ≡ hull n (drop k l)
 unfolding hull
-hull-end n l k q = let le : length l ≤ k = omega arith in rw (drop_of_length-le l le)
+hull_end n l k q = let le : length l ≤ k = omega arith in rw (drop_of_length-le l le)
 
-pub hull-step : (n : ℕ) (l : List NodeEntry) (k : ℕ) (e f r : NodeEntry) → 0 < k → k ≤ length l → e ≡ get_or l (k - 1) noEntry → f ≡ hull n (drop k l) → r ≡ grow e f → r ≡ hull n (drop (k - 1) l)
+pub hull_step : (n : ℕ) (l : List NodeEntry) (k : ℕ) (e f r : NodeEntry) → 0 < k → k ≤ length l → e ≡ get_or l (k - 1) no_entry → f ≡ hull n (drop k l) → r ≡ grow e f → r ≡ hull n (drop (k - 1) l)
 unfolding hull
-hull-step n l k e f r some le p q s =
+hull_step n l k e f r some le p q s =
     let up : suc (k - 1) ≡ k = omega arith in
-    let d : drop (k - 1) l ≡ get_or l (k - 1) noEntry ∷ drop k l =
-    drop-cons l (k - 1) noEntry (omega arith) ∙ ap (λ (j : ℕ). get_or l (k - 1) noEntry ∷ drop j l) up in
+    let d : drop (k - 1) l ≡ get_or l (k - 1) no_entry ∷ drop k l =
+    drop-cons l (k - 1) no_entry (omega arith) ∙ ap (λ (j : ℕ). get_or l (k - 1) no_entry ∷ drop j l) up in
     rw d (s ∙ rw (p, q))
 
-pub hull-all : (n : ℕ) (l : List NodeEntry) (k : ℕ) (f : NodeEntry) → k ≤ 0 → f ≡ hull n (drop k l) → f ≡ hull n l
-hull-all n l k f le q = let z : k ≡ 0 = omega arith in q ∙ ap (λ (j : ℕ). hull n (drop j l)) z
+pub hull_all : (n : ℕ) (l : List NodeEntry) (k : ℕ) (f : NodeEntry) → k ≤ 0 → f ≡ hull n (drop k l) → f ≡ hull n l
+hull_all n l k f le q = let z : k ≡ 0 = omega arith in q ∙ ap (λ (j : ℕ). hull n (drop j l)) z
 
 -- the same where the numbers are summed up beside the box
 sum_grow : (e f r : NodeEntry) (s s' : ℕ) → r ≡ widen e f → s' ≡ s + e.opens → summed r s' ≡ grow e (summed f s)
@@ -41,43 +41,43 @@ sum_grow e f r s s' q z =
       opens = o i;
     })
 
-pub sum-end : (n : ℕ) (l : List NodeEntry) (k : ℕ) → k ≡ length l → summed (record { reference = n; west = 65535; south = 65535; east = 0; north = 0; opens = 0 }) 0 ≡ hull n (drop k l)
+pub sum_end : (n : ℕ) (l : List NodeEntry) (k : ℕ) → k ≡ length l → summed (record { reference = n; west = 65535; south = 65535; east = 0; north = 0; opens = 0 }) 0 ≡ hull n (drop k l)
 unfolding summed
-sum-end n l k q = hull-end n l k q
+sum_end n l k q = hull_end n l k q
 
-pub sum_step : (n : ℕ) (l : List NodeEntry) (k : ℕ) (e f r : NodeEntry) (s w : ℕ) → 0 < k → k ≤ length l → e ≡ get_or l (k - 1) noEntry
+pub sum_step : (n : ℕ) (l : List NodeEntry) (k : ℕ) (e f r : NodeEntry) (s w : ℕ) → 0 < k → k ≤ length l → e ≡ get_or l (k - 1) no_entry
     → summed f s ≡ hull n (drop k l) → r ≡ widen e f → w ≡ e.opens → summed r (s + w) ≡ hull n (drop (k - 1) l)
 sum_step n l k e f r s w some le p q g z =
-    hull-step n l k e (summed f s) (summed r (s + w)) some le p q (sum_grow e f r s (s + w) g (ap (λ (x : ℕ). s + x) z))
+    hull_step n l k e (summed f s) (summed r (s + w)) some le p q (sum_grow e f r s (s + w) g (ap (λ (x : ℕ). s + x) z))
 
-pub sum-all : (n : ℕ) (l : List NodeEntry) (k : ℕ) (f r : NodeEntry) (s : ℕ) → k ≤ 0 → summed f s ≡ hull n (drop k l) → r ≡ summed f s → r ≡ hull n l
-sum-all n l k f r s le q z = z ∙ hull-all n l k (summed f s) le q
+pub sum_all : (n : ℕ) (l : List NodeEntry) (k : ℕ) (f r : NodeEntry) (s : ℕ) → k ≤ 0 → summed f s ≡ hull n (drop k l) → r ≡ summed f s → r ≡ hull n l
+sum_all n l k f r s le q z = z ∙ hull_all n l k (summed f s) le q
 
 -- the hull of node c refers to c
-pub hull-reference : (c : ℕ) (l : List NodeEntry) → (hull c l).reference ≡ c
+pub hull_reference : (c : ℕ) (l : List NodeEntry) → (hull c l).reference ≡ c
 unfolding hull grow
-hull-reference c [] = refl
-hull-reference c (e ∷ l) = hull-reference c l
+hull_reference c [] = refl
+hull_reference c (e ∷ l) = hull_reference c l
 
 -- and its number is the sum of the entries' numbers
-pub hull-sum : (c : ℕ) (l : List NodeEntry) → (hull c l).opens ≡ min 65535 (total (λ e. e.opens) l)
+pub hull_sum : (c : ℕ) (l : List NodeEntry) → (hull c l).opens ≡ min 65535 (total (λ e. e.opens) l)
 unfolding hull grow total
-hull-sum c [] = refl
-hull-sum c (e ∷ l) = omega (arith, hull-sum c l)
+hull_sum c [] = refl
+hull_sum c (e ∷ l) = omega (arith, hull_sum c l)
 
-pub in-refl : (a : NodeEntry) → InBox a a
-in-refl a = omega arith
+pub in_refl : (a : NodeEntry) → InBox a a
+in_refl a = omega arith
 
-pub in-trans : {a b c : NodeEntry} → InBox a b → InBox b c → InBox a c
-in-trans p q = omega arith
+pub in_trans : {a b c : NodeEntry} → InBox a b → InBox b c → InBox a c
+in_trans p q = omega arith
 
-pub in-grow : (d f : NodeEntry) → InBox d (grow d f)
+pub in_grow : (d f : NodeEntry) → InBox d (grow d f)
 unfolding grow
-in-grow d f = omega arith
+in_grow d f = omega arith
 
-pub in-grown : (d f : NodeEntry) → InBox f (grow d f)
+pub in_grown : (d f : NodeEntry) → InBox f (grow d f)
 unfolding grow
-in-grown d f = omega arith
+in_grown d f = omega arith
 
 pub lifted : (n c : ℕ) (f : NodeEntry) (b b' : List ℕ) → f ≡ hull c (entries b c) → Wrote n (entries b n ++ (f ∷ [])) b b' → Wrote n (entries b n ++ (hull c (entries b c) ∷ [])) b b'
 lifted n c f b b' q w = subst (λ (x : NodeEntry). Wrote n (entries b n ++ (x ∷ [])) b b') q w

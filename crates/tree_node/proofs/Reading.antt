@@ -8,90 +8,90 @@ use native.Mathlib.Omega.{arith}
 use native.Mathlib.Nat.{eq-or-lt_of_le}
 use lib.ListN.{length, get_or, length-append, get_or-append}
 use lib.Seq.{get_or_at, ext_get_or}
-use Rattle.limits.specs.Limits.{maxEntries, maxNodes, tableBytes}
+use Rattle.limits.specs.Limits.{max_entries, max_nodes, table_bytes}
 use Rattle.words.specs.Words.{word_at}
 use Rattle.tree_node.specs.declared.NodeEntry.{NodeEntry}
-use Rattle.tree_node.specs.Layout.{nodeEntryBytes, base, entryStart, up_to}
-use Rattle.tree_node.specs.Node.{entry_at, firsts, entries, noEntry}
-use Rattle.tree_node.proofs.Counting.{upTo-low, upTo-high, upTo-most}
+use Rattle.tree_node.specs.Layout.{node_entry_bytes, base, entry_start, up_to}
+use Rattle.tree_node.specs.Node.{entry_at, firsts, entries, no_entry}
+use Rattle.tree_node.proofs.Counting.{up_to_low, up_to_high, up_to_most}
 
-length-firsts : (f : ℕ → NodeEntry) (n : ℕ) → length (firsts f n) ≡ n
+length_firsts : (f : ℕ → NodeEntry) (n : ℕ) → length (firsts f n) ≡ n
 unfolding firsts
-length-firsts f zero = refl
-length-firsts f (suc n) = simp length-append (omega (arith, length-firsts f n))
+length_firsts f zero = refl
+length_firsts f (suc n) = simp length-append (omega (arith, length_firsts f n))
 
-getD-firsts : (f : ℕ → NodeEntry) (n k : ℕ) (d : NodeEntry) → k < n → get_or (firsts f n) k d ≡ f k
+get_d_firsts : (f : ℕ → NodeEntry) (n k : ℕ) (d : NodeEntry) → k < n → get_or (firsts f n) k d ≡ f k
 unfolding firsts
-getD-firsts f zero k d h = absurd (omega arith)
-getD-firsts f (suc n) k d h =
+get_d_firsts f zero k d h = absurd (omega arith)
+get_d_firsts f (suc n) k d h =
     ⊎_elim
-    (λ (e : k ≡ n). rw e (get_or_at (firsts f n) (f n) [] d n (length-firsts f n)))
+    (λ (e : k ≡ n). rw e (get_or_at (firsts f n) (f n) [] d n (length_firsts f n)))
     (λ (l : k < n).
-    get_or-append (firsts f n) (f n ∷ []) d k (omega (arith, length-firsts f n)) ∙ getD-firsts f n k d l)
+    get_or-append (firsts f n) (f n ∷ []) d k (omega (arith, length_firsts f n)) ∙ get_d_firsts f n k d l)
     (eq-or-lt_of_le (omega arith))
 
-firsts-ext : (f g : ℕ → NodeEntry) (n : ℕ) → ((k : ℕ) → k < n → f k ≡ g k) → firsts f n ≡ firsts g n
+firsts_ext : (f g : ℕ → NodeEntry) (n : ℕ) → ((k : ℕ) → k < n → f k ≡ g k) → firsts f n ≡ firsts g n
 unfolding firsts
-firsts-ext f g zero h = refl
-firsts-ext f g (suc n) h =
-    ap₂ (λ (l : List NodeEntry) (e : NodeEntry). l ++ (e ∷ [])) (firsts-ext f g n (λ k lt. h k (omega arith))) (h n (omega arith))
+firsts_ext f g zero h = refl
+firsts_ext f g (suc n) h =
+    ap₂ (λ (l : List NodeEntry) (e : NodeEntry). l ++ (e ∷ [])) (firsts_ext f g n (λ k lt. h k (omega arith))) (h n (omega arith))
 
-pub length-entries : (b : List ℕ) (n : ℕ) → length (entries b n) ≡ up_to maxEntries (word_at b (base n))
+pub length_entries : (b : List ℕ) (n : ℕ) → length (entries b n) ≡ up_to max_entries (word_at b (base n))
 unfolding entries
-length-entries b n = length-firsts (λ k. entry_at b (entryStart n k)) (up_to maxEntries (word_at b (base n)))
+length_entries b n = length_firsts (λ k. entry_at b (entry_start n k)) (up_to max_entries (word_at b (base n)))
 
-pub getD-entries : (b : List ℕ) (n k : ℕ) → k < length (entries b n) → get_or (entries b n) k noEntry ≡ entry_at b (entryStart n k)
+pub get_d_entries : (b : List ℕ) (n k : ℕ) → k < length (entries b n) → get_or (entries b n) k no_entry ≡ entry_at b (entry_start n k)
 unfolding entries
-getD-entries b n k h =
-    getD-firsts
-    (λ j. entry_at b (entryStart n j))
-    (up_to maxEntries (word_at b (base n)))
+get_d_entries b n k h =
+    get_d_firsts
+    (λ j. entry_at b (entry_start n j))
+    (up_to max_entries (word_at b (base n)))
     k
-    noEntry
-    (omega (arith, length-entries b n))
+    no_entry
+    (omega (arith, length_entries b n))
 
 -- "A node holds at most 8 entries", whatever its bytes
-pub eight : (b : List ℕ) (n : ℕ) → length (entries b n) ≤ maxEntries
-eight b n = omega (arith, length-entries b n, upTo-most maxEntries (word_at b (base n)))
+pub eight : (b : List ℕ) (n : ℕ) → length (entries b n) ≤ max_entries
+eight b n = omega (arith, length_entries b n, up_to_most max_entries (word_at b (base n)))
 
 -- two tables with the same count and entries at a node's places
-pub entries-ext : (b b' : List ℕ) (n : ℕ) → word_at b' (base n) ≡ word_at b (base n)
-    → ((k : ℕ) → k < maxEntries → entry_at b' (entryStart n k) ≡ entry_at b (entryStart n k)) → entries b' n ≡ entries b n
+pub entries_ext : (b b' : List ℕ) (n : ℕ) → word_at b' (base n) ≡ word_at b (base n)
+    → ((k : ℕ) → k < max_entries → entry_at b' (entry_start n k) ≡ entry_at b (entry_start n k)) → entries b' n ≡ entries b n
 unfolding entries
-entries-ext b b' n p q = rw p (firsts-ext _ _ _ (λ k lt. q k (omega (arith, upTo-most maxEntries (word_at b (base n))))))
+entries_ext b b' n p q = rw p (firsts_ext _ _ _ (λ k lt. q k (omega (arith, up_to_most max_entries (word_at b (base n))))))
 
 -- a node has the entries l, if its count and each of its places say so
-pub entries-are : (b : List ℕ) (n : ℕ) (l : List NodeEntry) → up_to maxEntries (word_at b (base n)) ≡ length l
-    → ((i : ℕ) → i < length l → entry_at b (entryStart n i) ≡ get_or l i noEntry) → entries b n ≡ l
-entries-are b n l c f =
-    let len : length (entries b n) ≡ length l = omega (arith, length-entries b n) in
-    ext_get_or noEntry (entries b n) l len (λ i lt. getD-entries b n i lt ∙ f i (omega arith))
+pub entries_are : (b : List ℕ) (n : ℕ) (l : List NodeEntry) → up_to max_entries (word_at b (base n)) ≡ length l
+    → ((i : ℕ) → i < length l → entry_at b (entry_start n i) ≡ get_or l i no_entry) → entries b n ≡ l
+entries_are b n l c f =
+    let len : length (entries b n) ≡ length l = omega (arith, length_entries b n) in
+    ext_get_or no_entry (entries b n) l len (λ i lt. get_d_entries b n i lt ∙ f i (omega arith))
 
 -- the count that a node's first two bytes tell
 module _ (b : List ℕ) (n i stored : ℕ) (at : i ≡ base n) (q : stored ≡ word_at b i) where
-  told : length (entries b n) ≡ up_to maxEntries stored
-  told = length-entries b n ∙ rw (q, at)
+  told : length (entries b n) ≡ up_to max_entries stored
+  told = length_entries b n ∙ rw (q, at)
 
-  pub counted : stored ≤ maxEntries → stored ≡ length (entries b n)
-  counted h = omega (arith, told, upTo-low maxEntries stored h)
+  pub counted : stored ≤ max_entries → stored ≡ length (entries b n)
+  counted h = omega (arith, told, up_to_low max_entries stored h)
 
-  pub counted_none : maxEntries < stored → 0 ≡ length (entries b n)
-  counted_none h = omega (arith, told, upTo-high maxEntries stored h)
+  pub counted_none : max_entries < stored → 0 ≡ length (entries b n)
+  counted_none h = omega (arith, told, up_to_high max_entries stored h)
 
 -- an entry that is there stands in the node's bytes
-pub below-eight : (b : List ℕ) (n k : ℕ) → k < length (entries b n) → k < maxEntries
-below-eight b n k h = omega (arith, eight b n)
+pub below_eight : (b : List ℕ) (n k : ℕ) → k < length (entries b n) → k < max_entries
+below_eight b n k h = omega (arith, eight b n)
 
-pub place-fits : (b : List ℕ) (n k i : ℕ) → length b ≡ tableBytes → n < maxNodes → k < length (entries b n) → i ≡ entryStart n k → i + nodeEntryBytes ≤ length b
-place-fits b n k i len id h at = omega (arith, eight b n)
+pub place_fits : (b : List ℕ) (n k i : ℕ) → length b ≡ table_bytes → n < max_nodes → k < length (entries b n) → i ≡ entry_start n k → i + node_entry_bytes ≤ length b
+place_fits b n k i len id h at = omega (arith, eight b n)
 
-pub entry_read : (b : List ℕ) (n k i : ℕ) (e : NodeEntry) → k < length (entries b n) → i ≡ entryStart n k → e ≡ entry_at b i → e ≡ get_or (entries b n) k noEntry
-entry_read b n k i e h at q = q ∙ ap (entry_at b) at ∙ sym (getD-entries b n k h)
+pub entry_read : (b : List ℕ) (n k i : ℕ) (e : NodeEntry) → k < length (entries b n) → i ≡ entry_start n k → e ≡ entry_at b i → e ≡ get_or (entries b n) k no_entry
+entry_read b n k i e h at q = q ∙ ap (entry_at b) at ∙ sym (get_d_entries b n k h)
 
 -- an entry is its six numbers
-pub words-read : (b : List ℕ) (i reference west south east north opens : ℕ) → reference ≡ word_at b i → west ≡ word_at b (i + 2) → south ≡ word_at b (i + 4)
+pub words_read : (b : List ℕ) (i reference west south east north opens : ℕ) → reference ≡ word_at b i → west ≡ word_at b (i + 2) → south ≡ word_at b (i + 4)
     → east ≡ word_at b (i + 6) → north ≡ word_at b (i + 8) → opens ≡ word_at b (i + 10)
     → record { reference = reference; west = west; south = south; east = east; north = north; opens = opens } ≡ entry_at b i
 unfolding entry_at
-words-read b i reference west south east north opens r w s e n z =
+words_read b i reference west south east north opens r w s e n z =
     λ j. record { reference = r j; west = w j; south = s j; east = e j; north = n j; opens = z j }

@@ -10,18 +10,18 @@ use Rattle.tree_node.specs.Told.{Told}
 true≢false : true ≡ false → ⊥
 true≢false e = let z : ◌≡◌ {A = ℕ} 0 1 = cc in omega arith
 
-pub told-yes : {A B : Type 0} → A → B → Told true A B
-told-yes a b = record { yes = λ q. (a, b); no = λ q x. true≢false q }
+pub told_yes : {A B : Type 0} → A → B → Told true A B
+told_yes a b = record { yes = λ q. (a, b); no = λ q x. true≢false q }
 
-pub told-no : {A B : Type 0} → (A → ⊥) → Told false A B
-told-no f = record { yes = λ q. absurd (true≢false (sym q)); no = λ q. f }
+pub told_no : {A B : Type 0} → (A → ⊥) → Told false A B
+told_no f = record { yes = λ q. absurd (true≢false (sym q)); no = λ q. f }
 
-pub told-map : {r : Bool} {A B C D : Type 0} → (A → C) → (C → A) → (B → D) → Told r A B → Told r C D
-told-map f g k t = record { yes = λ q. (f (t.yes q).0, k (t.yes q).1); no = λ q c. t.no q (g c) }
+pub told_map : {r : Bool} {A B C D : Type 0} → (A → C) → (C → A) → (B → D) → Told r A B → Told r C D
+told_map f g k t = record { yes = λ q. (f (t.yes q).0, k (t.yes q).1); no = λ q c. t.no q (g c) }
 
 -- two entries with the same six numbers are equal
-pub entry-eq : (a b : NodeEntry) → a.reference ≡ b.reference → a.west ≡ b.west → a.south ≡ b.south → a.east ≡ b.east → a.north ≡ b.north → a.opens ≡ b.opens → a ≡ b
-entry-eq a b r w s e n z = λ i. record { reference = r i; west = w i; south = s i; east = e i; north = n i; opens = z i }
+pub entry_eq : (a b : NodeEntry) → a.reference ≡ b.reference → a.west ≡ b.west → a.south ≡ b.south → a.east ≡ b.east → a.north ≡ b.north → a.opens ≡ b.opens → a ≡ b
+entry_eq a b r w s e n z = λ i. record { reference = r i; west = w i; south = s i; east = e i; north = n i; opens = z i }
 
-pub same-yes : (a b : NodeEntry) → a.reference ≡ b.reference → a.west ≡ b.west → a.south ≡ b.south → a.east ≡ b.east → a.north ≡ b.north → a.opens ≡ b.opens → Told true (a ≡ b) (a ≡ b)
-same-yes a b r w s e n z = let q : a ≡ b = entry-eq a b r w s e n z in told-yes q q
+pub same_yes : (a b : NodeEntry) → a.reference ≡ b.reference → a.west ≡ b.west → a.south ≡ b.south → a.east ≡ b.east → a.north ≡ b.north → a.opens ≡ b.opens → Told true (a ≡ b) (a ≡ b)
+same_yes a b r w s e n z = let q : a ≡ b = entry_eq a b r w s e n z in told_yes q q

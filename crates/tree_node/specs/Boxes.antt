@@ -1,6 +1,6 @@
 -- The boxes of entries, and the numbers of open sites under them. "Each box is the smallest that holds what lies under
 -- it." Document 02, C-20: "Each node carries the number of open sites beneath it". A sum stays at 65535 where it would
--- pass it, which no table's does (`whole-counted`, table_rules).
+-- pass it, which no table's does (`whole_counted`, table_rules).
 -- Assumes nothing.
 use Rattle.std.specs.Prelude.{List, [], ◌∷◌, ℕ, ◌+◌, min, max, ◌≤◌}
 use Rattle.tree_node.specs.declared.NodeEntry.{NodeEntry}

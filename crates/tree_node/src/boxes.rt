@@ -1,6 +1,6 @@
 // The boxes of entries: widened, compared, and the smallest one of a node.
 ghost use Rattle.std.specs.Prelude.{◌≡◌, [], ◌∷◌, ◌++◌, ◌+◌, ◌<◌, min, max, length};
-ghost use Rattle.limits.specs.Limits.{maxEntries, maxNodes, tableBytes};
+ghost use Rattle.limits.specs.Limits.{max_entries, max_nodes, table_bytes};
 ghost use Rattle.tree_node.specs.Node.{entries, Wrote};
 ghost use Rattle.tree_node.specs.Boxes.{grow, widen, summed, hull};
 ghost use Rattle.tree_node.specs.Told.{Told};
@@ -86,7 +86,7 @@ fn with_sum(f: NodeEntry, s: u32) -> NodeEntry
 // The entry for node n: the smallest box of its entries, and the sum of their numbers. That is taken beside the box, in
 // more bits, since a bound on each partial sum takes longer than the sum.
 pub fn hull_of(table: &[u8], n: usize) -> NodeEntry
-    requires { (length table.now ≡ tableBytes) × (n < maxNodes) }
+    requires { (length table.now ≡ table_bytes) × (n < max_nodes) }
     ensures { result ≡ hull n (entries table.now n) }
 {
     let mut f = NodeEntry {
@@ -110,8 +110,8 @@ pub fn hull_of(table: &[u8], n: usize) -> NodeEntry
 
 // Adds the entry of node c to node n, which has room for it.
 pub fn lift(table: &mut [u8], n: usize, c: usize)
-    requires { (length table.old ≡ tableBytes) × (n < maxNodes) × (c < maxNodes)
-        × (length (entries table.old n) < maxEntries) }
+    requires { (length table.old ≡ table_bytes) × (n < max_nodes) × (c < max_nodes)
+        × (length (entries table.old n) < max_entries) }
     ensures { Wrote n (entries table.old n ++ (hull c (entries table.old c) ∷ []))
         table.old table.new }
 {

@@ -1,8 +1,8 @@
 // The stack of free nodes.
 ghost use Rattle.std.specs.Prelude.{◌≡◌, [], ◌+◌, ◌*◌, ◌<◌, ◌≤◌, length};
-ghost use Rattle.limits.specs.Limits.{maxNodes, tableBytes};
-ghost use Rattle.words.specs.Words.{word_at, putWord};
-ghost use Rattle.tree_node.specs.Layout.{freeStart, stackStart};
+ghost use Rattle.limits.specs.Limits.{max_nodes, table_bytes};
+ghost use Rattle.words.specs.Words.{word_at, put_word};
+ghost use Rattle.tree_node.specs.Layout.{free_start, stack_start};
 ghost use Rattle.tree_node.specs.Tally.{Within};
 ghost use Rattle.tree_node.specs.Free.{free, Popped, Given, Taken};
 
@@ -11,8 +11,8 @@ use limits::MAX_NODES;
 
 // How many nodes are free.
 pub fn free_count(table: &[u8]) -> usize
-    requires { length table.now ≡ tableBytes }
-    ensures { (result ≡ length (free table.now)) × (result ≤ maxNodes) }
+    requires { length table.now ≡ table_bytes }
+    ensures { (result ≡ length (free table.now)) × (result ≤ max_nodes) }
 {
     let stored = words::word(table, FREE_START) as usize;
     if stored <= MAX_NODES {
@@ -23,31 +23,31 @@ pub fn free_count(table: &[u8]) -> usize
 
 // Stores how many nodes are free.
 pub fn put_free_count(table: &mut [u8], n: usize)
-    requires { (length table.old ≡ tableBytes) × (n ≤ maxNodes) }
-    ensures { table.new ≡ putWord table.old freeStart n }
+    requires { (length table.old ≡ table_bytes) × (n ≤ max_nodes) }
+    ensures { table.new ≡ put_word table.old free_start n }
 {
     words::put_word(table, FREE_START, n as u16);
 }
 
 // The id that stands on k others in the stack.
 pub fn id_at(table: &[u8], k: usize) -> usize
-    requires { (length table.now ≡ tableBytes) × (k < maxNodes) }
-    ensures { (result ≡ word_at table.now (stackStart + 2 * k)) × (result < 65536) }
+    requires { (length table.now ≡ table_bytes) × (k < max_nodes) }
+    ensures { (result ≡ word_at table.now (stack_start + 2 * k)) × (result < 65536) }
 {
     words::word(table, STACK_START + 2 * k) as usize
 }
 
 // Puts the id c on k others.
 pub fn put_id(table: &mut [u8], k: usize, c: usize)
-    requires { (length table.old ≡ tableBytes) × (k < maxNodes) × (c < maxNodes) }
-    ensures { table.new ≡ putWord table.old (stackStart + 2 * k) c }
+    requires { (length table.old ≡ table_bytes) × (k < max_nodes) × (c < max_nodes) }
+    ensures { table.new ≡ put_word table.old (stack_start + 2 * k) c }
 {
     words::put_word(table, STACK_START + 2 * k, c as u16);
 }
 
 // Takes a free node.
 pub fn pop(table: &mut [u8]) -> usize
-    requires { (length table.old ≡ tableBytes) × (0 < length (free table.old)) }
+    requires { (length table.old ≡ table_bytes) × (0 < length (free table.old)) }
     ensures { Popped result table.old table.new }
 {
     let k = free_count(table) - 1;
@@ -58,7 +58,7 @@ pub fn pop(table: &mut [u8]) -> usize
 
 // Gives node c back.
 pub fn give(table: &mut [u8], c: usize)
-    requires { (length table.old ≡ tableBytes) × (c < maxNodes) × (length (free table.old) < maxNodes) }
+    requires { (length table.old ≡ table_bytes) × (c < max_nodes) × (length (free table.old) < max_nodes) }
     ensures { Given c table.old table.new }
 {
     let k = free_count(table);
@@ -68,8 +68,8 @@ pub fn give(table: &mut [u8], c: usize)
 
 // Takes a free node, which gets no entries.
 pub fn fresh(table: &mut [u8]) -> usize
-    requires { (length table.old ≡ tableBytes) × (0 < length (free table.old))
-        × Within maxNodes (free table.old) }
+    requires { (length table.old ≡ table_bytes) × (0 < length (free table.old))
+        × Within max_nodes (free table.old) }
     ensures { Taken result [] table.old table.new }
 {
     let r = pop(table);

@@ -1,14 +1,14 @@
 // The tree's header, read and stored.
 ghost use Rattle.std.specs.Prelude.{◌≡◌, length};
-ghost use Rattle.limits.specs.Limits.{tableBytes};
-ghost use Rattle.tree_node.specs.Header.{rootIn, SmallRoot, Headed};
+ghost use Rattle.limits.specs.Limits.{table_bytes};
+ghost use Rattle.tree_node.specs.Header.{root_in, SmallRoot, Headed};
 
 use crate::{ROOT_START, Root, TREE_START};
 
 // The tree that the header tells.
 pub fn read_root(table: &[u8]) -> Root
-    requires { length table.now ≡ tableBytes }
-    ensures { result ≡ rootIn table.now }
+    requires { length table.now ≡ table_bytes }
+    ensures { result ≡ root_in table.now }
 {
     let levels = words::word(table, TREE_START) as usize;
     if levels == 0 {
@@ -20,7 +20,7 @@ pub fn read_root(table: &[u8]) -> Root
 
 // Stores r in the header.
 pub fn store_root(table: &mut [u8], r: Root)
-    requires { (length table.old ≡ tableBytes) × SmallRoot r }
+    requires { (length table.old ≡ table_bytes) × SmallRoot r }
     ensures { Headed r table.old table.new }
 {
     match r {

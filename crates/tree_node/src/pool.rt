@@ -1,8 +1,8 @@
 // The pool of nodes: their entries read, stored, added and dropped.
 ghost use Rattle.std.specs.Prelude.{◌≡◌, [], ◌∷◌, ◌++◌, ◌+◌, ◌<◌, ◌≤◌, length, get_or, set};
-ghost use Rattle.limits.specs.Limits.{maxEntries, maxNodes, tableBytes};
-ghost use Rattle.tree_node.specs.Layout.{nodeEntryBytes, base, entryStart};
-ghost use Rattle.tree_node.specs.Node.{entry_at, putEntry, entries, noEntry, swapOut, Wrote};
+ghost use Rattle.limits.specs.Limits.{max_entries, max_nodes, table_bytes};
+ghost use Rattle.tree_node.specs.Layout.{node_entry_bytes, base, entry_start};
+ghost use Rattle.tree_node.specs.Node.{entry_at, put_entry, entries, no_entry, swap_out, Wrote};
 
 use crate::{
     COUNT_BYTES, EAST_EDGE, ENTRY_BYTES, ENTRY_OPENS, NODE_BYTES, NORTH_EDGE, NodeEntry,
@@ -12,7 +12,7 @@ use limits::MAX_ENTRIES;
 
 // The entry that starts at byte i.
 fn get_entry(table: &[u8], i: usize) -> NodeEntry
-    requires { i + nodeEntryBytes ≤ length table.now }
+    requires { i + node_entry_bytes ≤ length table.now }
     ensures { result ≡ entry_at table.now i }
 {
     NodeEntry {
@@ -27,8 +27,8 @@ fn get_entry(table: &[u8], i: usize) -> NodeEntry
 
 // Stores e from byte i on.
 fn set_entry(table: &mut [u8], i: usize, e: NodeEntry)
-    requires { i + nodeEntryBytes ≤ length table.old }
-    ensures { table.new ≡ putEntry table.old i e }
+    requires { i + node_entry_bytes ≤ length table.old }
+    ensures { table.new ≡ put_entry table.old i e }
 {
     words::put_word(table, i, e.reference);
     words::put_word(table, i + WEST_EDGE, e.west);
@@ -40,7 +40,7 @@ fn set_entry(table: &mut [u8], i: usize, e: NodeEntry)
 
 // Where node n starts.
 fn base_of(n: usize) -> usize
-    requires { n < maxNodes }
+    requires { n < max_nodes }
     ensures { result ≡ base n }
 {
     POOL_START + NODE_BYTES * n
@@ -48,16 +48,16 @@ fn base_of(n: usize) -> usize
 
 // Where entry k of node n starts.
 pub fn entry_start(n: usize, k: usize) -> usize
-    requires { (n < maxNodes) × (k < maxEntries) }
-    ensures { result ≡ entryStart n k }
+    requires { (n < max_nodes) × (k < max_entries) }
+    ensures { result ≡ entry_start n k }
 {
     base_of(n) + COUNT_BYTES + ENTRY_BYTES * k
 }
 
 // How many entries node n has.
 pub fn count(table: &[u8], n: usize) -> usize
-    requires { (length table.now ≡ tableBytes) × (n < maxNodes) }
-    ensures { (result ≡ length (entries table.now n)) × (result ≤ maxEntries) }
+    requires { (length table.now ≡ table_bytes) × (n < max_nodes) }
+    ensures { (result ≡ length (entries table.now n)) × (result ≤ max_entries) }
 {
     let stored = words::word(table, base_of(n)) as usize;
     if stored <= MAX_ENTRIES {
@@ -68,15 +68,15 @@ pub fn count(table: &[u8], n: usize) -> usize
 
 // Entry k of node n.
 pub fn entry_at(table: &[u8], n: usize, k: usize) -> NodeEntry
-    requires { (length table.now ≡ tableBytes) × (n < maxNodes) × (k < length (entries table.now n)) }
-    ensures { result ≡ get_or (entries table.now n) k noEntry }
+    requires { (length table.now ≡ table_bytes) × (n < max_nodes) × (k < length (entries table.now n)) }
+    ensures { result ≡ get_or (entries table.now n) k no_entry }
 {
     get_entry(table, entry_start(n, k))
 }
 
 // Stores e as entry k of node n.
 pub fn put(table: &mut [u8], n: usize, k: usize, e: NodeEntry)
-    requires { (length table.old ≡ tableBytes) × (n < maxNodes) × (k < length (entries table.old n)) }
+    requires { (length table.old ≡ table_bytes) × (n < max_nodes) × (k < length (entries table.old n)) }
     ensures { Wrote n (set (entries table.old n) k e) table.old table.new }
 {
     set_entry(table, entry_start(n, k), e);
@@ -84,7 +84,7 @@ pub fn put(table: &mut [u8], n: usize, k: usize, e: NodeEntry)
 
 // Adds e after the entries of node n, which has room for it.
 pub fn push(table: &mut [u8], n: usize, e: NodeEntry)
-    requires { (length table.old ≡ tableBytes) × (n < maxNodes) × (length (entries table.old n) < maxEntries) }
+    requires { (length table.old ≡ table_bytes) × (n < max_nodes) × (length (entries table.old n) < max_entries) }
     ensures { Wrote n (entries table.old n ++ (e ∷ [])) table.old table.new }
 {
     let k = count(table, n);
@@ -94,7 +94,7 @@ pub fn push(table: &mut [u8], n: usize, e: NodeEntry)
 
 // Takes every entry from node n.
 pub fn clear(table: &mut [u8], n: usize)
-    requires { (length table.old ≡ tableBytes) × (n < maxNodes) }
+    requires { (length table.old ≡ table_bytes) × (n < max_nodes) }
     ensures { Wrote n [] table.old table.new }
 {
     words::put_word(table, base_of(n), 0);
@@ -102,8 +102,8 @@ pub fn clear(table: &mut [u8], n: usize)
 
 // Takes entry k from node n: the last one takes its place.
 pub fn drop_entry(table: &mut [u8], n: usize, k: usize)
-    requires { (length table.old ≡ tableBytes) × (n < maxNodes) × (k < length (entries table.old n)) }
-    ensures { Wrote n (swapOut (entries table.old n) k) table.old table.new }
+    requires { (length table.old ≡ table_bytes) × (n < max_nodes) × (k < length (entries table.old n)) }
+    ensures { Wrote n (swap_out (entries table.old n) k) table.old table.new }
 {
     let last = count(table, n) - 1;
     let z = entry_at(table, n, last);

@@ -5,21 +5,21 @@ use mathlib.Core.List.{List, [], ◌∷◌}
 use Prim.Native.Nat.{ℕ, zero, suc, ◌≤◌}
 use native.Mathlib.Omega.{arith}
 use lib.ListN.{length, length-append}
-use Rattle.limits.specs.Limits.{tableBytes}
+use Rattle.limits.specs.Limits.{table_bytes}
 use Rattle.tree_node.specs.declared.NodeEntry.{NodeEntry}
 use Rattle.tree_node.specs.declared.Root.{Root}
 use Rattle.tree_node.specs.Node.{entries}
 use Rattle.tree_node.specs.Header.{SmallRoot}
-use Rattle.tree_rules.specs.Tree.{Store, joined, nodes, nodesAt, Each, SoundUnder}
-use Rattle.tree_rules.specs.Rooted.{treeNodes, Rooted}
+use Rattle.tree_rules.specs.Tree.{Store, joined, nodes, nodes_at, Each, SoundUnder}
+use Rattle.tree_rules.specs.Rooted.{tree_nodes, Rooted}
 use Rattle.tree_rules.proofs.Every.{each_map}
-use Rattle.tree_rules.proofs.Roots.{root-node}
+use Rattle.tree_rules.proofs.Roots.{root_node}
 use Rattle.tree_remove.specs.Removal.{TakenFrom}
 
-first-many : (k : ℕ) (F : NodeEntry → List ℕ) (l : List NodeEntry) → 1 ≤ length l → Each (λ e. k ≤ length (F e)) l → k ≤ length (joined F l)
+first_many : (k : ℕ) (F : NodeEntry → List ℕ) (l : List NodeEntry) → 1 ≤ length l → Each (λ e. k ≤ length (F e)) l → k ≤ length (joined F l)
 unfolding Each joined
-first-many k F [] some p = absurd (omega arith)
-first-many k F (e ∷ l) some p = omega (arith, p.0, length-append (F e) (joined F l))
+first_many k F [] some p = absurd (omega arith)
+first_many k F (e ∷ l) some p = omega (arith, p.0, length-append (F e) (joined F l))
 
 -- under an entry at height h there are at least h nodes
 deep : (E : Store) (h : ℕ) (e : NodeEntry) → SoundUnder E h e → h ≤ length (nodes E h e)
@@ -28,7 +28,7 @@ deep E zero e s = omega arith
 deep E (suc h) e s =
     omega (
       arith,
-      first-many
+      first_many
           h
           (nodes E h)
           (E e.reference)
@@ -36,20 +36,20 @@ deep E (suc h) e s =
           (each_map (SoundUnder E h) (λ d. h ≤ length (nodes E h d)) (deep E h) (E e.reference) s.below),
     )
 
-pub root-small : (r : Root) (b : List ℕ) → Rooted r b → SmallRoot r
-unfolding SmallRoot treeNodes nodesAt
-root-small Root.Empty b rt = tt
-root-small (Root.Top g n) b rt =
-    let t = root-node g n b rt in
+pub root_small : (r : Root) (b : List ℕ) → Rooted r b → SmallRoot r
+unfolding SmallRoot tree_nodes nodes_at
+root_small Root.Empty b rt = tt
+root_small (Root.Top g n) b rt =
+    let t = root_node g n b rt in
     let E : Store = entries b in
     let many : g ≤ length (joined (nodes E g) (E n)) =
-    first-many g (nodes E g) (E n) t.one (each_map (SoundUnder E g) (λ d. g ≤ length (nodes E g d)) (deep E g) (E n) t.below) in
+    first_many g (nodes E g) (E n) t.one (each_map (SoundUnder E g) (λ d. g ≤ length (nodes E g d)) (deep E g) (E n) t.below) in
     (omega (arith, rt.all), omega (arith, t.id))
 
 -- so the tree that is left can be stored
 module _ (r s : Root) (e : NodeEntry) (b b₁ : List ℕ) (up : TakenFrom r e s b b₁) where
-  pub remove-len : length b₁ ≡ tableBytes
-  remove-len = up.rooted.len
+  pub remove_len : length b₁ ≡ table_bytes
+  remove_len = up.rooted.len
 
-  pub remove-small : SmallRoot s
-  remove-small = root-small s b₁ up.rooted
+  pub remove_small : SmallRoot s
+  remove_small = root_small s b₁ up.rooted

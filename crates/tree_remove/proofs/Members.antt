@@ -11,13 +11,13 @@ use Rattle.tree_rules.proofs.Inside.{inside}
 use Rattle.tree_rules.proofs.Members.{each_member}
 
 -- an entry that stands in a list is not absent from it
-pub never-absent : (l : List NodeEntry) (e : NodeEntry) → Memᴰ e l → Each (λ p. p ≡ e → ⊥) l → ⊥
-never-absent l e m p = each_member (λ x. x ≡ e → ⊥) l e p m refl
+pub never_absent : (l : List NodeEntry) (e : NodeEntry) → Memᴰ e l → Each (λ p. p ≡ e → ⊥) l → ⊥
+never_absent l e m p = each_member (λ x. x ≡ e → ⊥) l e p m refl
 
 -- what holds of each leaf under e, and under each of l, holds of each under both
-pub each-cons : (P : NodeEntry → Type 0) (F : NodeEntry → List NodeEntry) (e : NodeEntry) (l : List NodeEntry) → Each P (F e) → Each P (joined F l) → Each P (joined F (e ∷ l))
+pub each_cons : (P : NodeEntry → Type 0) (F : NodeEntry → List NodeEntry) (e : NodeEntry) (l : List NodeEntry) → Each P (F e) → Each P (joined F l) → Each P (joined F (e ∷ l))
 unfolding joined
-each-cons P F e l p q = each_append P (F e) (joined F l) p q
+each_cons P F e l p q = each_append P (F e) (joined F l) p q
 
 -- e is not under f, where f's box does not hold e's
 pub skipped : (E : Store) (h : ℕ) (f e : NodeEntry) → SoundUnder E h f → (InBox e f → ⊥) → Each (λ p. p ≡ e → ⊥) (leaves E h f)

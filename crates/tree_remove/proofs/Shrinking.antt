@@ -5,25 +5,25 @@ use mathlib.Core.List.{List, [], ◌∷◌}
 use Prim.Native.Nat.{ℕ, suc, ◌+◌, ◌-◌, ◌≤◌, ◌<◌}
 use native.Mathlib.Omega.{arith}
 use lib.ListN.{length, get_or}
-use Rattle.words.proofs.Frame.{only-refl}
+use Rattle.words.proofs.Frame.{only_refl}
 use Rattle.tree_node.specs.declared.NodeEntry.{NodeEntry}
 use Rattle.tree_node.specs.declared.Root.{Root}
-use Rattle.tree_node.specs.Node.{entries, noEntry}
+use Rattle.tree_node.specs.Node.{entries, no_entry}
 use Rattle.tree_node.specs.Free.{Given}
 use Rattle.tree_node.specs.Tally.{total}
 use Rattle.tree_node.proofs.Reading.{eight}
-use Rattle.tree_node.proofs.Storing.{nodes-kept}
-use Rattle.tree_node.proofs.FreeStack.{low-in-tree}
+use Rattle.tree_node.proofs.Storing.{nodes_kept}
+use Rattle.tree_node.proofs.FreeStack.{low_in_tree}
 use Rattle.tree_rules.specs.Tree.{Store, joined, leaves, nodes, Each, Child, SoundUnder}
-use Rattle.tree_rules.specs.Rooted.{treeLeaves, treeNodes, RootSound}
+use Rattle.tree_rules.specs.Rooted.{tree_leaves, tree_nodes, RootSound}
 use Rattle.tree_rules.specs.Change.{Ready, Became}
-use Rattle.tree_rules.proofs.Totals.{total-cons, leaves_at, nodes-at, leaves-under, nodes-under}
-use Rattle.tree_rules.proofs.Outside.{same-leaves, same_nodes, same-sound}
-use Rattle.tree_repair.proofs.Joining.{no-entries}
+use Rattle.tree_rules.proofs.Totals.{total_cons, leaves_at_lem, nodes_at_lem, leaves_under, nodes_under}
+use Rattle.tree_rules.proofs.Outside.{same_leaves, same_nodes, same_sound}
+use Rattle.tree_repair.proofs.Joining.{no_entries}
 
-single : (l : List NodeEntry) (f : NodeEntry) → length l ≡ 1 → f ≡ get_or l 0 noEntry → l ≡ f ∷ []
+single : (l : List NodeEntry) (f : NodeEntry) → length l ≡ 1 → f ≡ get_or l 0 no_entry → l ≡ f ∷ []
 single [] f p q = absurd (omega arith)
-single (e ∷ l) f p q = rw (q, no-entries l (omega arith))
+single (e ∷ l) f p q = rw (q, no_entries l (omega arith))
 
 module _ (g n : ℕ) (b : List ℕ) (rd : Ready g n b) where
   -- it stays the root
@@ -34,25 +34,25 @@ module _ (g n : ℕ) (b : List ℕ) (rd : Ready g n b) where
         top = record { id = rd.id; two = two; one = one; most = eight b n; below = rd.sound };
         leaf = λ w. refl;
         ids = λ w. refl;
-        only = only-refl;
+        only = only_refl;
       }
 
-  pub shrink-leaf : (m : ℕ) → m ≡ length (entries b n) → g ≡ 0 → 0 < m → Became (Root.Top g n) (Root.Top g n) b b
-  shrink-leaf m q z one = stays (λ nz. absurd (nz z)) (omega arith)
+  pub shrink_leaf : (m : ℕ) → m ≡ length (entries b n) → g ≡ 0 → 0 < m → Became (Root.Top g n) (Root.Top g n) b b
+  shrink_leaf m q z one = stays (λ nz. absurd (nz z)) (omega arith)
 
-  pub shrink-same : (m : ℕ) → m ≡ length (entries b n) → (g ≡ 0 → ⊥) → 1 < m → Became (Root.Top g n) (Root.Top g n) b b
-  shrink-same m q nz two = stays (λ z. omega arith) (omega arith)
+  pub shrink_same : (m : ℕ) → m ≡ length (entries b n) → (g ≡ 0 → ⊥) → 1 < m → Became (Root.Top g n) (Root.Top g n) b b
+  shrink_same m q nz two = stays (λ z. omega arith) (omega arith)
 
   -- an empty leaf is free
-  pub shrink-none : (m : ℕ) (b₁ : List ℕ) → m ≡ length (entries b n) → g ≡ 0 → m ≤ 0 → Given n b b₁ → Became (Root.Top g n) Root.Empty b b₁
-  unfolding RootSound treeLeaves treeNodes joined total
-  shrink-none m b₁ q z empty gv =
-      let here : entries b n ≡ [] = no-entries (entries b n) (omega arith) in
+  pub shrink_none : (m : ℕ) (b₁ : List ℕ) → m ≡ length (entries b n) → g ≡ 0 → m ≤ 0 → Given n b b₁ → Became (Root.Top g n) Root.Empty b b₁
+  unfolding RootSound tree_leaves tree_nodes joined total
+  shrink_none m b₁ q z empty gv =
+      let here : entries b n ≡ [] = no_entries (entries b n) (omega arith) in
       record {
         top = tt;
-        leaf = λ w. omega (arith, leaves_at (entries b) g n [] here w);
-        ids = λ w. omega (arith, nodes-at (entries b) g n [] here w, ap (total w) gv.more);
-        only = low-in-tree gv.only;
+        leaf = λ w. omega (arith, leaves_at_lem (entries b) g n [] here w);
+        ids = λ w. omega (arith, nodes_at_lem (entries b) g n [] here w, ap (total w) gv.more);
+        only = low_in_tree gv.only;
       }
 
   -- its one child is the root
@@ -75,45 +75,45 @@ module _ (g n : ℕ) (b : List ℕ) (rd : Ready g n b) where
           below = child.below;
         }
 
-    leaf-totals : (w : NodeEntry → ℕ) → total w (treeLeaves E (Root.Top k f.reference)) ≡ total w (treeLeaves E (Root.Top g n))
-    unfolding treeLeaves joined total
-    leaf-totals w =
+    leaf_totals : (w : NodeEntry → ℕ) → total w (tree_leaves E (Root.Top k f.reference)) ≡ total w (tree_leaves E (Root.Top g n))
+    unfolding tree_leaves joined total
+    leaf_totals w =
         rw (← up)
         (omega (
           arith,
-          leaves_at E (suc k) n (f ∷ []) here w,
-          total-cons w (leaves E (suc k)) f [],
-          ap (total w) (leaves-under E k f),
+          leaves_at_lem E (suc k) n (f ∷ []) here w,
+          total_cons w (leaves E (suc k)) f [],
+          ap (total w) (leaves_under E k f),
         ))
 
-    node-totals : (w : ℕ → ℕ) → w n + total w (treeNodes E (Root.Top k f.reference)) ≡ total w (treeNodes E (Root.Top g n))
-    unfolding treeNodes joined total
-    node-totals w =
+    node_totals : (w : ℕ → ℕ) → w n + total w (tree_nodes E (Root.Top k f.reference)) ≡ total w (tree_nodes E (Root.Top g n))
+    unfolding tree_nodes joined total
+    node_totals w =
         rw (← up)
         (omega (
           arith,
-          nodes-at E (suc k) n (f ∷ []) here w,
-          total-cons w (nodes E (suc k)) f [],
-          ap (total w) (nodes-under E k f),
+          nodes_at_lem E (suc k) n (f ∷ []) here w,
+          total_cons w (nodes E (suc k)) f [],
+          ap (total w) (nodes_under E k f),
         ))
 
     lowered : (b₁ : List ℕ) → Given n b b₁ → Became (Root.Top g n) (Root.Top k f.reference) b b₁
     unfolding total
     lowered b₁ gv =
-        let kept : (i : ℕ) → entries b₁ i ≡ E i = nodes-kept gv.only in
+        let kept : (i : ℕ) → entries b₁ i ≡ E i = nodes_kept gv.only in
         let r : Root = Root.Top k f.reference in
         record {
-          top = same-sound E (entries b₁) kept r top;
-          leaf = λ w. ap (total w) (same-leaves E (entries b₁) kept r) ∙ leaf-totals w;
-          ids = λ w. omega (arith, ap (total w) (same_nodes E (entries b₁) kept r), node-totals w, ap (total w) gv.more);
-          only = low-in-tree gv.only;
+          top = same_sound E (entries b₁) kept r top;
+          leaf = λ w. ap (total w) (same_leaves E (entries b₁) kept r) ∙ leaf_totals w;
+          ids = λ w. omega (arith, ap (total w) (same_nodes E (entries b₁) kept r), node_totals w, ap (total w) gv.more);
+          only = low_in_tree gv.only;
         }
 
-  pub shrink-child : (m : ℕ) (f : NodeEntry) (b₁ : List ℕ) → m ≡ length (entries b n) → ((g ≡ 0 → ⊥) → 1 ≤ length (entries b n)) → (g ≡ 0 → ⊥) → m ≤ 1 → f ≡ get_or (entries b n) 0 noEntry → Given n b b₁
+  pub shrink_child : (m : ℕ) (f : NodeEntry) (b₁ : List ℕ) → m ≡ length (entries b n) → ((g ≡ 0 → ⊥) → 1 ≤ length (entries b n)) → (g ≡ 0 → ⊥) → m ≤ 1 → f ≡ get_or (entries b n) 0 no_entry → Given n b b₁
       → Became (Root.Top g n) (Root.Top (g - 1) f.reference) b b₁
-  shrink-child m f b₁ q some nz le qf gv =
+  shrink_child m f b₁ q some nz le qf gv =
       let one : 1 ≤ length (entries b n) = some nz in
       lowered (g - 1) f (single (entries b n) f (omega arith) qf) (omega arith) b₁ gv
 
-  pub shrink-some : ((g ≡ 0 → ⊥) → 1 ≤ length (entries b n)) → (g ≡ 0 → ⊥) → 0 < length (entries b n)
-  shrink-some some nz = some nz
+  pub shrink_some : ((g ≡ 0 → ⊥) → 1 ≤ length (entries b n)) → (g ≡ 0 → ⊥) → 0 < length (entries b n)
+  shrink_some some nz = some nz

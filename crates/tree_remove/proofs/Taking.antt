@@ -9,15 +9,15 @@ use lib.ListN.{length, get_or, drop, drop_of_length-le}
 use lib.Seq.{drop-cons}
 use Rattle.tree_node.specs.declared.NodeEntry.{NodeEntry}
 use Rattle.tree_node.specs.Boxes.{InBox}
-use Rattle.tree_node.specs.Node.{entries, noEntry, swapOut, Wrote}
+use Rattle.tree_node.specs.Node.{entries, no_entry, swap_out, Wrote}
 use Rattle.tree_rules.specs.Tree.{joined, leaves, Each, SoundUnder}
 use Rattle.tree_rules.proofs.Every.{each_at}
 use Rattle.tree_repair.specs.Repair.{Loose, Repaired}
 use Rattle.tree_remove.specs.declared.Removal.{Removal}
 use Rattle.tree_remove.specs.Take.{Passed, First, Prunable, Pruned, Sought}
-use Rattle.tree_remove.proofs.Members.{each-cons, skipped}
-use Rattle.tree_remove.proofs.Renewing.{parted-loose, renewed}
-use Rattle.tree_remove.proofs.Cutting.{leaf-cut, child-open, parent-same, cut-parted, inner_cut}
+use Rattle.tree_remove.proofs.Members.{each_cons, skipped}
+use Rattle.tree_remove.proofs.Renewing.{parted_loose, renewed}
+use Rattle.tree_remove.proofs.Cutting.{leaf_cut, child_open, parent_same, cut_parted, inner_cut}
 
 -- what an outcome says
 module _ (r : Removal) (h n : ℕ) (e : NodeEntry) (l : List NodeEntry) (b b₁ : List ℕ) (s : Sought r h n e l b b₁) where
@@ -30,52 +30,52 @@ module _ (r : Removal) (h n : ℕ) (e : NodeEntry) (l : List NodeEntry) (b b₁ 
   absent q = let x : Sought Removal.Absent h n e l b b₁ = rw q at s in x
 
   -- nothing has changed, so the search can go on
-  pub next-open : r ≡ Removal.Absent → Prunable h n b → Prunable h n b₁
-  next-open q op = rw (absent q).0 op
+  pub next_open : r ≡ Removal.Absent → Prunable h n b → Prunable h n b₁
+  next_open q op = rw (absent q).0 op
 
-  pub next-in : (k m : ℕ) → r ≡ Removal.Absent → m ≡ length (entries b n) → k < m → k + 1 ≤ length (entries b₁ n)
-  next-in k m q qm km = rw (absent q).0 (omega arith)
+  pub next_in : (k m : ℕ) → r ≡ Removal.Absent → m ≡ length (entries b n) → k < m → k + 1 ≤ length (entries b₁ n)
+  next_in k m q qm km = rw (absent q).0 (omega arith)
 
 -- the returns of take_child
-module _ (h n k : ℕ) (f e : NodeEntry) (b : List ℕ) (op : Prunable h n b) (nz : h ≡ 0 → ⊥) (lt : k < length (entries b n)) (qf : f ≡ get_or (entries b n) k noEntry) where
+module _ (h n k : ℕ) (f e : NodeEntry) (b : List ℕ) (op : Prunable h n b) (nz : h ≡ 0 → ⊥) (lt : k < length (entries b n)) (qf : f ≡ get_or (entries b n) k no_entry) where
   up : suc (h - 1) ≡ h
   up = omega arith
 
   inner : Prunable (suc (h - 1)) n b
   inner = rw up op
 
-  pub child-down : Prunable (h - 1) f.reference b
-  child-down = child-open (h - 1) n k f b inner lt qf
+  pub child_down : Prunable (h - 1) f.reference b
+  child_down = child_open (h - 1) n k f b inner lt qf
 
-  pub child-none : (r : Removal) (b₁ : List ℕ) → r ≡ Removal.Absent → Sought r (h - 1) f.reference e (drop 0 (entries b f.reference)) b b₁
+  pub child_none : (r : Removal) (b₁ : List ℕ) → r ≡ Removal.Absent → Sought r (h - 1) f.reference e (drop 0 (entries b f.reference)) b b₁
       → Sought Removal.Absent h n e (f ∷ []) b b₁
   unfolding Sought joined leaves Each
-  child-none r b₁ q s =
+  child_none r b₁ q s =
       let x = absent r (h - 1) f.reference e (drop 0 (entries b f.reference)) b b₁ s q in
-      (x.0, rw (← up) (each-cons (λ p. p ≡ e → ⊥) (leaves (entries b) (suc (h - 1))) f [] x.1 tt))
+      (x.0, rw (← up) (each_cons (λ p. p ≡ e → ⊥) (leaves (entries b) (suc (h - 1))) f [] x.1 tt))
 
   module _ (r : Removal) (l : List NodeEntry) (b₁ : List ℕ) (q : r ≡ Removal.Gone) (s : Sought r (h - 1) f.reference e l b b₁) where
     cut : Pruned (h - 1) f.reference e b b₁
     cut = gone r (h - 1) f.reference e l b b₁ s q
 
     same : entries b₁ n ≡ entries b n
-    same = parent-same (h - 1) n k f b inner lt qf e b₁ cut
+    same = parent_same (h - 1) n k f b inner lt qf e b₁ cut
 
-    pub child-loose : Loose n f.reference (swapOut (entries b₁ n) k) b₁
-    child-loose =
+    pub child_loose : Loose n f.reference (swap_out (entries b₁ n) k) b₁
+    child_loose =
         rw same
-        (parted-loose (h - 1) n f.reference (swapOut (entries b n) k) b₁ (cut-parted (h - 1) n k f b inner lt qf e b₁ cut))
+        (parted_loose (h - 1) n f.reference (swap_out (entries b n) k) b₁ (cut_parted (h - 1) n k f b inner lt qf e b₁ cut))
 
-    pub child-in : k < length (entries b₁ n)
-    child-in = rw same lt
+    pub child_in : k < length (entries b₁ n)
+    child_in = rw same lt
 
-    pub child-two : 2 ≤ length (entries b₁ n)
-    child-two = rw same (op.least nz)
+    pub child_two : 2 ≤ length (entries b₁ n)
+    child_two = rw same (op.least nz)
 
-    pub child-gone : (b₂ : List ℕ) → Repaired n f.reference (swapOut (entries b₁ n) k) b₁ b₂ → Sought Removal.Gone h n e (f ∷ []) b b₂
+    pub child_gone : (b₂ : List ℕ) → Repaired n f.reference (swap_out (entries b₁ n) k) b₁ b₂ → Sought Removal.Gone h n e (f ∷ []) b b₂
     unfolding Sought
-    child-gone b₂ rp =
-        let L : List NodeEntry = swapOut (entries b n) k in
+    child_gone b₂ rp =
+        let L : List NodeEntry = swap_out (entries b n) k in
         rw (← up)
         (inner_cut
         (h - 1)
@@ -97,17 +97,17 @@ module _ (h n k : ℕ) (f e : NodeEntry) (b : List ℕ) (op : Prunable h n b) (n
         L
         b₁
         b₂
-        (cut-parted (h - 1) n k f b inner lt qf e b₁ cut)
-        (subst (λ (x : List NodeEntry). Repaired n f.reference (swapOut x k) b₁ b₂) same rp)))
+        (cut_parted (h - 1) n k f b inner lt qf e b₁ cut)
+        (subst (λ (x : List NodeEntry). Repaired n f.reference (swap_out x k) b₁ b₂) same rp)))
 
 -- e is not under entry k of node n: it is under one of the entries past k, or nowhere
-onward : (h n k : ℕ) (e : NodeEntry) (b b₂ : List ℕ) (r : Removal) → k < length (entries b n) → Each (λ p. p ≡ e → ⊥) (leaves (entries b) h (get_or (entries b n) k noEntry))
+onward : (h n k : ℕ) (e : NodeEntry) (b b₂ : List ℕ) (r : Removal) → k < length (entries b n) → Each (λ p. p ≡ e → ⊥) (leaves (entries b) h (get_or (entries b n) k no_entry))
     → Sought r h n e (drop (k + 1) (entries b n)) b b₂ → Sought r h n e (drop k (entries b n)) b b₂
 unfolding Sought
 onward h n k e b b₂ Removal.Absent lt z s = (
   s.0,
-  rw (drop-cons (entries b n) k noEntry lt, ← add-one k)
-      (each-cons (λ p. p ≡ e → ⊥) (leaves (entries b) h) (get_or (entries b n) k noEntry) (drop (k + 1) (entries b n)) z s.1),
+  rw (drop-cons (entries b n) k no_entry lt, ← add-one k)
+      (each_cons (λ p. p ≡ e → ⊥) (leaves (entries b) h) (get_or (entries b n) k no_entry) (drop (k + 1) (entries b n)) z s.1),
 )
 onward h n k e b b₂ Removal.Gone lt z s = s
 
@@ -119,7 +119,7 @@ ended h n i m e b q le = let z : length (entries b n) ≤ i = omega arith in (re
 -- e is under none of the entries from k up to i
 module _ (h n i : ℕ) (e : NodeEntry) (b b₂ : List ℕ) (r : Removal) where
   past : (d k : ℕ) → k + d ≡ i → i ≤ length (entries b n)
-      → ((j : ℕ) → k ≤ j → j < i → Each (λ p. p ≡ e → ⊥) (leaves (entries b) h (get_or (entries b n) j noEntry)))
+      → ((j : ℕ) → k ≤ j → j < i → Each (λ p. p ≡ e → ⊥) (leaves (entries b) h (get_or (entries b n) j no_entry)))
       → Sought r h n e (drop i (entries b n)) b b₂ → Sought r h n e (drop k (entries b n)) b b₂
   past zero k q le z s = let x : i ≡ k = omega arith in subst (λ (y : ℕ). Sought r h n e (drop y (entries b n)) b b₂) x s
   past (suc d) k q le z s =
@@ -136,26 +136,26 @@ module _ (h n i : ℕ) (e : NodeEntry) (b b₂ : List ℕ) (r : Removal) where
       (past d (k + 1) (omega arith) le (λ j lo hi. z j (omega arith) hi) s)
 
   -- none of their boxes holds e's
-  past-boxes : (k : ℕ) → Prunable h n b → Passed (λ f. InBox e f) (entries b n) k i → Sought r h n e (drop i (entries b n)) b b₂ → Sought r h n e (drop k (entries b n)) b b₂
-  past-boxes k op s =
+  past_boxes : (k : ℕ) → Prunable h n b → Passed (λ f. InBox e f) (entries b n) k i → Sought r h n e (drop i (entries b n)) b b₂ → Sought r h n e (drop k (entries b n)) b b₂
+  past_boxes k op s =
       past
       (i - k)
       k
       (omega (arith, s.least))
       s.most
-      (λ j lo hi. skipped (entries b) h (get_or (entries b n) j noEntry) e
-      (each_at (SoundUnder (entries b) h) (entries b n) j noEntry op.ready.sound (omega (arith, s.most)))
+      (λ j lo hi. skipped (entries b) h (get_or (entries b n) j no_entry) e
+      (each_at (SoundUnder (entries b) h) (entries b n) j no_entry op.ready.sound (omega (arith, s.most)))
       (s.none j lo hi))
 
 -- the returns of take_from_leaf
 module _ (n k i m : ℕ) (e : NodeEntry) (b : List ℕ) (op : Prunable 0 n b) (s : First (λ f. f ≡ e) (entries b n) k i) (qm : m ≡ length (entries b n)) where
-  pub leaf-gone : (b₁ : List ℕ) → i < m → Wrote n (swapOut (entries b n) i) b b₁ → Sought Removal.Gone 0 n e (drop k (entries b n)) b b₁
+  pub leaf_gone : (b₁ : List ℕ) → i < m → Wrote n (swap_out (entries b n) i) b b₁ → Sought Removal.Gone 0 n e (drop k (entries b n)) b b₁
   unfolding Sought
-  leaf-gone b₁ lt w = let z : i < length (entries b n) = omega arith in leaf-cut n i (get_or (entries b n) i noEntry) e b b₁ op.ready z refl (s.here z) w
+  leaf_gone b₁ lt w = let z : i < length (entries b n) = omega arith in leaf_cut n i (get_or (entries b n) i no_entry) e b b₁ op.ready z refl (s.here z) w
 
-  pub leaf-none : m ≤ i → Sought Removal.Absent 0 n e (drop k (entries b n)) b b
+  pub leaf_none : m ≤ i → Sought Removal.Absent 0 n e (drop k (entries b n)) b b
   unfolding leaves Each
-  leaf-none le =
+  leaf_none le =
       past
       0
       n
@@ -172,25 +172,25 @@ module _ (n k i m : ℕ) (e : NodeEntry) (b : List ℕ) (op : Prunable 0 n b) (s
       (ended 0 n i m e b qm le)
 
 -- the returns of take, at a leaf
-pub leaf-open : (h n : ℕ) (b : List ℕ) → h ≡ 0 → Prunable h n b → Prunable 0 n b
-leaf-open h n b z op = rw z at op
+pub leaf_open : (h n : ℕ) (b : List ℕ) → h ≡ 0 → Prunable h n b → Prunable 0 n b
+leaf_open h n b z op = rw z at op
 
-pub leaf-told : (h n : ℕ) (e : NodeEntry) (l : List NodeEntry) (b b₁ : List ℕ) (r : Removal) → h ≡ 0 → Sought r 0 n e l b b₁ → Sought r h n e l b b₁
-leaf-told h n e l b b₁ r z s = rw z s
+pub leaf_told : (h n : ℕ) (e : NodeEntry) (l : List NodeEntry) (b b₁ : List ℕ) (r : Removal) → h ≡ 0 → Sought r 0 n e l b b₁ → Sought r h n e l b b₁
+leaf_told h n e l b b₁ r z s = rw z s
 
 -- the returns of take above the leaves, where i is the next of node n's m entries whose box holds e's
 module _ (h n k i m : ℕ) (e : NodeEntry) (b : List ℕ) (op : Prunable h n b) (s : First (λ f. InBox e f) (entries b n) k i) (qm : m ≡ length (entries b n)) where
   pub take_none : m ≤ i → Sought Removal.Absent h n e (drop k (entries b n)) b b
-  take_none le = past-boxes h n i e b b Removal.Absent k op s.passed (ended h n i m e b qm le)
+  take_none le = past_boxes h n i e b b Removal.Absent k op s.passed (ended h n i m e b qm le)
 
-  module _ (f : NodeEntry) (qf : f ≡ get_or (entries b n) i noEntry) (lt : i < m) (r : Removal) (b₁ : List ℕ) (q : r ≡ Removal.Absent) (t : Sought r h n e (f ∷ []) b b₁) where
-    none : Each (λ p. p ≡ e → ⊥) (leaves (entries b) h (get_or (entries b n) i noEntry))
+  module _ (f : NodeEntry) (qf : f ≡ get_or (entries b n) i no_entry) (lt : i < m) (r : Removal) (b₁ : List ℕ) (q : r ≡ Removal.Absent) (t : Sought r h n e (f ∷ []) b b₁) where
+    none : Each (λ p. p ≡ e → ⊥) (leaves (entries b) h (get_or (entries b n) i no_entry))
     unfolding joined
     none = rw (← qf) (rw append-nil at (absent r h n e (f ∷ []) b b₁ t q).1)
 
     pub take_on : (r₂ : Removal) (b₂ : List ℕ) → Sought r₂ h n e (drop (i + 1) (entries b₁ n)) b₁ b₂ → Sought r₂ h n e (drop k (entries b n)) b b₂
     take_on r₂ b₂ t₂ =
-        past-boxes
+        past_boxes
         h
         n
         i
@@ -203,6 +203,6 @@ module _ (h n k i m : ℕ) (e : NodeEntry) (b : List ℕ) (op : Prunable h n b) 
         s.passed
         (onward h n i e b b₂ r₂ (omega arith) none (rw (absent r h n e (f ∷ []) b b₁ t q).0 at t₂))
 
-pub take-hit : (h n k : ℕ) (f e : NodeEntry) (r : Removal) (b b₁ : List ℕ) → r ≡ Removal.Gone → Sought r h n e (f ∷ []) b b₁ → Sought Removal.Gone h n e (drop k (entries b n)) b b₁
+pub take_hit : (h n k : ℕ) (f e : NodeEntry) (r : Removal) (b b₁ : List ℕ) → r ≡ Removal.Gone → Sought r h n e (f ∷ []) b b₁ → Sought Removal.Gone h n e (drop k (entries b n)) b b₁
 unfolding Sought
-take-hit h n k f e r b b₁ q s = gone r h n e (f ∷ []) b b₁ s q
+take_hit h n k f e r b b₁ q s = gone r h n e (f ∷ []) b b₁ s q

@@ -1,24 +1,24 @@
 -- What the removal of a leaf entry does to the whole tree.
 -- Assumes nothing.
 use Rattle.std.specs.Prelude.{◌≡◌, List, ℕ, ◌+◌}
-use Rattle.limits.specs.Limits.{tableBytes}
+use Rattle.limits.specs.Limits.{table_bytes}
 use Rattle.words.specs.Words.{Only}
 use Rattle.tree_node.specs.declared.NodeEntry.{NodeEntry}
 use Rattle.tree_node.specs.declared.Root.{Root}
-use Rattle.tree_node.specs.Layout.{treeStart, freeStart}
+use Rattle.tree_node.specs.Layout.{tree_start, free_start}
 use Rattle.tree_node.specs.Node.{entries}
-use Rattle.tree_node.specs.Header.{rootIn}
+use Rattle.tree_node.specs.Header.{root_in}
 use Rattle.tree_node.specs.Tally.{total}
-use Rattle.tree_rules.specs.Rooted.{treeLeaves, Rooted, leavesIn}
+use Rattle.tree_rules.specs.Rooted.{tree_leaves, Rooted, leaves_in}
 
 -- the tree r has become the tree r', with one leaf entry e fewer
 pub record TakenFrom (r : Root) (e : NodeEntry) (r' : Root) (b b' : List ℕ) : Type 0 where
   pub rooted : Rooted r' b'
-  pub leaf : (w : NodeEntry → ℕ) → w e + total w (treeLeaves (entries b') r') ≡ total w (treeLeaves (entries b) r)
-  pub only : Only freeStart tableBytes b b'
+  pub leaf : (w : NodeEntry → ℕ) → w e + total w (tree_leaves (entries b') r') ≡ total w (tree_leaves (entries b) r)
+  pub only : Only free_start table_bytes b b'
 
 -- the tree of the table has one leaf entry e fewer, and nothing below the tree has changed
 pub record Removed (e : NodeEntry) (b b' : List ℕ) : Type 0 where
-  pub rooted : Rooted (rootIn b') b'
-  pub leaf : (w : NodeEntry → ℕ) → w e + total w (leavesIn b') ≡ total w (leavesIn b)
-  pub only : Only treeStart tableBytes b b'
+  pub rooted : Rooted (root_in b') b'
+  pub leaf : (w : NodeEntry → ℕ) → w e + total w (leaves_in b') ≡ total w (leaves_in b)
+  pub only : Only tree_start table_bytes b b'

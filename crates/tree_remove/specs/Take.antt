@@ -1,14 +1,14 @@
 -- What looking for a leaf entry and taking it needs, and what it does.
 -- Assumes nothing.
 use Rattle.std.specs.Prelude.{◌≡◌, List, ℕ, suc, ◌+◌, ◌≤◌, ◌<◌, length, get_or}
-use Rattle.limits.specs.Limits.{maxNodes, tableBytes}
+use Rattle.limits.specs.Limits.{max_nodes, table_bytes}
 use Rattle.words.specs.Words.{Only}
 use Rattle.tree_node.specs.declared.NodeEntry.{NodeEntry}
-use Rattle.tree_node.specs.Layout.{freeStart}
-use Rattle.tree_node.specs.Node.{entries, noEntry}
+use Rattle.tree_node.specs.Layout.{free_start}
+use Rattle.tree_node.specs.Node.{entries, no_entry}
 use Rattle.tree_node.specs.Free.{free}
 use Rattle.tree_node.specs.Tally.{total, tally}
-use Rattle.tree_rules.specs.Tree.{joined, leaves, leavesAt, nodesAt, Each, SoundUnder}
+use Rattle.tree_rules.specs.Tree.{joined, leaves, leaves_at, nodes_at, Each, SoundUnder}
 use Rattle.tree_rules.specs.Change.{Ready}
 use Rattle.tree_remove.specs.declared.Removal.{Removal}
 
@@ -22,27 +22,27 @@ pub record OneIfLess (a b r : ℕ) : Type 0 where
 pub record Passed (P : NodeEntry → Type 0) (l : List NodeEntry) (k i : ℕ) : Type 0 where
   pub least : k ≤ i
   pub most : i ≤ length l
-  pub none : (j : ℕ) → k ≤ j → j < i → P (get_or l j noEntry) → ⊥
+  pub none : (j : ℕ) → k ≤ j → j < i → P (get_or l j no_entry) → ⊥
 
 -- i is the first entry of l from k on that has what P asks, or how many entries l has where there is none
 pub record First (P : NodeEntry → Type 0) (l : List NodeEntry) (k i : ℕ) : Type 0 where
   pub passed : Passed P l k i
-  pub here : i < length l → P (get_or l i noEntry)
+  pub here : i < length l → P (get_or l i no_entry)
 
 -- a leaf entry may be taken from under node n, whose entries stand at height h
 pub record Prunable (h n : ℕ) (b : List ℕ) : Type 0 where
   pub ready : Ready h n b
   pub least : (h ≡ 0 → ⊥) → 2 ≤ length (entries b n)
-  pub fits : length (nodesAt (entries b) h n) + length (free b) ≤ maxNodes
+  pub fits : length (nodes_at (entries b) h n) + length (free b) ≤ max_nodes
 
 -- one leaf entry e is gone from under node n, whose entries stand at height h; n may be left with one entry fewer
 pub record Pruned (h n : ℕ) (e : NodeEntry) (b b' : List ℕ) : Type 0 where
   pub sound : Each (SoundUnder (entries b') h) (entries b' n)
   pub least : length (entries b n) ≤ suc (length (entries b' n))
-  pub leaf : (w : NodeEntry → ℕ) → w e + total w (leavesAt (entries b') h n) ≡ total w (leavesAt (entries b) h n)
-  pub ids : (w : ℕ → ℕ) → total w (nodesAt (entries b') h n) + total w (free b') ≡ total w (nodesAt (entries b) h n) + total w (free b)
-  pub rest : (m : ℕ) → tally m (nodesAt (entries b) h n) + tally m (free b) ≡ 0 → entries b' m ≡ entries b m
-  pub only : Only freeStart tableBytes b b'
+  pub leaf : (w : NodeEntry → ℕ) → w e + total w (leaves_at (entries b') h n) ≡ total w (leaves_at (entries b) h n)
+  pub ids : (w : ℕ → ℕ) → total w (nodes_at (entries b') h n) + total w (free b') ≡ total w (nodes_at (entries b) h n) + total w (free b)
+  pub rest : (m : ℕ) → tally m (nodes_at (entries b) h n) + tally m (free b) ≡ 0 → entries b' m ≡ entries b m
+  pub only : Only free_start table_bytes b b'
 
 -- how a search for e under the entries l of node n, which stand at height h, went: none of the leaf entries there is
 -- e and nothing has changed, or e is gone from under n

@@ -5,8 +5,8 @@ pub mod root;
 pub mod take;
 
 ghost use mathlib.Core.List.{Memᴰ};
-ghost use Rattle.tree_node.specs.Header.{rootIn};
-ghost use Rattle.tree_rules.specs.Rooted.{Rooted, leavesIn};
+ghost use Rattle.tree_node.specs.Header.{root_in};
+ghost use Rattle.tree_rules.specs.Rooted.{Rooted, leaves_in};
 ghost use Rattle.tree_remove.specs.Removal.{Removed};
 
 use tree_node::{NodeEntry, header};
@@ -20,7 +20,7 @@ pub enum Removal {
 
 // Removes one leaf entry equal to e, which stands in the table's tree.
 pub fn remove(table: &mut [u8], e: NodeEntry)
-    requires { Rooted (rootIn table.old) table.old × Memᴰ e (leavesIn table.old) }
+    requires { Rooted (root_in table.old) table.old × Memᴰ e (leaves_in table.old) }
     ensures { Removed e table.old table.new }
 {
     let r = header::read_root(table);

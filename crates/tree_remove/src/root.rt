@@ -1,11 +1,11 @@
 // A leaf entry is taken from under the root, which shrinks where it has to.
 ghost use Rattle.std.specs.Prelude.{◌≡◌, ◌<◌, ◌≤◌, length};
 ghost use mathlib.Core.List.{Memᴰ};
-ghost use Rattle.limits.specs.Limits.{maxNodes};
+ghost use Rattle.limits.specs.Limits.{max_nodes};
 ghost use Rattle.tree_node.specs.Free.{free};
 ghost use Rattle.tree_node.specs.Node.{entries};
 ghost use Rattle.tree_rules.specs.Change.{Ready, Became};
-ghost use Rattle.tree_rules.specs.Rooted.{treeLeaves, Rooted};
+ghost use Rattle.tree_rules.specs.Rooted.{tree_leaves, Rooted};
 ghost use Rattle.tree_remove.specs.Removal.{TakenFrom};
 
 use crate::{Removal, take};
@@ -15,7 +15,7 @@ use tree_node::{NodeEntry, Root, free, pool};
 // is replaced by its child, and an empty leaf by the empty tree.
 fn shrink(table: &mut [u8], g: usize, n: usize) -> Root
     requires { Ready g n table.old × ((g ≡ 0 → ⊥) → 1 ≤ length (entries table.old n))
-        × (length (free table.old) < maxNodes) }
+        × (length (free table.old) < max_nodes) }
     ensures { Became (Root.Top g n) result table.old table.new }
 {
     let m = pool::count(table, n);
@@ -36,7 +36,7 @@ fn shrink(table: &mut [u8], g: usize, n: usize) -> Root
 
 // Takes the leaf entry e, which stands in it, from the tree under the root n.
 fn take_under(table: &mut [u8], g: usize, n: usize, e: NodeEntry) -> Root
-    requires { Rooted (Root.Top g n) table.old × Memᴰ e (treeLeaves (entries table.old) (Root.Top g n)) }
+    requires { Rooted (Root.Top g n) table.old × Memᴰ e (tree_leaves (entries table.old) (Root.Top g n)) }
     ensures { TakenFrom (Root.Top g n) e result table.old table.new }
 {
     let o = take::take(table, g, n, 0, e);
@@ -48,7 +48,7 @@ fn take_under(table: &mut [u8], g: usize, n: usize, e: NodeEntry) -> Root
 
 // Takes the leaf entry e, which stands in it, from the tree r.
 pub fn take_from(table: &mut [u8], r: Root, e: NodeEntry) -> Root
-    requires { Rooted r table.old × Memᴰ e (treeLeaves (entries table.old) r) }
+    requires { Rooted r table.old × Memᴰ e (tree_leaves (entries table.old) r) }
     ensures { TakenFrom r e result table.old table.new }
 {
     match r {

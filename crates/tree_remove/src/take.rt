@@ -2,9 +2,9 @@
 // functions that call each other. Only boxes that hold the entry's are searched. On the way up each parent repairs
 // its child's entry.
 ghost use Rattle.std.specs.Prelude.{◌≡◌, [], ◌∷◌, ◌<◌, ◌≤◌, length, get_or, drop};
-ghost use Rattle.limits.specs.Limits.{maxNodes, tableBytes};
+ghost use Rattle.limits.specs.Limits.{max_nodes, table_bytes};
 ghost use Rattle.tree_node.specs.Boxes.{InBox};
-ghost use Rattle.tree_node.specs.Node.{entries, noEntry};
+ghost use Rattle.tree_node.specs.Node.{entries, no_entry};
 ghost use Rattle.tree_node.specs.Told.{Told};
 ghost use Rattle.tree_remove.specs.Take.{OneIfLess, First, Prunable, Sought};
 
@@ -36,7 +36,7 @@ fn holds(f: NodeEntry, e: NodeEntry) -> bool
 // The first entry of node n from k on whose box holds the box of e; how many entries n has where there is none.
 // A loop: a call for each entry costs more than the test of its box.
 fn next_holding(table: &[u8], n: usize, k: usize, e: NodeEntry) -> usize
-    requires { (length table.now ≡ tableBytes) × (n < maxNodes) × (k ≤ length (entries table.now n)) }
+    requires { (length table.now ≡ table_bytes) × (n < max_nodes) × (k ≤ length (entries table.now n)) }
     ensures { First (λ f. InBox e f) (entries table.now n) k result }
 {
     let m = pool::count(table, n);
@@ -53,7 +53,7 @@ fn next_holding(table: &[u8], n: usize, k: usize, e: NodeEntry) -> usize
 
 // The first entry of node n from k on that is e; how many entries n has where there is none.
 fn next_equal(table: &[u8], n: usize, k: usize, e: NodeEntry) -> usize
-    requires { (length table.now ≡ tableBytes) × (n < maxNodes) × (k ≤ length (entries table.now n)) }
+    requires { (length table.now ≡ table_bytes) × (n < max_nodes) × (k ≤ length (entries table.now n)) }
     ensures { First (λ f. f ≡ e) (entries table.now n) k result }
 {
     let m = pool::count(table, n);
@@ -86,7 +86,7 @@ fn take_from_leaf(table: &mut [u8], n: usize, k: usize, e: NodeEntry) -> Removal
 #[cycle(take_take_child)]
 fn take_child(table: &mut [u8], h: usize, n: usize, k: usize, f: NodeEntry, e: NodeEntry) -> Removal
     requires { Prunable h n table.old × (h ≡ 0 → ⊥) × (k < length (entries table.old n))
-        × (f ≡ get_or (entries table.old n) k noEntry) }
+        × (f ≡ get_or (entries table.old n) k no_entry) }
     ensures { Sought result h n e (f ∷ []) table.old table.new }
 {
     let c = f.reference as usize;

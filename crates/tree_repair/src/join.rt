@@ -1,6 +1,6 @@
 // A node of two entries is joined with a sibling.
 ghost use Rattle.std.specs.Prelude.{◌≡◌, ◌+◌, ◌<◌, ◌≤◌, length};
-ghost use Rattle.limits.specs.Limits.{maxEntries};
+ghost use Rattle.limits.specs.Limits.{max_entries};
 ghost use Rattle.tree_node.specs.Node.{entries};
 ghost use Rattle.tree_repair.specs.Repair.{SiblingPair, Merged, Shared, Joined};
 
@@ -10,7 +10,7 @@ use tree_node::{boxes, free, pool};
 
 // Node d takes the two entries of node c, which is free then, and node n gets d's entry.
 fn merge(table: &mut [u8], n: usize, c: usize, d: usize)
-    requires { SiblingPair n c d table.old × (length (entries table.old d) + 2 ≤ maxEntries) }
+    requires { SiblingPair n c d table.old × (length (entries table.old d) + 2 ≤ max_entries) }
     ensures { Merged n c d (entries table.old n) table.old table.new }
 {
     moves::move_some(table, c, d, 2);
@@ -20,7 +20,7 @@ fn merge(table: &mut [u8], n: usize, c: usize, d: usize)
 
 // Node c takes some of the many entries of node d, and node n gets both their entries.
 fn share(table: &mut [u8], n: usize, c: usize, d: usize, many: usize)
-    requires { SiblingPair n c d table.old × (many ≡ length (entries table.old d)) × (maxEntries < many + 2) }
+    requires { SiblingPair n c d table.old × (many ≡ length (entries table.old d)) × (max_entries < many + 2) }
     ensures { Shared n c d (entries table.old n) table.old table.new }
 {
     let m = moves::quota(many, 2);

@@ -1,7 +1,7 @@
 // Which entry is nearest to a node. Only speed depends on it: any entry would do, so the contracts say no more than
 // that there is one.
 ghost use Rattle.std.specs.Prelude.{◌≡◌, ◌<◌, ◌≤◌, length};
-ghost use Rattle.limits.specs.Limits.{maxNodes, tableBytes};
+ghost use Rattle.limits.specs.Limits.{max_nodes, table_bytes};
 ghost use Rattle.tree_node.specs.Node.{entries};
 
 use tree_node::{NodeEntry, boxes, pool};
@@ -28,7 +28,7 @@ fn half_perimeter(e: NodeEntry) -> u32
 
 // The entry of node n whose box and node c's have the smallest box around both, by its half-perimeter.
 pub fn nearest(table: &[u8], n: usize, c: usize) -> usize
-    requires { (length table.now ≡ tableBytes) × (n < maxNodes) × (c < maxNodes)
+    requires { (length table.now ≡ table_bytes) × (n < max_nodes) × (c < max_nodes)
         × (0 < length (entries table.now n)) }
     ensures { result < length (entries table.now n) }
 {

@@ -1,7 +1,7 @@
 // A node gets the entry of a child back that has lost an entry.
 ghost use Rattle.std.specs.Prelude.{◌≡◌, ◌<◌, ◌≤◌, length};
-ghost use Rattle.limits.specs.Limits.{maxEntries};
-ghost use Rattle.tree_node.specs.Node.{entries, swapOut};
+ghost use Rattle.limits.specs.Limits.{max_entries};
+ghost use Rattle.tree_node.specs.Node.{entries, swap_out};
 ghost use Rattle.tree_repair.specs.Repair.{Loose, Repaired};
 
 use crate::{join, near};
@@ -12,7 +12,7 @@ use tree_node::{NodeEntry, boxes, pool};
 // only.
 fn join_nearest(table: &mut [u8], n: usize, c: usize)
     requires { Loose n c (entries table.old n) table.old × (length (entries table.old c) ≡ 2)
-        × (0 < length (entries table.old n)) × (length (entries table.old n) < maxEntries) }
+        × (0 < length (entries table.old n)) × (length (entries table.old n) < max_entries) }
     ensures { Repaired n c (entries table.old n) table.old table.new }
 {
     let j = near::nearest(table, n, c);
@@ -25,7 +25,7 @@ fn join_nearest(table: &mut [u8], n: usize, c: usize)
 // where the child has too few entries.
 fn restore(table: &mut [u8], n: usize, f: NodeEntry)
     requires { Loose n f.reference (entries table.old n) table.old
-        × (0 < length (entries table.old n)) × (length (entries table.old n) < maxEntries) }
+        × (0 < length (entries table.old n)) × (length (entries table.old n) < max_entries) }
     ensures { Repaired n f.reference (entries table.old n) table.old
         table.new }
 {
@@ -40,9 +40,9 @@ fn restore(table: &mut [u8], n: usize, f: NodeEntry)
 
 // Repairs entry k of node n, f, whose child has lost an entry.
 pub fn repair(table: &mut [u8], n: usize, k: usize, f: NodeEntry)
-    requires { Loose n f.reference (swapOut (entries table.old n) k) table.old
+    requires { Loose n f.reference (swap_out (entries table.old n) k) table.old
         × (k < length (entries table.old n)) × (2 ≤ length (entries table.old n)) }
-    ensures { Repaired n f.reference (swapOut (entries table.old n) k) table.old
+    ensures { Repaired n f.reference (swap_out (entries table.old n) k) table.old
         table.new }
 {
     pool::drop_entry(table, n, k);

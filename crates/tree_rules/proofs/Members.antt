@@ -10,8 +10,8 @@ use native.Mathlib.Omega.{arith}
 use lib.ListN.{length}
 use Rattle.tree_node.specs.declared.NodeEntry.{NodeEntry}
 use Rattle.tree_node.specs.Tally.{total}
-use Rattle.tree_node.proofs.Counting.{le-or-lt, total-one}
-use Rattle.tree_node.proofs.Telling.{entry-eq}
+use Rattle.tree_node.proofs.Counting.{le_or_lt, total_one}
+use Rattle.tree_node.proofs.Telling.{entry_eq}
 use Rattle.tree_rules.specs.Tree.{Each}
 
 -- what holds of each of a list holds of what stands in it, and the other way round
@@ -33,9 +33,9 @@ each_of P (e ∷ l) f = (f e (Memᴰ.head refl), each_of P l (λ d m. f d (Mem�
 unfoldable apart : ℕ → ℕ → ℕ
 apart a b = (a - b) + (b - a)
 
-apart-zero : (a b : ℕ) → apart a b ≡ 0 → a ≡ b
+apart_zero : (a b : ℕ) → apart a b ≡ 0 → a ≡ b
 unfolding apart
-apart-zero a b h = omega arith
+apart_zero a b h = omega arith
 
 unfoldable differ : NodeEntry → NodeEntry → ℕ
 differ x e =
@@ -43,48 +43,48 @@ differ x e =
     + apart x.north e.north
     + apart x.opens e.opens
 
-differ-zero : (x e : NodeEntry) → differ x e ≡ 0 → x ≡ e
+differ_zero : (x e : NodeEntry) → differ x e ≡ 0 → x ≡ e
 unfolding differ
-differ-zero x e h =
-    entry-eq x e
-    (apart-zero x.reference e.reference (omega arith))
-    (apart-zero x.west e.west (omega arith))
-    (apart-zero x.south e.south (omega arith))
-    (apart-zero x.east e.east (omega arith))
-    (apart-zero x.north e.north (omega arith))
-    (apart-zero x.opens e.opens (omega arith))
+differ_zero x e h =
+    entry_eq x e
+    (apart_zero x.reference e.reference (omega arith))
+    (apart_zero x.west e.west (omega arith))
+    (apart_zero x.south e.south (omega arith))
+    (apart_zero x.east e.east (omega arith))
+    (apart_zero x.north e.north (omega arith))
+    (apart_zero x.opens e.opens (omega arith))
 
-differ-itself : (x : NodeEntry) → differ x x ≡ 0
+differ_itself : (x : NodeEntry) → differ x x ≡ 0
 unfolding differ apart
-differ-itself x = omega arith
+differ_itself x = omega arith
 
 -- 1 where e is x, else 0
 abbrev counts : NodeEntry → NodeEntry → ℕ
 counts x e = 1 - differ x e
 
-total-member : (x : NodeEntry) (l : List NodeEntry) → Memᴰ x l → 0 < total (counts x) l
+total_member : (x : NodeEntry) (l : List NodeEntry) → Memᴰ x l → 0 < total (counts x) l
 unfolding total
-total-member x (e ∷ l) (Memᴰ.head q) = omega (arith, differ-itself x, ap (differ x) q)
-total-member x (e ∷ l) (Memᴰ.tail m) = omega (arith, total-member x l m)
+total_member x (e ∷ l) (Memᴰ.head q) = omega (arith, differ_itself x, ap (differ x) q)
+total_member x (e ∷ l) (Memᴰ.tail m) = omega (arith, total_member x l m)
 
-member-total : (x : NodeEntry) (l : List NodeEntry) → 0 < total (counts x) l → Memᴰ x l
+member_total : (x : NodeEntry) (l : List NodeEntry) → 0 < total (counts x) l → Memᴰ x l
 unfolding total
-member-total x [] h = absurd (omega arith)
-member-total x (e ∷ l) h =
+member_total x [] h = absurd (omega arith)
+member_total x (e ∷ l) h =
     ⊎_elim
-    (λ (z : counts x e ≤ 0). Memᴰ.tail (member-total x l (omega arith)))
-    (λ (z : 0 < counts x e). Memᴰ.head (differ-zero x e (omega arith)))
-    (le-or-lt (counts x e) 0)
+    (λ (z : counts x e ≤ 0). Memᴰ.tail (member_total x l (omega arith)))
+    (λ (z : 0 < counts x e). Memᴰ.head (differ_zero x e (omega arith)))
+    (le_or_lt (counts x e) 0)
 
 module _ (a b : List NodeEntry) (same : (w : NodeEntry → ℕ) → total w a ≡ total w b) where
   -- THE SAME MEMBERS
-  pub same-member : (x : NodeEntry) → Memᴰ x a → Memᴰ x b
-  same-member x m = member-total x b (omega (arith, same (counts x), total-member x a m))
+  pub same_member : (x : NodeEntry) → Memᴰ x a → Memᴰ x b
+  same_member x m = member_total x b (omega (arith, same (counts x), total_member x a m))
 
   -- what holds of each of the second holds of each of the first
-  pub same-each : (P : NodeEntry → Type 0) → Each P b → Each P a
-  same-each P p = each_of P a (λ e m. each_member P b e p (same-member e m))
+  pub same_each : (P : NodeEntry → Type 0) → Each P b → Each P a
+  same_each P p = each_of P a (λ e m. each_member P b e p (same_member e m))
 
   -- and they are as long
   pub same_length : length a ≡ length b
-  same_length = omega (arith, same (λ _. 1), total-one a, total-one b)
+  same_length = omega (arith, same (λ _. 1), total_one a, total_one b)

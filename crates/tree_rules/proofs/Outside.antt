@@ -8,73 +8,73 @@ use lib.ListN.{length}
 use Rattle.words.specs.Words.{Only}
 use Rattle.words.proofs.Frame.{only_wider}
 use Rattle.tree_node.specs.declared.Root.{Root}
-use Rattle.tree_node.specs.Layout.{treeStart, freeStart, poolStart}
+use Rattle.tree_node.specs.Layout.{tree_start, free_start, pool_start}
 use Rattle.tree_node.specs.Node.{entries}
 use Rattle.tree_node.specs.Free.{free}
-use Rattle.tree_node.specs.Header.{rootIn, Headed}
+use Rattle.tree_node.specs.Header.{root_in, Headed}
 use Rattle.tree_node.specs.Tally.{total}
-use Rattle.tree_node.proofs.Storing.{nodes-kept}
-use Rattle.tree_node.proofs.FreeStack.{free-headed}
-use Rattle.tree_node.proofs.Heading.{root-above}
-use Rattle.tree_rules.specs.Tree.{Store, leavesAt, nodesAt}
-use Rattle.tree_rules.specs.Rooted.{treeLeaves, treeNodes, RootNode, RootSound, Rooted, leavesIn}
-use Rattle.tree_rules.proofs.Kept.{kept_leaves, kept-nodes, kept-sound}
-use Rattle.tree_rules.proofs.Roots.{rooted-by}
+use Rattle.tree_node.proofs.Storing.{nodes_kept}
+use Rattle.tree_node.proofs.FreeStack.{free_headed}
+use Rattle.tree_node.proofs.Heading.{root_above}
+use Rattle.tree_rules.specs.Tree.{Store, leaves_at, nodes_at}
+use Rattle.tree_rules.specs.Rooted.{tree_leaves, tree_nodes, RootNode, RootSound, Rooted, leaves_in}
+use Rattle.tree_rules.proofs.Kept.{kept_leaves, kept_nodes, kept_sound}
+use Rattle.tree_rules.proofs.Roots.{rooted_by}
 
 -- two stores that give every node the same entries
 module _ (E E' : Store) (q : (m : ℕ) → E' m ≡ E m) where
-  pub same-leaves : (r : Root) → treeLeaves E' r ≡ treeLeaves E r
-  unfolding treeLeaves leavesAt
-  same-leaves Root.Empty = refl
-  same-leaves (Root.Top g n) = rw (q n) (kept_leaves E E' g (E n) (λ m z. q m))
+  pub same_leaves : (r : Root) → tree_leaves E' r ≡ tree_leaves E r
+  unfolding tree_leaves leaves_at
+  same_leaves Root.Empty = refl
+  same_leaves (Root.Top g n) = rw (q n) (kept_leaves E E' g (E n) (λ m z. q m))
 
-  pub same_nodes : (r : Root) → treeNodes E' r ≡ treeNodes E r
-  unfolding treeNodes nodesAt
+  pub same_nodes : (r : Root) → tree_nodes E' r ≡ tree_nodes E r
+  unfolding tree_nodes nodes_at
   same_nodes Root.Empty = refl
-  same_nodes (Root.Top g n) = rw (q n) (ap (λ (l : List ℕ). n ∷ l) (kept-nodes E E' g (E n) (λ m z. q m)))
+  same_nodes (Root.Top g n) = rw (q n) (ap (λ (l : List ℕ). n ∷ l) (kept_nodes E E' g (E n) (λ m z. q m)))
 
-  same-node : (g n : ℕ) → RootNode E g n → RootNode E' g n
-  same-node g n t =
+  same_node : (g n : ℕ) → RootNode E g n → RootNode E' g n
+  same_node g n t =
       record {
         id = t.id;
         two = λ z. rw (q n) (t.two z);
         one = rw (q n) t.one;
         most = rw (q n) t.most;
-        below = rw (q n) (kept-sound E E' g (E n) (λ m z. q m) t.below);
+        below = rw (q n) (kept_sound E E' g (E n) (λ m z. q m) t.below);
       }
 
-  pub same-sound : (r : Root) → RootSound E r → RootSound E' r
+  pub same_sound : (r : Root) → RootSound E r → RootSound E' r
   unfolding RootSound
-  same-sound Root.Empty t = tt
-  same-sound (Root.Top g n) t = same-node g n t
+  same_sound Root.Empty t = tt
+  same_sound (Root.Top g n) t = same_node g n t
 
-pub rooted-same : (r : Root) (b b' : List ℕ) → length b' ≡ length b → ((m : ℕ) → entries b' m ≡ entries b m) → free b' ≡ free b → Rooted r b → Rooted r b'
-rooted-same r b b' len q f rt =
-    rooted-by r r b b' rt len (same-sound (entries b) (entries b') q r rt.top)
+pub rooted_same : (r : Root) (b b' : List ℕ) → length b' ≡ length b → ((m : ℕ) → entries b' m ≡ entries b m) → free b' ≡ free b → Rooted r b → Rooted r b'
+rooted_same r b b' len q f rt =
+    rooted_by r r b b' rt len (same_sound (entries b) (entries b') q r rt.top)
     (λ w. ap₂ (λ (x y : List ℕ). total w x + total w y) (same_nodes (entries b) (entries b') q r) f)
 
 -- the root is stored in the header
 module _ (r : Root) (b b' : List ℕ) (h : Headed r b b') where
-  headed-nodes : (m : ℕ) → entries b' m ≡ entries b m
-  headed-nodes = nodes-kept (only_wider {lo' = treeStart} {hi' = poolStart} (omega arith) (omega arith) h.only)
+  headed_nodes : (m : ℕ) → entries b' m ≡ entries b m
+  headed_nodes = nodes_kept (only_wider {lo' = tree_start} {hi' = pool_start} (omega arith) (omega arith) h.only)
 
-  pub rooted-headed : Rooted r b → Rooted (rootIn b') b'
-  rooted-headed rt = rw h.root (rooted-same r b b' h.only.len headed-nodes (free-headed h.only) rt)
+  pub rooted_headed : Rooted r b → Rooted (root_in b') b'
+  rooted_headed rt = rw h.root (rooted_same r b b' h.only.len headed_nodes (free_headed h.only) rt)
 
-  pub leaves-headed : leavesIn b' ≡ treeLeaves (entries b) r
-  unfolding leavesIn
-  leaves-headed = rw h.root (same-leaves (entries b) (entries b') headed-nodes r)
+  pub leaves_headed : leaves_in b' ≡ tree_leaves (entries b) r
+  unfolding leaves_in
+  leaves_headed = rw h.root (same_leaves (entries b) (entries b') headed_nodes r)
 
 -- something below the tree is changed
-module _ {lo : ℕ} {b b' : List ℕ} (p : Only lo treeStart b b') where
-  below-nodes : (m : ℕ) → entries b' m ≡ entries b m
-  below-nodes = nodes-kept (only_wider {lo' = lo} {hi' = poolStart} (omega arith) (omega arith) p)
+module _ {lo : ℕ} {b b' : List ℕ} (p : Only lo tree_start b b') where
+  below_nodes : (m : ℕ) → entries b' m ≡ entries b m
+  below_nodes = nodes_kept (only_wider {lo' = lo} {hi' = pool_start} (omega arith) (omega arith) p)
 
-  pub rooted-below : Rooted (rootIn b) b → Rooted (rootIn b') b'
-  rooted-below rt =
-      rw (root-above p)
-      (rooted-same (rootIn b) b b' p.len below-nodes (free-headed (only_wider {lo' = lo} {hi' = freeStart} (omega arith) (omega arith) p)) rt)
+  pub rooted_below : Rooted (root_in b) b → Rooted (root_in b') b'
+  rooted_below rt =
+      rw (root_above p)
+      (rooted_same (root_in b) b b' p.len below_nodes (free_headed (only_wider {lo' = lo} {hi' = free_start} (omega arith) (omega arith) p)) rt)
 
-  pub leaves-below : leavesIn b' ≡ leavesIn b
-  unfolding leavesIn
-  leaves-below = rw (root-above p) (same-leaves (entries b) (entries b') below-nodes (rootIn b))
+  pub leaves_below : leaves_in b' ≡ leaves_in b
+  unfolding leaves_in
+  leaves_below = rw (root_above p) (same_leaves (entries b) (entries b') below_nodes (root_in b))

@@ -1,34 +1,34 @@
 -- The whole tree: its root, and its place in the table. Document 01, "The tree".
 -- Assumes nothing.
 use Rattle.std.specs.Prelude.{◌≡◌, List, [], ℕ, ◌+◌, ◌≤◌, ◌<◌, length}
-use Rattle.limits.specs.Limits.{maxEntries, maxNodes, tableBytes}
+use Rattle.limits.specs.Limits.{max_entries, max_nodes, table_bytes}
 use Rattle.tree_node.specs.declared.NodeEntry.{NodeEntry}
 use Rattle.tree_node.specs.declared.Root.{Root}
 use Rattle.tree_node.specs.Node.{entries}
 use Rattle.tree_node.specs.Free.{free}
-use Rattle.tree_node.specs.Header.{rootIn}
+use Rattle.tree_node.specs.Header.{root_in}
 use Rattle.tree_node.specs.Tally.{tally}
-use Rattle.tree_rules.specs.Tree.{Store, leavesAt, nodesAt, Each, SoundUnder}
+use Rattle.tree_rules.specs.Tree.{Store, leaves_at, nodes_at, Each, SoundUnder}
 
 -- the leaf entries of the tree, in reading order
-unfoldable pub treeLeaves : Store → Root → List NodeEntry
-treeLeaves E Root.Empty = []
-treeLeaves E (Root.Top g n) = leavesAt E g n
+unfoldable pub tree_leaves : Store → Root → List NodeEntry
+tree_leaves E Root.Empty = []
+tree_leaves E (Root.Top g n) = leaves_at E g n
 
 -- the nodes of the tree
-unfoldable pub treeNodes : Store → Root → List ℕ
-treeNodes E Root.Empty = []
-treeNodes E (Root.Top g n) = nodesAt E g n
+unfoldable pub tree_nodes : Store → Root → List ℕ
+tree_nodes E Root.Empty = []
+tree_nodes E (Root.Top g n) = nodes_at E g n
 
 -- the root node n, whose entries stand at height g, keeps the rules on roots
 pub record RootNode (E : Store) (g n : ℕ) : Type 0 where
-  pub id : n < maxNodes
+  pub id : n < max_nodes
   -- "a root that is no leaf holds at least 2"
   pub two : (g ≡ 0 → ⊥) → 2 ≤ length (E n)
   -- a tree that holds nothing has no node
   pub one : 1 ≤ length (E n)
   -- "A node holds at most 8 entries"
-  pub most : length (E n) ≤ maxEntries
+  pub most : length (E n) ≤ max_entries
   pub below : Each (SoundUnder E g) (E n)
 
 -- the root keeps the rules
@@ -38,12 +38,12 @@ RootSound E (Root.Top g n) = RootNode E g n
 
 -- the tree under r keeps its rules, and each node of the pool is once in it or once free
 pub record Rooted (r : Root) (b : List ℕ) : Type 0 where
-  pub len : length b ≡ tableBytes
+  pub len : length b ≡ table_bytes
   pub top : RootSound (entries b) r
-  pub apart : (m : ℕ) → tally m (treeNodes (entries b) r) + tally m (free b) ≤ 1
-  pub within : (m : ℕ) → 0 < tally m (treeNodes (entries b) r) + tally m (free b) → m < maxNodes
-  pub all : length (treeNodes (entries b) r) + length (free b) ≡ maxNodes
+  pub apart : (m : ℕ) → tally m (tree_nodes (entries b) r) + tally m (free b) ≤ 1
+  pub within : (m : ℕ) → 0 < tally m (tree_nodes (entries b) r) + tally m (free b) → m < max_nodes
+  pub all : length (tree_nodes (entries b) r) + length (free b) ≡ max_nodes
 
 -- the leaf entries of the tree that the table's header tells
-unfoldable pub leavesIn : List ℕ → List NodeEntry
-leavesIn b = treeLeaves (entries b) (rootIn b)
+unfoldable pub leaves_in : List ℕ → List NodeEntry
+leaves_in b = tree_leaves (entries b) (root_in b)

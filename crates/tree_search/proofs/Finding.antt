@@ -5,22 +5,22 @@ use mathlib.Core.List.{List, [], append-nil}
 use Prim.Native.Nat.{ℕ, ◌≤◌, ◌<◌}
 use native.Mathlib.Omega.{arith}
 use lib.ListN.{length}
-use Rattle.limits.specs.Limits.{maxSites}
-use Rattle.words.proofs.Frame.{only-refl}
+use Rattle.limits.specs.Limits.{max_sites}
+use Rattle.words.proofs.Frame.{only_refl}
 use Rattle.grid.specs.declared.Site.{Site}
 use Rattle.grid.specs.declared.Leg.{Leg}
 use Rattle.grid.specs.Position.{LegOnGrid}
 use Rattle.split.specs.SplitList.{Numbered, SameSites}
-use Rattle.split.specs.SplitOf.{splitOf}
-use Rattle.list_row.specs.Vertices.{rowBytes, Held, Lists, entriesIn}
-use Rattle.list_row.proofs.Listing.{lists-none, lists-is}
+use Rattle.split.specs.SplitOf.{split_of}
+use Rattle.list_row.specs.Vertices.{row_bytes, Held, Lists, entries_in}
+use Rattle.list_row.proofs.Listing.{lists_none, lists_is}
 use Rattle.tree_node.specs.declared.NodeEntry.{NodeEntry}
 use Rattle.tree_node.specs.declared.Root.{Root}
 use Rattle.tree_node.specs.Node.{entries}
-use Rattle.tree_node.specs.Header.{rootIn}
-use Rattle.tree_rules.specs.Tree.{leavesAt, Each}
-use Rattle.tree_rules.specs.Rooted.{treeLeaves, RootNode, Rooted, leavesIn}
-use Rattle.tree_rules.proofs.Roots.{root-node}
+use Rattle.tree_node.specs.Header.{root_in}
+use Rattle.tree_rules.specs.Tree.{leaves_at, Each}
+use Rattle.tree_rules.specs.Rooted.{tree_leaves, RootNode, Rooted, leaves_in}
+use Rattle.tree_rules.proofs.Roots.{root_node}
 use Rattle.tree_search.specs.Sites.{LeafPoint, sites}
 use Rattle.tree_search.specs.Searching.{under, Readable, Ahead, Searched, ListsTree}
 
@@ -28,59 +28,59 @@ held_none : (l : Leg) (t r : List ℕ) → Held l t r 0
 held_none l t r = record { inside = omega arith; few = omega arith; sites = λ i h. absurd (omega arith); convex = tt }
 
 -- the empty tree has no site
-module _ (t : List ℕ) (q : rootIn t ≡ Root.Empty) where
-  no-leaves : leavesIn t ≡ []
-  unfolding leavesIn treeLeaves
-  no-leaves = ap (treeLeaves (entries t)) q
+module _ (t : List ℕ) (q : root_in t ≡ Root.Empty) where
+  no_leaves : leaves_in t ≡ []
+  unfolding leaves_in tree_leaves
+  no_leaves = ap (tree_leaves (entries t)) q
 
-  no-sites : sites (leavesIn t) ≡ []
+  no_sites : sites (leaves_in t) ≡ []
   unfolding sites
-  no-sites = ap sites no-leaves
+  no_sites = ap sites no_leaves
 
-  pub empty-found : (l : Leg) (r : List ℕ) → ListsTree l t r r 0
-  empty-found l r =
-      record { within = omega arith; held = held_none l t r; lists = rw no-sites (lists-none l t r); only = only-refl }
+  pub empty_found : (l : Leg) (r : List ℕ) → ListsTree l t r r 0
+  empty_found l r =
+      record { within = omega arith; held = held_none l t r; lists = rw no_sites (lists_none l t r); only = only_refl }
 
 -- a tree under the node n, whose entries stand at height g
-module _ (t : List ℕ) (g n : ℕ) (rt : Rooted (rootIn t) t) (q : rootIn t ≡ Root.Top g n) where
+module _ (t : List ℕ) (g n : ℕ) (rt : Rooted (root_in t) t) (q : root_in t ≡ Root.Top g n) where
   top : RootNode (entries t) g n
-  top = root-node g n t (subst (λ (x : Root). Rooted x t) q rt)
+  top = root_node g n t (subst (λ (x : Root). Rooted x t) q rt)
 
-  pub top-readable : Readable t g n
-  top-readable = record { len = rt.len; id = top.id; sound = top.below }
+  pub top_readable : Readable t g n
+  top_readable = record { len = rt.len; id = top.id; sound = top.below }
 
-  pub top-some : 0 < length (entries t n)
-  top-some = omega (arith, top.one)
+  pub top_some : 0 < length (entries t n)
+  top_some = omega (arith, top.one)
 
-  top-leaves : leavesIn t ≡ under t g (entries t n)
-  unfolding leavesIn treeLeaves leavesAt
-  top-leaves = ap (treeLeaves (entries t)) q
+  top_leaves : leaves_in t ≡ under t g (entries t n)
+  unfolding leaves_in tree_leaves leaves_at
+  top_leaves = ap (tree_leaves (entries t)) q
 
   module _ (l : Leg) (r : List ℕ) where
-    pub top-ahead : Each LeafPoint (leavesIn t) → length (leavesIn t) ≤ maxSites → LegOnGrid l → rowBytes ≤ length r
+    pub top_ahead : Each LeafPoint (leaves_in t) → length (leaves_in t) ≤ max_sites → LegOnGrid l → row_bytes ≤ length r
         → Ahead l t r 0 (under t g (entries t n))
-    top-ahead p few leg rows =
+    top_ahead p few leg rows =
         subst
         (Ahead l t r 0)
-        top-leaves
+        top_leaves
         (record { leg = leg; held = held_none l t r; rows = rows; points = p; room = omega arith })
 
-    pub top-found : (r' : List ℕ) (m : ℕ) → Searched l t r 0 (under t g (entries t n)) r' m → ListsTree l t r r' m
-    top-found r' m h =
-        let s : Searched l t r 0 (leavesIn t) r' m = subst⁻¹ (λ (q : List NodeEntry). Searched l t r 0 q r' m) top-leaves h in
+    pub top_found : (r' : List ℕ) (m : ℕ) → Searched l t r 0 (under t g (entries t n)) r' m → ListsTree l t r r' m
+    top_found r' m h =
+        let s : Searched l t r 0 (leaves_in t) r' m = subst⁻¹ (λ (q : List NodeEntry). Searched l t r 0 q r' m) top_leaves h in
         record {
           within = omega (arith, s.within);
           held = s.held;
-          lists = subst (Lists l t r' m) (append-nil (sites (leavesIn t))) (s.lists [] (lists-none l t r));
+          lists = subst (Lists l t r' m) (append-nil (sites (leaves_in t))) (s.lists [] (lists_none l t r));
           only = s.only;
         }
 
 -- a list without a number twice, in another order
-numbered-same : (s u : List Site) → SameSites u s → Numbered u → Numbered s
-numbered-same s u w n =
+numbered_same : (s u : List Site) → SameSites u s → Numbered u → Numbered s
+numbered_same s u w n =
     record { small = λ p i. n.small p (w.back p i); one = λ p q i j. n.one p q (w.back p i) (w.back q j) }
 
 -- THE LIST FOUND is the split list of the tree's sites, in whatever order
-module _ {l : Leg} {t r r' : List ℕ} {k : ℕ} (f : ListsTree l t r r' k) (u : List Site) (n : Numbered u) (w : SameSites u (sites (leavesIn t))) where
-  pub found-is : entriesIn l t r' k ≡ splitOf l u
-  found-is = lists-is l t r' k (sites (leavesIn t)) u (numbered-same (sites (leavesIn t)) u w n) n w f.lists
+module _ {l : Leg} {t r r' : List ℕ} {k : ℕ} (f : ListsTree l t r r' k) (u : List Site) (n : Numbered u) (w : SameSites u (sites (leaves_in t))) where
+  pub found_is : entries_in l t r' k ≡ split_of l u
+  found_is = lists_is l t r' k (sites (leaves_in t)) u (numbered_same (sites (leaves_in t)) u w n) n w f.lists

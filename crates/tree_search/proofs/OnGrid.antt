@@ -5,7 +5,7 @@ use mathlib.Core.List.{List, [], ◌∷◌, Memᴰ}
 use Prim.Native.Nat.{ℕ, zero, suc, ◌≤◌, ◌<◌}
 use native.Mathlib.Omega.{arith}
 use lib.ListN.{length}
-use Rattle.limits.specs.Limits.{gridWidth}
+use Rattle.limits.specs.Limits.{grid_width}
 use Rattle.grid.specs.declared.Site.{Site}
 use Rattle.grid.specs.Area.{Inside}
 use Rattle.tree_node.specs.declared.NodeEntry.{NodeEntry}
@@ -13,20 +13,20 @@ use Rattle.tree_node.specs.Boxes.{grow, hull, InBox}
 use Rattle.tree_rules.specs.Tree.{Store, joined, leaves, Each, SoundUnder}
 use Rattle.tree_rules.proofs.Every.{each_left, each_right, each_both}
 use Rattle.tree_rules.proofs.Inside.{inside}
-use Rattle.tree_search.specs.Sites.{siteOf, LeafPoint, sites, areaOf, BoxOnGrid}
-use Rattle.tree_search.proofs.Members.{sites-each}
+use Rattle.tree_search.specs.Sites.{site_of, LeafPoint, sites, area_of, BoxOnGrid}
+use Rattle.tree_search.proofs.Members.{sites_each}
 
 -- a smallest box reaches no further than the boxes in it
-hull-low : (c : ℕ) (l : List NodeEntry) → Each BoxOnGrid l → ((hull c l).east ≤ gridWidth) × ((hull c l).north ≤ gridWidth)
+hull_low : (c : ℕ) (l : List NodeEntry) → Each BoxOnGrid l → ((hull c l).east ≤ grid_width) × ((hull c l).north ≤ grid_width)
 unfolding Each hull grow
-hull-low c [] p = (omega arith, omega arith)
-hull-low c (e ∷ l) p = let q = hull-low c l p.1 in (omega (arith, p.0), omega (arith, p.0))
+hull_low c [] p = (omega arith, omega arith)
+hull_low c (e ∷ l) p = let q = hull_low c l p.1 in (omega (arith, p.0), omega (arith, p.0))
 
-placed-hull : (c : ℕ) (l : List NodeEntry) → 0 < length l → Each BoxOnGrid l → BoxOnGrid (hull c l)
+placed_hull : (c : ℕ) (l : List NodeEntry) → 0 < length l → Each BoxOnGrid l → BoxOnGrid (hull c l)
 unfolding Each hull grow
-placed-hull c [] lt p = absurd (omega arith)
-placed-hull c (e ∷ l) lt p =
-    let q = hull-low c l p.1 in
+placed_hull c [] lt p = absurd (omega arith)
+placed_hull c (e ∷ l) lt p =
+    let q = hull_low c l p.1 in
     let b = p.0 in
     record { across = omega arith; up = omega arith; east = omega arith; north = omega arith }
 
@@ -47,19 +47,19 @@ placed E (suc h) e s p =
     subst⁻¹
     BoxOnGrid
     s.box
-    (placed-hull e.reference l (omega (arith, s.least)) (each_part (SoundUnder E h) LeafPoint BoxOnGrid (leaves E h) (placed E h) l s.below p))
+    (placed_hull e.reference l (omega (arith, s.least)) (each_part (SoundUnder E h) LeafPoint BoxOnGrid (leaves E h) (placed E h) l s.below p))
 
 -- THE BOXES OF ENTRIES LIE ON THE GRID
 pub each_placed : (E : Store) (h : ℕ) (l : List NodeEntry) → Each (SoundUnder E h) l → Each LeafPoint (joined (leaves E h) l) → Each BoxOnGrid l
 each_placed E h l = each_part (SoundUnder E h) LeafPoint BoxOnGrid (leaves E h) (placed E h) l
 
-within-box : (e p : NodeEntry) → InBox p e → LeafPoint p → Inside (areaOf e) (siteOf p).position
-within-box e p i q = record { west = omega arith; east = omega arith; south = omega arith; north = omega arith }
+within_box : (e p : NodeEntry) → InBox p e → LeafPoint p → Inside (area_of e) (site_of p).position
+within_box e p i q = record { west = omega arith; east = omega arith; south = omega arith; north = omega arith }
 
 -- EVERY SITE UNDER AN ENTRY LIES IN ITS BOX
-pub site-inside : (E : Store) (h : ℕ) (e : NodeEntry) → SoundUnder E h e → Each LeafPoint (leaves E h e) → (p : Site) → Memᴰ p (sites (leaves E h e)) → Inside (areaOf e) p.position
-site-inside E h e s q =
-    sites-each
-    (λ p. Inside (areaOf e) p.position)
+pub site_inside : (E : Store) (h : ℕ) (e : NodeEntry) → SoundUnder E h e → Each LeafPoint (leaves E h e) → (p : Site) → Memᴰ p (sites (leaves E h e)) → Inside (area_of e) p.position
+site_inside E h e s q =
+    sites_each
+    (λ p. Inside (area_of e) p.position)
     (leaves E h e)
-    (each_both (λ p. InBox p e) LeafPoint (λ p. Inside (areaOf e) (siteOf p).position) (within-box e) (leaves E h e) (inside E h e s) q)
+    (each_both (λ p. InBox p e) LeafPoint (λ p. Inside (area_of e) (site_of p).position) (within_box e) (leaves E h e) (inside E h e s) q)

@@ -5,18 +5,18 @@ use Rattle.tree_node.specs.declared.NodeEntry.{NodeEntry}
 use Rattle.tree_rules.specs.Tree.{joined}
 use Rattle.permutation.specs.Perm.{Perm}
 use Rattle.permutation.specs.Perm.Perm.{same, next, swap, trans}
-use Rattle.permutation.proofs.Perms.{perm-left, perm-flip}
+use Rattle.permutation.proofs.Perms.{perm_left, perm_flip}
 
-perm-right : (z : List NodeEntry) {l r : List NodeEntry} → Perm l r → Perm (z ++ l) (z ++ r)
-perm-right [] p = p
-perm-right (e ∷ z) p = next (perm-right z p)
+perm_right : (z : List NodeEntry) {l r : List NodeEntry} → Perm l r → Perm (z ++ l) (z ++ r)
+perm_right [] p = p
+perm_right (e ∷ z) p = next (perm_right z p)
 
-perm-swapped : (a b z : List NodeEntry) → Perm (a ++ (b ++ z)) (b ++ (a ++ z))
-perm-swapped a b z = simp append_assoc at (perm-left z (perm-flip a b))
+perm_swapped : (a b z : List NodeEntry) → Perm (a ++ (b ++ z)) (b ++ (a ++ z))
+perm_swapped a b z = simp append_assoc at (perm_left z (perm_flip a b))
 
-pub perm-joined : (f : NodeEntry → List NodeEntry) {l r : List NodeEntry} → Perm l r → Perm (joined f l) (joined f r)
+pub perm_joined : (f : NodeEntry → List NodeEntry) {l r : List NodeEntry} → Perm l r → Perm (joined f l) (joined f r)
 unfolding joined
-perm-joined f same = same
-perm-joined f (next {x = e} p) = perm-right (f e) (perm-joined f p)
-perm-joined f (swap {x = a} {y = b} {l = l}) = perm-swapped (f a) (f b) (joined f l)
-perm-joined f (trans p q) = trans (perm-joined f p) (perm-joined f q)
+perm_joined f same = same
+perm_joined f (next {x = e} p) = perm_right (f e) (perm_joined f p)
+perm_joined f (swap {x = a} {y = b} {l = l}) = perm_swapped (f a) (f b) (joined f l)
+perm_joined f (trans p q) = trans (perm_joined f p) (perm_joined f q)

@@ -10,28 +10,28 @@ use Rattle.grid.specs.Area.{AreaOnGrid}
 use Rattle.tree_node.specs.declared.NodeEntry.{NodeEntry}
 
 -- the site of a leaf entry: its box begins with the site's position
-abbrev pub siteOf : NodeEntry → Site
-siteOf e = record { number = e.reference; position = record { east = e.west; north = e.south } }
+abbrev pub site_of : NodeEntry → Site
+site_of e = record { number = e.reference; position = record { east = e.west; north = e.south } }
 
 -- the box of a leaf entry is its site's position alone, which is on the grid
 pub record LeafPoint (e : NodeEntry) : Type 0 where
   pub east : e.east ≡ e.west
   pub north : e.north ≡ e.south
-  pub on-grid : OnGrid (siteOf e).position
+  pub on_grid_lem : OnGrid (site_of e).position
 
 -- the site of a leaf entry if it is open: if its number is not 0
-unfoldable pub openSite : NodeEntry → List Site
-openSite e = cond (eqb e.opens 0) [] (siteOf e ∷ [])
+unfoldable pub open_site : NodeEntry → List Site
+open_site e = cond (eqb e.opens 0) [] (site_of e ∷ [])
 
 -- the open sites of leaf entries
 unfoldable pub sites : List NodeEntry → List Site
 sites [] = []
-sites (e ∷ l) = openSite e ++ sites l
+sites (e ∷ l) = open_site e ++ sites l
 
 -- the box of an entry
-abbrev pub areaOf : NodeEntry → Area
-areaOf e = record { west = e.west; south = e.south; east = e.east; north = e.north }
+abbrev pub area_of : NodeEntry → Area
+area_of e = record { west = e.west; south = e.south; east = e.east; north = e.north }
 
 -- the box of an entry has a position in it, and lies on the grid
 abbrev pub BoxOnGrid : NodeEntry → Type 0
-BoxOnGrid e = AreaOnGrid (areaOf e)
+BoxOnGrid e = AreaOnGrid (area_of e)

@@ -1,11 +1,11 @@
 // The boxes of a node's entries, seen from the ends of the leg: measured once, for the choice of the first entry and
 // for the tests.
 ghost use Rattle.std.specs.Prelude.{◌≡◌, ◌^◌, ◌<◌, length};
-ghost use Rattle.limits.specs.Limits.{maxEntries, maxNodes, tableBytes};
+ghost use Rattle.limits.specs.Limits.{max_entries, max_nodes, table_bytes};
 ghost use Rattle.grid.specs.Position.{OnGrid, LegOnGrid};
 ghost use Rattle.tree_node.specs.Node.{entries};
 ghost use Rattle.tree_rules.specs.Tree.{Each};
-ghost use Rattle.tree_search.specs.Sites.{areaOf, BoxOnGrid};
+ghost use Rattle.tree_search.specs.Sites.{area_of, BoxOnGrid};
 ghost use Rattle.tree_search.specs.Searching.{entry_of, Seems, Measured};
 
 use grid::{Area, Leg, Position};
@@ -13,7 +13,7 @@ use tree_node::NodeEntry;
 
 // The box of an entry.
 fn area_of(e: NodeEntry) -> Area
-    ensures { result ≡ areaOf e }
+    ensures { result ≡ area_of e }
 {
     Area {
         west: e.west,
@@ -25,7 +25,7 @@ fn area_of(e: NodeEntry) -> Area
 
 // How far q is from the box of entry i of node n, squared.
 fn distance_at(t: &[u8], q: Position, n: usize, i: usize) -> u32
-    requires t_len { (length t.now ≡ tableBytes) × (n < maxNodes) × (i < length (entries t.now n)) }
+    requires t_len { (length t.now ≡ table_bytes) × (n < max_nodes) × (i < length (entries t.now n)) }
     requires on_grid { OnGrid q × Each BoxOnGrid (entries t.now n) }
     ensures { Seems q (entry_of t.now n i) result }
 {
@@ -40,7 +40,7 @@ const FAR: u32 = 2147483647;
 // The same, but where no site is open under the entry it seems as far off as can be (C-19), so that what is known of
 // the list shuts it out, and other entries are read first.
 fn seeming_at(t: &[u8], q: Position, n: usize, i: usize) -> u32
-    requires t_len { (length t.now ≡ tableBytes) × (n < maxNodes) × (i < length (entries t.now n)) }
+    requires t_len { (length t.now ≡ table_bytes) × (n < max_nodes) × (i < length (entries t.now n)) }
     requires on_grid { OnGrid q × Each BoxOnGrid (entries t.now n) }
     ensures { Seems q (entry_of t.now n i) result }
 {
@@ -69,9 +69,9 @@ fn measure(
     a: &mut [u32; limits::MAX_ENTRIES],
     c: &mut [u32; limits::MAX_ENTRIES],
 ) -> usize
-    requires t_len { (length t.now ≡ tableBytes) × (n < maxNodes) × (0 < length (entries t.now n)) }
-    requires leg_on_grid { LegOnGrid leg × Each BoxOnGrid (entries t.now n) × (length a.old ≡ maxEntries)
-        × (length c.old ≡ maxEntries) }
+    requires t_len { (length t.now ≡ table_bytes) × (n < max_nodes) × (0 < length (entries t.now n)) }
+    requires leg_on_grid { LegOnGrid leg × Each BoxOnGrid (entries t.now n) × (length a.old ≡ max_entries)
+        × (length c.old ≡ max_entries) }
     ensures first { result < length (entries t.now n) }
     ensures starts { Measured leg.s t.now n (length (entries t.now n))
         a.new }
@@ -104,9 +104,9 @@ fn measure_open(
     a: &mut [u32; limits::MAX_ENTRIES],
     c: &mut [u32; limits::MAX_ENTRIES],
 ) -> usize
-    requires t_len { (length t.now ≡ tableBytes) × (n < maxNodes) × (0 < length (entries t.now n)) }
-    requires leg_on_grid { LegOnGrid leg × Each BoxOnGrid (entries t.now n) × (length a.old ≡ maxEntries)
-        × (length c.old ≡ maxEntries) }
+    requires t_len { (length t.now ≡ table_bytes) × (n < max_nodes) × (0 < length (entries t.now n)) }
+    requires leg_on_grid { LegOnGrid leg × Each BoxOnGrid (entries t.now n) × (length a.old ≡ max_entries)
+        × (length c.old ≡ max_entries) }
     ensures first { result < length (entries t.now n) }
     ensures starts { Measured leg.s t.now n (length (entries t.now n))
         a.new }
@@ -141,9 +141,9 @@ pub fn survey(
     a: &mut [u32; limits::MAX_ENTRIES],
     c: &mut [u32; limits::MAX_ENTRIES],
 ) -> usize
-    requires t_len { (length t.now ≡ tableBytes) × (n < maxNodes) × (0 < length (entries t.now n)) }
-    requires leg_on_grid { LegOnGrid leg × Each BoxOnGrid (entries t.now n) × (length a.old ≡ maxEntries)
-        × (length c.old ≡ maxEntries) }
+    requires t_len { (length t.now ≡ table_bytes) × (n < max_nodes) × (0 < length (entries t.now n)) }
+    requires leg_on_grid { LegOnGrid leg × Each BoxOnGrid (entries t.now n) × (length a.old ≡ max_entries)
+        × (length c.old ≡ max_entries) }
     ensures first { result < length (entries t.now n) }
     ensures starts { Measured leg.s t.now n (length (entries t.now n))
         a.new }

@@ -1,13 +1,13 @@
 // The descent: two functions calling each other, the height falling at each child node.
 // The cut of an entry's box is the guess for the cuts of all that lies under it.
 ghost use Rattle.std.specs.Prelude.{◌≡◌, ◌*◌, ◌<◌, ◌≤◌, length};
-ghost use Rattle.limits.specs.Limits.{maxEntries, maxNodes};
+ghost use Rattle.limits.specs.Limits.{max_entries, max_nodes};
 ghost use Rattle.list_skip.specs.Skipping.{IsCorner, Knows};
 ghost use Rattle.list_row.specs.Vertices.{stack, Cut};
-ghost use Rattle.tree_node.specs.Layout.{entryStart};
+ghost use Rattle.tree_node.specs.Layout.{entry_start};
 ghost use Rattle.tree_node.specs.Node.{entries};
 ghost use Rattle.tree_rules.specs.Tree.{leaves};
-ghost use Rattle.tree_search.specs.Sites.{areaOf};
+ghost use Rattle.tree_search.specs.Sites.{area_of};
 ghost use Rattle.tree_search.specs.Searching.{entry_of, under, ComesNext, OpenCorner, Readable, Ahead, Searched};
 ghost use Rattle.tree_search.specs.Searching.{Progressed};
 
@@ -18,15 +18,15 @@ use list_skip::Edge;
 
 // The place of the site record that entry i of node n begins with.
 fn leaf_place(n: usize, i: usize) -> usize
-    requires { (n < maxNodes) × (i < maxEntries) }
-    ensures { 2 * result ≡ entryStart n i }
+    requires { (n < max_nodes) × (i < max_entries) }
+    ensures { 2 * result ≡ entry_start n i }
 {
     tree_node::pool::entry_start(n, i) / 2
 }
 
 // The entry that is read after the ith of m: the next one, and the first after the last.
 fn after(i: usize, m: usize) -> usize
-    requires { (i < m) × (m ≤ maxEntries) }
+    requires { (i < m) × (m ≤ max_entries) }
     ensures { ComesNext m i result }
 {
     if i + 1 < m {
@@ -48,7 +48,7 @@ fn search_leaf(
     cut: usize,
 ) -> usize
     requires readable { Readable t.now 0 n × (i < length (entries t.now n))
-        × IsCorner leg (areaOf (entry_of t.now n i)) corner }
+        × IsCorner leg (area_of (entry_of t.now n i)) corner }
     requires ahead { Ahead leg t.now work.old k (leaves (entries t.now) 0 (entry_of t.now n i))
         × Cut leg t.now work.old k corner.a cut }
     requires fact { (entry_of t.now n i).opens ≡ 0 → ⊥ }

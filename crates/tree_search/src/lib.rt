@@ -6,12 +6,12 @@ pub mod boxes;
 pub mod descent;
 
 ghost use Rattle.std.specs.Prelude.{◌≤◌, length};
-ghost use Rattle.limits.specs.Limits.{maxSites};
+ghost use Rattle.limits.specs.Limits.{max_sites};
 ghost use Rattle.grid.specs.Position.{LegOnGrid};
-ghost use Rattle.list_row.specs.Vertices.{rowBytes};
-ghost use Rattle.tree_node.specs.Header.{rootIn};
+ghost use Rattle.list_row.specs.Vertices.{row_bytes};
+ghost use Rattle.tree_node.specs.Header.{root_in};
 ghost use Rattle.tree_rules.specs.Tree.{Each};
-ghost use Rattle.tree_rules.specs.Rooted.{Rooted, leavesIn};
+ghost use Rattle.tree_rules.specs.Rooted.{Rooted, leaves_in};
 ghost use Rattle.tree_search.specs.Sites.{LeafPoint};
 ghost use Rattle.tree_search.specs.Searching.{ListsTree};
 
@@ -20,9 +20,9 @@ use tree_node::Root;
 
 // Makes the list of the tree's sites in the row that begins the work buffer.
 pub fn search(t: &[u8], leg: Leg, work: &mut [u8]) -> usize
-    requires rooted { Rooted (rootIn t.now) t.now × Each LeafPoint (leavesIn t.now)
-        × (length (leavesIn t.now) ≤ maxSites) }
-    requires leg_on_grid { LegOnGrid leg × (rowBytes ≤ length work.old) }
+    requires rooted { Rooted (root_in t.now) t.now × Each LeafPoint (leaves_in t.now)
+        × (length (leaves_in t.now) ≤ max_sites) }
+    requires leg_on_grid { LegOnGrid leg × (row_bytes ≤ length work.old) }
     ensures { ListsTree leg t.now work.old work.new result }
 {
     let root = tree_node::header::read_root(t);

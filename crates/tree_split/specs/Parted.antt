@@ -2,21 +2,21 @@
 -- gets 3 to 6.
 -- Assumes nothing.
 use Rattle.std.specs.Prelude.{◌≡◌, List, ◌∷◌, ◌++◌, ℕ, ◌+◌, ◌-◌, ◌≤◌, ◌<◌, length}
-use Rattle.limits.specs.Limits.{minEntries, maxEntries, maxNodes, tableBytes}
+use Rattle.limits.specs.Limits.{min_entries, max_entries, max_nodes, table_bytes}
 use Rattle.words.specs.Words.{Only}
 use Rattle.tree_node.specs.declared.NodeEntry.{NodeEntry}
-use Rattle.tree_node.specs.Layout.{freeStart}
+use Rattle.tree_node.specs.Layout.{free_start}
 use Rattle.tree_node.specs.Node.{entries, OnlyTwo}
 use Rattle.tree_node.specs.Free.{free}
 use Rattle.permutation.specs.Perm.{Perm}
 
 -- what a split deals: the entries of a full node and one more
 abbrev pub overfull : ℕ
-overfull = maxEntries + 1
+overfull = max_entries + 1
 
 -- what it leaves to a node at most: all but the least
-abbrev pub mostParted : ℕ
-mostParted = overfull - minEntries
+abbrev pub most_parted : ℕ
+most_parted = overfull - min_entries
 
 -- one entry of node c has gone to node s, and no other node is changed
 pub record MovedOne (c s : ℕ) (b b' : List ℕ) : Type 0 where
@@ -29,24 +29,24 @@ pub record MovedOne (c s : ℕ) (b b' : List ℕ) : Type 0 where
 pub record Dealing (c s k : ℕ) (b b' : List ℕ) : Type 0 where
   pub whole : Perm (entries b' c ++ entries b' s) (entries b c ++ entries b s)
   pub left : k ≤ length (entries b' c)
-  pub least : minEntries ≤ length (entries b' s) + k + 1
-  pub most : length (entries b' s) ≤ mostParted
+  pub least : min_entries ≤ length (entries b' s) + k + 1
+  pub most : length (entries b' s) ≤ most_parted
   pub rest : OnlyTwo c s b b'
 
 -- x is added to node c or to node s, and each has 3 to 6 entries
 pub record Ninth (c s : ℕ) (x : NodeEntry) (b b' : List ℕ) : Type 0 where
   pub whole : Perm (entries b' c ++ entries b' s) (x ∷ entries b c ++ entries b s)
-  pub least : (minEntries ≤ length (entries b' c)) × (minEntries ≤ length (entries b' s))
-  pub most : (length (entries b' c) ≤ mostParted) × (length (entries b' s) ≤ mostParted)
+  pub least : (min_entries ≤ length (entries b' c)) × (min_entries ≤ length (entries b' s))
+  pub most : (length (entries b' c) ≤ most_parted) × (length (entries b' s) ≤ most_parted)
   pub rest : OnlyTwo c s b b'
 
 -- node c, with eight entries, and the entry x are split: the free node s takes some of the nine, and each of the two
 -- has 3 to 6
 pub record Parted (c s : ℕ) (x : NodeEntry) (b b' : List ℕ) : Type 0 where
   pub taken : free b ≡ s ∷ free b'
-  pub id : s < maxNodes
+  pub id : s < max_nodes
   pub whole : Perm (entries b' c ++ entries b' s) (x ∷ entries b c)
-  pub least : (minEntries ≤ length (entries b' c)) × (minEntries ≤ length (entries b' s))
-  pub most : (length (entries b' c) ≤ mostParted) × (length (entries b' s) ≤ mostParted)
+  pub least : (min_entries ≤ length (entries b' c)) × (min_entries ≤ length (entries b' s))
+  pub most : (length (entries b' c) ≤ most_parted) × (length (entries b' s) ≤ most_parted)
   pub rest : (m : ℕ) → (m ≡ c → ⊥) → (m ≡ s → ⊥) → entries b' m ≡ entries b m
-  pub only : Only freeStart tableBytes b b'
+  pub only : Only free_start table_bytes b b'

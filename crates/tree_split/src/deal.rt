@@ -1,10 +1,10 @@
 // Eight entries and a ninth dealt to two nodes, by the bits of a mask while both keep to three to six.
 ghost use Rattle.std.specs.Prelude.{◌≡◌, ◌+◌, ◌<◌, ◌≤◌, length};
-ghost use Rattle.limits.specs.Limits.{minEntries, maxEntries, maxNodes, tableBytes};
+ghost use Rattle.limits.specs.Limits.{min_entries, max_entries, max_nodes, table_bytes};
 ghost use Rattle.tree_node.specs.Node.{entries};
 ghost use Rattle.tree_node.specs.Free.{free};
 ghost use Rattle.tree_node.specs.Tally.{tally, Within};
-ghost use Rattle.tree_split.specs.Parted.{mostParted, MovedOne, Dealing, Ninth, Parted};
+ghost use Rattle.tree_split.specs.Parted.{most_parted, MovedOne, Dealing, Ninth, Parted};
 
 use crate::MOST_PARTED;
 use limits::{MAX_ENTRIES, MIN_ENTRIES};
@@ -13,8 +13,8 @@ use tree_node::{NodeEntry, free, pool};
 // Whether an entry goes to the new node, which has m: 1 or 0, as bit i of the mask says, so long as the node can end
 // with three to six. So many others follow.
 fn due(mask: u16, i: usize, m: usize, follow: usize) -> usize
-    requires { (i ≤ maxEntries) × (m ≤ mostParted) × (follow ≤ maxEntries) × (minEntries ≤ m + follow + 1) }
-    ensures { (result ≤ 1) × (m + result ≤ mostParted) × (minEntries ≤ m + result + follow) }
+    requires { (i ≤ max_entries) × (m ≤ most_parted) × (follow ≤ max_entries) × (min_entries ≤ m + follow + 1) }
+    ensures { (result ≤ 1) × (m + result ≤ most_parted) × (min_entries ≤ m + result + follow) }
 {
     if m + follow < MIN_ENTRIES {
         return 1;
@@ -30,8 +30,8 @@ fn due(mask: u16, i: usize, m: usize, follow: usize) -> usize
 
 // Moves entry k of node c to node s.
 fn shift(table: &mut [u8], c: usize, s: usize, k: usize)
-    requires { (length table.old ≡ tableBytes) × (c < maxNodes) × (s < maxNodes) × (c ≡ s → ⊥)
-        × (k < length (entries table.old c)) × (length (entries table.old s) < maxEntries) }
+    requires { (length table.old ≡ table_bytes) × (c < max_nodes) × (s < max_nodes) × (c ≡ s → ⊥)
+        × (k < length (entries table.old c)) × (length (entries table.old s) < max_entries) }
     ensures { MovedOne c s table.old table.new }
 {
     let e = pool::entry_at(table, c, k);
@@ -41,9 +41,9 @@ fn shift(table: &mut [u8], c: usize, s: usize, k: usize)
 
 // Moves entry k of node c to node s where it is due there. The k before it follow, and the ninth.
 fn offer(table: &mut [u8], c: usize, s: usize, k: usize, mask: u16)
-    requires { (length table.old ≡ tableBytes) × (c < maxNodes) × (s < maxNodes) × (c ≡ s → ⊥)
-        × (k < maxEntries) × (k < length (entries table.old c))
-        × (length (entries table.old s) ≤ mostParted) × (minEntries ≤ length (entries table.old s) + k + 2) }
+    requires { (length table.old ≡ table_bytes) × (c < max_nodes) × (s < max_nodes) × (c ≡ s → ⊥)
+        × (k < max_entries) × (k < length (entries table.old c))
+        × (length (entries table.old s) ≤ most_parted) × (min_entries ≤ length (entries table.old s) + k + 2) }
     ensures { Dealing c s k table.old table.new }
 {
     let m = pool::count(table, s);
@@ -56,8 +56,8 @@ fn offer(table: &mut [u8], c: usize, s: usize, k: usize, mask: u16)
 // Deals the eight entries of node c to it and to node s, which has none: from the last to the first, so that those
 // before k keep their places.
 fn deal(table: &mut [u8], c: usize, s: usize, mask: u16)
-    requires { (length table.old ≡ tableBytes) × (c < maxNodes) × (s < maxNodes) × (c ≡ s → ⊥)
-        × (length (entries table.old c) ≡ maxEntries) × (length (entries table.old s) ≡ 0) }
+    requires { (length table.old ≡ table_bytes) × (c < max_nodes) × (s < max_nodes) × (c ≡ s → ⊥)
+        × (length (entries table.old c) ≡ max_entries) × (length (entries table.old s) ≡ 0) }
     ensures { Dealing c s 0 table.old table.new }
 {
     let mut k = MAX_ENTRIES;
@@ -69,9 +69,9 @@ fn deal(table: &mut [u8], c: usize, s: usize, mask: u16)
 
 // Gives the ninth entry x to node c or to node s.
 fn place(table: &mut [u8], c: usize, s: usize, x: NodeEntry, mask: u16)
-    requires { (length table.old ≡ tableBytes) × (c < maxNodes) × (s < maxNodes) × (c ≡ s → ⊥)
-        × (minEntries ≤ length (entries table.old s) + 1) × (length (entries table.old s) ≤ mostParted)
-        × (length (entries table.old c) + length (entries table.old s) ≡ maxEntries) }
+    requires { (length table.old ≡ table_bytes) × (c < max_nodes) × (s < max_nodes) × (c ≡ s → ⊥)
+        × (min_entries ≤ length (entries table.old s) + 1) × (length (entries table.old s) ≤ most_parted)
+        × (length (entries table.old c) + length (entries table.old s) ≡ max_entries) }
     ensures { Ninth c s x table.old table.new }
 {
     let m = pool::count(table, s);
@@ -86,8 +86,8 @@ fn place(table: &mut [u8], c: usize, s: usize, x: NodeEntry, mask: u16)
 // Splits node c, which has eight entries, and x by the bits of the mask: entry k goes to the new node by bit k, x by
 // bit 8. Returns the new node.
 pub fn part(table: &mut [u8], c: usize, x: NodeEntry, mask: u16) -> usize
-    requires { (length table.old ≡ tableBytes) × (c < maxNodes) × (length (entries table.old c) ≡ maxEntries)
-        × (0 < length (free table.old)) × (tally c (free table.old) ≡ 0) × Within maxNodes (free table.old) }
+    requires { (length table.old ≡ table_bytes) × (c < max_nodes) × (length (entries table.old c) ≡ max_entries)
+        × (0 < length (free table.old)) × (tally c (free table.old) ≡ 0) × Within max_nodes (free table.old) }
     ensures { Parted c result x table.old table.new }
 {
     let s = free::fresh(table);

@@ -3,7 +3,7 @@
 // (deal.rt); which mask is good is a heuristic with no contract beyond safety (mask.rt): it tries every cut along
 // both axes, where Guttman grows two groups from two seeds.
 ghost use Rattle.std.specs.Prelude.{◌≡◌, ◌<◌, length};
-ghost use Rattle.limits.specs.Limits.{maxEntries, maxNodes, tableBytes};
+ghost use Rattle.limits.specs.Limits.{max_entries, max_nodes, table_bytes};
 ghost use Rattle.tree_node.specs.Node.{entries};
 ghost use Rattle.tree_node.specs.Free.{free};
 ghost use Rattle.tree_node.specs.Tally.{tally, Within};
@@ -23,8 +23,8 @@ const MOST_PARTED: usize = OVERFULL - limits::MIN_ENTRIES;
 
 // Splits node c, which has eight entries, and x. Returns the new node.
 pub fn split(table: &mut [u8], c: usize, x: NodeEntry) -> usize
-    requires { (length table.old ≡ tableBytes) × (c < maxNodes) × (length (entries table.old c) ≡ maxEntries)
-        × (0 < length (free table.old)) × (tally c (free table.old) ≡ 0) × Within maxNodes (free table.old) }
+    requires { (length table.old ≡ table_bytes) × (c < max_nodes) × (length (entries table.old c) ≡ max_entries)
+        × (0 < length (free table.old)) × (tally c (free table.old) ≡ 0) × Within max_nodes (free table.old) }
     ensures { Parted c result x table.old table.new }
 {
     let mask = mask::split_mask(table, c, x);

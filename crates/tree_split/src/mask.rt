@@ -3,7 +3,7 @@
 // half-perimeters is taken, and of equal sums an even cut: additions in ascending order then leave no node with three
 // entries. An axis is two rows of nine coordinates: `low` has the boxes' lower ends, `high` the upper ones.
 ghost use Rattle.std.specs.Prelude.{◌≡◌, ◌<◌, ◌≤◌, length};
-ghost use Rattle.limits.specs.Limits.{maxEntries, maxNodes, tableBytes};
+ghost use Rattle.limits.specs.Limits.{max_entries, max_nodes, table_bytes};
 ghost use Rattle.tree_node.specs.Node.{entries};
 ghost use Rattle.tree_split.specs.Parted.{overfull};
 
@@ -234,7 +234,7 @@ fn best_mask(
 
 // A mask for the eight entries of node c, bits 0 to 7, and x, bit 8.
 pub fn split_mask(table: &[u8], c: usize, x: NodeEntry) -> u16
-    requires { (length table.now ≡ tableBytes) × (c < maxNodes) × (length (entries table.now c) ≡ maxEntries) }
+    requires { (length table.now ≡ table_bytes) × (c < max_nodes) × (length (entries table.now c) ≡ max_entries) }
 {
     let mut west: [u16; OVERFULL] = [x.west; OVERFULL];
     let mut south: [u16; OVERFULL] = [x.south; OVERFULL];

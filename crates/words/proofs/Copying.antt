@@ -8,15 +8,15 @@ use native.Mathlib.Decide.{dec_lt}
 use lib.ListN.{length, get_or, set, length-set}
 use lib.Seq.{get_or-set_same, get_or-set_other}
 use Rattle.words.specs.Words.{word_at, Copied}
-use Rattle.words.proofs.Frame.{only-refl, only_wider}
+use Rattle.words.proofs.Frame.{only_refl, only_wider}
 
 pub copied_none : (s : List ℕ) (i : ℕ) (d : List ℕ) (j : ℕ) → Copied s i d j 0 d
-copied_none s i d j = record { only = only-refl; copied = λ k h. absurd (omega arith) }
+copied_none s i d j = record { only = only_refl; copied = λ k h. absurd (omega arith) }
 
 -- one byte more, behind the others
-pub copied-last : (s : List ℕ) (i : ℕ) (d : List ℕ) (j k : ℕ) (d' : List ℕ) (x : ℕ) → Copied s i d j k d'
+pub copied_last : (s : List ℕ) (i : ℕ) (d : List ℕ) (j k : ℕ) (d' : List ℕ) (x : ℕ) → Copied s i d j k d'
     → j + k < length d → x ≡ get_or s (i + k) 0 → Copied s i d j (k + 1) (set d' (j + k) x)
-copied-last s i d j k d' x m room e =
+copied_last s i d j k d' x m room e =
     record {
       only = record {
         len = simp length-set m.only.len;
@@ -36,9 +36,9 @@ copied-last s i d j k d' x m room e =
         rw (h, get_or-set_same d' (j + k) x 0 (omega (arith, m.only.len))) e
 
 -- one byte more, before the others
-pub copied-first : (s : List ℕ) (i : ℕ) (d : List ℕ) (j k : ℕ) (d' : List ℕ) (x : ℕ)
+pub copied_first : (s : List ℕ) (i : ℕ) (d : List ℕ) (j k : ℕ) (d' : List ℕ) (x : ℕ)
     → Copied s (i + 1) d (j + 1) k d' → j < length d → x ≡ get_or s i 0 → Copied s i d j (k + 1) (set d' j x)
-copied-first s i d j k d' x m room e =
+copied_first s i d j k d' x m room e =
     record {
       only = record {
         len = simp length-set m.only.len;
@@ -67,20 +67,20 @@ pub record Copying (s : List ℕ) (i : ℕ) (d : List ℕ) (j n : ℕ) (d' : Lis
   pub len : length d' ≡ length d
   pub so_far : Copied s i d j k d'
 
-pub copying-none : (s : List ℕ) (i : ℕ) (d : List ℕ) (j n : ℕ) → Copying s i d j n d 0
-copying-none s i d j n = record { within = omega arith; len = refl; so_far = copied_none s i d j }
+pub copying_none : (s : List ℕ) (i : ℕ) (d : List ℕ) (j n : ℕ) → Copying s i d j n d 0
+copying_none s i d j n = record { within = omega arith; len = refl; so_far = copied_none s i d j }
 
-pub copying-one : (s : List ℕ) (i : ℕ) (d : List ℕ) (j n : ℕ) (d' : List ℕ) (k : ℕ) → Copying s i d j n d' k → k < n → j + n ≤ length d
+pub copying_one : (s : List ℕ) (i : ℕ) (d : List ℕ) (j n : ℕ) (d' : List ℕ) (k : ℕ) → Copying s i d j n d' k → k < n → j + n ≤ length d
     → Copying s i d j n (set d' (j + k) (get_or s (i + k) 0)) (k + 1)
-copying-one s i d j n d' k m h room =
+copying_one s i d j n d' k m h room =
     record {
       within = omega arith;
       len = simp length-set m.len;
-      so_far = copied-last s i d j k d' (get_or s (i + k) 0) m.so_far (omega arith) refl;
+      so_far = copied_last s i d j k d' (get_or s (i + k) 0) m.so_far (omega arith) refl;
     }
 
-pub copying-all : {s : List ℕ} {i : ℕ} {d : List ℕ} {j n : ℕ} {d' : List ℕ} {k : ℕ} → Copying s i d j n d' k → n ≤ k → Copied s i d j n d'
-copying-all {n = n} {k = k} m h =
+pub copying_all : {s : List ℕ} {i : ℕ} {d : List ℕ} {j n : ℕ} {d' : List ℕ} {k : ℕ} → Copying s i d j n d' k → n ≤ k → Copied s i d j n d'
+copying_all {n = n} {k = k} m h =
     record {
       only = only_wider (omega arith) (omega (arith, m.within)) m.so_far.only;
       copied = λ c g. m.so_far.copied c (omega arith);
@@ -93,36 +93,36 @@ pub record Shifting (b : List ℕ) (i j n : ℕ) (b' : List ℕ) (k : ℕ) : Typ
   pub down : j ≤ i → Copied b i b j k b'
   pub up : i < j → Copied b (i + (n - k)) b (j + (n - k)) k b'
 
-pub shifting-none : (b : List ℕ) (i j n : ℕ) → Shifting b i j n b 0
-shifting-none b i j n =
+pub shifting_none : (b : List ℕ) (i j n : ℕ) → Shifting b i j n b 0
+shifting_none b i j n =
     record { within = omega arith; len = refl; down = λ h. copied_none b i b j; up = λ h. copied_none b _ b _ }
 
 -- where the bytes stand right already
 pub shift_none : (b : List ℕ) (i j n : ℕ) → i ≡ j → Copied b i b j n b
-shift_none b i j n e = record { only = only-refl; copied = λ k h. ap (λ (c : ℕ). get_or b (c + k) 0) (sym e) }
+shift_none b i j n e = record { only = only_refl; copied = λ k h. ap (λ (c : ℕ). get_or b (c + k) 0) (sym e) }
 
 -- What is still to be read is not written yet.
-pub shifting-one : (b : List ℕ) (i j n : ℕ) (b' : List ℕ) (k c : ℕ) → Shifting b i j n b' k → k < n
+pub shifting_one : (b : List ℕ) (i j n : ℕ) (b' : List ℕ) (k c : ℕ) → Shifting b i j n b' k → k < n
     → i + n ≤ length b → j + n ≤ length b → (i < j → c ≡ n - (k + 1)) → (j ≤ i → c ≡ k)
     → Shifting b i j n (set b' (j + c) (get_or b' (i + c) 0)) (k + 1)
-shifting-one b i j n b' k c m h room room' f g =
+shifting_one b i j n b' k c m h room room' f g =
     record {
       within = omega arith;
       len = simp length-set m.len;
       down = λ q.
           let p = m.down q in
-          rw (g q) (copied-last b i b j k b' _ p (omega arith) (p.only.high (i + k) (omega arith)));
+          rw (g q) (copied_last b i b j k b' _ p (omega arith) (p.only.high (i + k) (omega arith)));
       up = λ q.
           let l : i + (n - k) ≡ i + (n - (k + 1)) + 1 = omega arith in
           let l' : j + (n - k) ≡ j + (n - (k + 1)) + 1 = omega arith in
           let p = m.up q in
           rw (f q)
-          (copied-first b (i + (n - (k + 1))) b (j + (n - (k + 1))) k b' _ (rw (l, l') at p) (omega arith)
+          (copied_first b (i + (n - (k + 1))) b (j + (n - (k + 1))) k b' _ (rw (l, l') at p) (omega arith)
           (p.only.low (i + (n - (k + 1))) (omega arith)));
     }
 
-pub shifting-all : {b : List ℕ} {i j n : ℕ} {b' : List ℕ} {k : ℕ} → Shifting b i j n b' k → n ≤ k → Copied b i b j n b'
-shifting-all {b} {i} {j} {n} {b'} {k} m h = go (dec_lt i j)
+pub shifting_all : {b : List ℕ} {i j n : ℕ} {b' : List ℕ} {k : ℕ} → Shifting b i j n b' k → n ≤ k → Copied b i b j n b'
+shifting_all {b} {i} {j} {n} {b'} {k} m h = go (dec_lt i j)
   where
     e : k ≡ n
     e = omega (arith, m.within)

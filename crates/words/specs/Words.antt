@@ -7,8 +7,8 @@ unfoldable pub word_at : List ℕ → ℕ → ℕ
 word_at b i = get_or b i 0 + 256 * get_or b (i + 1) 0
 
 -- x stored at byte i
-unfoldable pub putWord : List ℕ → ℕ → ℕ → List ℕ
-putWord b i x = set (set b i (x % 256)) (i + 1) (x / 256)
+unfoldable pub put_word : List ℕ → ℕ → ℕ → List ℕ
+put_word b i x = set (set b i (x % 256)) (i + 1) (x / 256)
 
 -- b' is b but for the bytes from lo up to hi
 pub record Only (lo hi : ℕ) (b b' : List ℕ) : Type 0 where

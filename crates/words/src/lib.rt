@@ -1,6 +1,6 @@
 // Numbers of 16 bits in lent bytes, lowest byte first; bytes copied between two buffers, and moved within one.
 ghost use Rattle.std.specs.Prelude.{◌≡◌, ◌+◌, ◌-◌, ◌<◌, ◌≤◌, length};
-ghost use Rattle.words.specs.Words.{word_at, putWord, Copied};
+ghost use Rattle.words.specs.Words.{word_at, put_word, Copied};
 
 // A byte as a wider number.
 fn wide(x: u8) -> u16
@@ -23,7 +23,7 @@ pub fn word(b: &[u8], i: usize) -> u16
 // Stores x at byte i.
 pub fn put_word(b: &mut [u8], i: usize, x: u16)
     requires { i + 2 ≤ length b.old }
-    ensures { b.new ≡ putWord b.old i x }
+    ensures { b.new ≡ put_word b.old i x }
 {
     let low = (x % 256) as u8;
     let high = (x / 256) as u8;

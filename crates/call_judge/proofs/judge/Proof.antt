@@ -1,4 +1,4 @@
-use Rattle.call_judge.proofs.Deciding.{settled-decided, decided-same}
+use Rattle.call_judge.proofs.Deciding.{settled_decided, decided_same}
 use borrow.Author.Rules.{rules}
 use Rattle.call_judge.proofs.judge.Statement.{statement}
 use Rattle.call_judge.proofs.judge.Tie as tie
@@ -76,43 +76,43 @@ open-requires : tie.Need-open-requires
 open-requires c κs = search rules
 
 returns : tie.Need-returns
-returns c = search (rules, settled-decided)
+returns c = search (rules, settled_decided)
 
 returns-2 : tie.Need-returns-2
-returns-2 c = search (rules, settled-decided)
+returns-2 c = search (rules, settled_decided)
 
 returns-3 : tie.Need-returns-3
-returns-3 c = search (rules, settled-decided)
+returns-3 c = search (rules, settled_decided)
 
 same_length : tie.Need-same-length
 same_length c = search rules
 
 returns-4 : tie.Need-returns-4
-returns-4 c = search (rules, decided-same)
+returns-4 c = search (rules, decided_same)
 
 returns-5 : tie.Need-returns-5
-returns-5 c = search (rules, settled-decided)
+returns-5 c = search (rules, settled_decided)
 
 same-length-2 : tie.Need-same-length-2
 same-length-2 c = search rules
 
 returns-6 : tie.Need-returns-6
-returns-6 c = search (rules, decided-same)
+returns-6 c = search (rules, decided_same)
 
 returns-7 : tie.Need-returns-7
-returns-7 c = search (rules, settled-decided)
+returns-7 c = search (rules, settled_decided)
 
 same-length-3 : tie.Need-same-length-3
 same-length-3 c = search rules
 
 returns-8 : tie.Need-returns-8
-returns-8 c = search (rules, decided-same)
+returns-8 c = search (rules, decided_same)
 
 returns-9 : tie.Need-returns-9
-returns-9 c = search (rules, settled-decided)
+returns-9 c = search (rules, settled_decided)
 
 returns-10 : tie.Need-returns-10
-returns-10 c = search (rules, settled-decided)
+returns-10 c = search (rules, settled_decided)
 
 pub judge-spec : {M : Type 1} → statement M
 judge-spec =

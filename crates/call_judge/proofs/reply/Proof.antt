@@ -1,4 +1,4 @@
-use Rattle.call_judge.proofs.Deciding.{refuse-answer, show-answer, follow-answer}
+use Rattle.call_judge.proofs.Deciding.{refuse_answer, show_answer, follow_answer}
 use borrow.Author.Rules.{rules}
 use Rattle.call_judge.proofs.reply.Statement.{statement}
 use Rattle.call_judge.proofs.reply.Tie as tie
@@ -39,10 +39,10 @@ enum-told-7 : tie.Need-enum-told-7
 enum-told-7 c = search rules
 
 returns : tie.Need-returns
-returns c = search (rules, refuse-answer)
+returns c = search (rules, refuse_answer)
 
 returns-2 : tie.Need-returns-2
-returns-2 c = search (rules, show-answer)
+returns-2 c = search (rules, show_answer)
 
 returns-3 : tie.Need-returns-3
 returns-3 c = search rules
@@ -60,7 +60,7 @@ returns-7 : tie.Need-returns-7
 returns-7 c = search rules
 
 returns-8 : tie.Need-returns-8
-returns-8 c = search (rules, follow-answer)
+returns-8 c = search (rules, follow_answer)
 
 returns-9 : tie.Need-returns-9
 returns-9 c = search rules

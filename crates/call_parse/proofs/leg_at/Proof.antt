@@ -1,4 +1,4 @@
-use Rattle.call_parse.proofs.Finding.{leg-is}
+use Rattle.call_parse.proofs.Finding.{leg_is}
 use borrow.Author.Rules.{rules}
 use Rattle.call_parse.proofs.leg_at.Statement.{statement}
 use Rattle.call_parse.proofs.leg_at.Tie as tie
@@ -13,7 +13,7 @@ position-at-requires-2 : tie.Need-position-at-requires-2
 position-at-requires-2 c κs = search rules
 
 returns : tie.Need-returns
-returns c = search (rules, leg-is)
+returns c = search (rules, leg_is)
 
 pub leg-at-spec : {M : Type 1} → statement M
 leg-at-spec =

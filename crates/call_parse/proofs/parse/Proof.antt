@@ -1,4 +1,4 @@
-use Rattle.call_parse.proofs.Finding.{end_is, unknown-is, cut-is, whole_is}
+use Rattle.call_parse.proofs.Finding.{end_is, unknown_is, cut_is, whole_is}
 use borrow.Author.Rules.{rules}
 use Rattle.call_parse.proofs.parse.Statement.{statement}
 use Rattle.call_parse.proofs.parse.Tie as tie
@@ -19,7 +19,7 @@ enum_told : tie.Need-enum-told
 enum_told c = search rules
 
 returns-2 : tie.Need-returns-2
-returns-2 c = search (rules, unknown-is)
+returns-2 c = search (rules, unknown_is)
 
 add-i : tie.Need-overflow-add-i
 add-i c = search rules
@@ -31,7 +31,7 @@ sub-if2 : tie.Need-overflow-sub-if2
 sub-if2 c = search rules
 
 returns-3 : tie.Need-returns-3
-returns-3 c = search (rules, cut-is)
+returns-3 c = search (rules, cut_is)
 
 operands-at-requires : tie.Need-operands-at-requires
 operands-at-requires c κs = search rules

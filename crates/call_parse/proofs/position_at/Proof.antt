@@ -1,4 +1,4 @@
-use Rattle.call_parse.proofs.Finding.{position-is}
+use Rattle.call_parse.proofs.Finding.{position_is}
 use borrow.Author.Rules.{rules}
 use Rattle.call_parse.proofs.position_at.Statement.{statement}
 use Rattle.call_parse.proofs.position_at.Tie as tie
@@ -19,7 +19,7 @@ from-word-requires-2 : tie.Need-from-word-requires-2
 from-word-requires-2 c κs = search rules
 
 returns : tie.Need-returns
-returns c = search (rules, position-is)
+returns c = search (rules, position_is)
 
 pub position-at-spec : {M : Type 1} → statement M
 position-at-spec =

@@ -1,7 +1,7 @@
 use borrow.Author.Rules.{rules}
 use native.Mathlib.Omega.{arith}
 use Prim.Native.Nat.{◌-◌}
-use Rattle.call_record.proofs.PutEntries.{Putting, putting-none, putting-two, putting-last, putting-all}
+use Rattle.call_record.proofs.PutEntries.{Putting, putting_none, putting_two, putting_last, putting_all}
 use Rattle.call_record.proofs.put_entries.Statement.{statement}
 use Rattle.call_record.proofs.put_entries.Tie as tie
 
@@ -12,7 +12,7 @@ abbrev decreases-loop : tie.decreases-loop
 decreases-loop t row leg j k report₀ at i₀ report i = k - i
 
 loop-holds : tie.Need-loop-init invariant-loop decreases-loop
-loop-holds c = search (rules, putting-none)
+loop-holds c = search (rules, putting_none)
 
 add-loop : tie.Need-overflow-add-loop invariant-loop decreases-loop
 add-loop c = search rules
@@ -36,7 +36,7 @@ loop-less : tie.Need-loop-smaller invariant-loop decreases-loop
 loop-less c = omega arith
 
 loop-again : tie.Need-loop-preserved invariant-loop decreases-loop
-loop-again c = search (rules, putting-two)
+loop-again c = search (rules, putting_two)
 
 sub-put-entry : tie.Need-overflow-sub-put-entry invariant-loop decreases-loop
 sub-put-entry c = omega arith
@@ -54,13 +54,13 @@ same_length : tie.Need-same-length invariant-loop decreases-loop
 same_length c = omega (arith, c.before.before.put-entry.auto, c.before.before.before.before.before.before.loop.invariant.len)
 
 returns : tie.Need-returns invariant-loop decreases-loop
-returns c = search (rules, putting-last)
+returns c = search (rules, putting_last)
 
 same-length-2 : tie.Need-same-length-2 invariant-loop decreases-loop
 same-length-2 c = omega (arith, c.before.before.loop.invariant.len)
 
 returns-2 : tie.Need-returns-2 invariant-loop decreases-loop
-returns-2 c = search (rules, putting-all)
+returns-2 c = search (rules, putting_all)
 
 pub put-entries-spec : {M : Type 1} → statement M
 put-entries-spec =

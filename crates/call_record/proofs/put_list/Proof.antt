@@ -2,8 +2,8 @@ use borrow.Author.Rules.{rules}
 use native.Mathlib.Omega.{arith}
 use lib.ListN.{length-set}
 use mathlib.Core.Path.{sym, ◌∙◌}
-use Rattle.list_row.specs.Entries.{entriesFrom}
-use Rattle.list_row.proofs.Entries.{from-length}
+use Rattle.list_row.specs.Entries.{entries_from}
+use Rattle.list_row.proofs.Entries.{from_length}
 use Rattle.call_record.proofs.Entries.{record_is}
 use Rattle.call_record.proofs.put_list.Statement.{statement}
 use Rattle.call_record.proofs.put_list.Tie as tie
@@ -49,8 +49,8 @@ returns c =
     let n = c.before.before.before.before.before.before.before.before.count_of in
     let w = c.before.before.before.before.before.before.before.put_word in
     let p = c.before.before.before.put_entries in
-    let es = from-length s.args.leg s.args.t.now s.args.row.now s.args.j s.args.k in (
-      record_is (entriesFrom s.args.leg s.args.t.now s.args.row.now s.args.j s.args.k) s.args.report.now w.new.0
+    let es = from_length s.args.leg s.args.t.now s.args.row.now s.args.j s.args.k in (
+      record_is (entries_from s.args.leg s.args.t.now s.args.row.now s.args.j s.args.k) s.args.report.now w.new.0
           p.new.1.1.1.1.1.0 s.args.at n.result (n.ensures ∙ sym es) (omega (arith, s.requires.0.few, n.ensures)) w.ensures p.ensures,
       search rules,
     )

@@ -1,7 +1,7 @@
 use borrow.Author.Rules.{rules}
 use native.Mathlib.Omega.{arith}
 use lib.ListN.{length-set}
-use Rattle.call_record.proofs.Writing.{put-long-is}
+use Rattle.call_record.proofs.Writing.{put_long_is}
 use Rattle.call_record.proofs.put_long.Statement.{statement}
 use Rattle.call_record.proofs.put_long.Tie as tie
 
@@ -42,7 +42,7 @@ same_length : tie.Need-same-length
 same_length c = search rules
 
 returns : tie.Need-returns
-returns c = search put-long-is
+returns c = search put_long_is
 
 pub put-long-spec : {M : Type 1} → statement M
 put-long-spec =

@@ -1,5 +1,5 @@
 use borrow.Author.Rules.{rules}
-use Rattle.call_record.proofs.Entries.{start-wrote}
+use Rattle.call_record.proofs.Entries.{start_wrote}
 use Rattle.call_record.proofs.put_start.Statement.{statement}
 use Rattle.call_record.proofs.put_start.Tie as tie
 
@@ -22,7 +22,7 @@ same_length : tie.Need-same-length
 same_length c = search rules
 
 returns : tie.Need-returns
-returns c = search (rules, start-wrote)
+returns c = search (rules, start_wrote)
 
 pub put-start-spec : {M : Type 1} → statement M
 put-start-spec =

@@ -1,5 +1,5 @@
 use borrow.Author.Rules.{rules}
-use Rattle.call_record.proofs.Entries.{starts-wrote}
+use Rattle.call_record.proofs.Entries.{starts_wrote}
 use Rattle.call_record.proofs.put_starts.Statement.{statement}
 use Rattle.call_record.proofs.put_starts.Tie as tie
 
@@ -19,7 +19,7 @@ same_length : tie.Need-same-length
 same_length c = search rules
 
 returns : tie.Need-returns
-returns c = search starts-wrote
+returns c = search starts_wrote
 
 pub put-starts-spec : {M : Type 1} → statement M
 put-starts-spec =

@@ -1,4 +1,4 @@
-use Rattle.call_serve.proofs.Carrying.{put-row, put-fits, obeyed}
+use Rattle.call_serve.proofs.Carrying.{put_row, put_fits, obeyed}
 use borrow.Author.Rules.{rules}
 use Rattle.call_serve.proofs.obey.Statement.{statement}
 use Rattle.call_serve.proofs.obey.Tie as tie
@@ -7,7 +7,7 @@ reply-requires : tie.Need-reply-requires
 reply-requires c κs = search rules
 
 put-requires : tie.Need-put-requires
-put-requires c κs = (search (rules, put-row), search (rules, put-fits))
+put-requires c κs = (search (rules, put_row), search (rules, put_fits))
 
 carry-requires : tie.Need-carry-requires
 carry-requires c κs = search rules

@@ -1,4 +1,4 @@
-use Rattle.host.proofs.Numbered.{batch-number}
+use Rattle.host.proofs.Numbered.{batch_number}
 use borrow.Author.Rules.{rules}
 use Rattle.host.proofs.stops_batch.Statement.{statement}
 use Rattle.host.proofs.stops_batch.Tie as tie
@@ -19,7 +19,7 @@ same-length-3 : tie.Need-same-length-3
 same-length-3 c = search rules
 
 returns : tie.Need-returns
-returns c = search (rules, batch-number)
+returns c = search (rules, batch_number)
 
 pub stops-batch-spec : {M : Type 1} → statement M
 stops-batch-spec =

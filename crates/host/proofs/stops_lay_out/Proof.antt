@@ -1,4 +1,4 @@
-use Rattle.host.proofs.Numbered.{laid-number}
+use Rattle.host.proofs.Numbered.{laid_number}
 use borrow.Author.Rules.{rules}
 use Rattle.host.proofs.stops_lay_out.Statement.{statement}
 use Rattle.host.proofs.stops_lay_out.Tie as tie
@@ -13,7 +13,7 @@ same_length : tie.Need-same-length
 same_length c = search rules
 
 returns : tie.Need-returns
-returns c = search (rules, laid-number)
+returns c = search (rules, laid_number)
 
 pub stops-lay-out-spec : {M : Type 1} → statement M
 stops-lay-out-spec =

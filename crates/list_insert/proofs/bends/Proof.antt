@@ -1,6 +1,6 @@
 use borrow.Author.Rules.{rules}
 use native.Mathlib.Omega.{arith}
-use Rattle.list_row.proofs.Products.{product-fits}
+use Rattle.list_row.proofs.Products.{product_fits}
 use Rattle.list_insert.proofs.bends.Statement.{statement}
 use Rattle.list_insert.proofs.bends.Tie as tie
 
@@ -11,7 +11,7 @@ sub-product-2 : tie.Need-overflow-sub-product-2
 sub-product-2 c = search rules
 
 product-requires : tie.Need-product-requires
-product-requires c κs = product-fits (omega arith) (omega arith)
+product-requires c κs = product_fits (omega arith) (omega arith)
 
 sub-product-3 : tie.Need-overflow-sub-product-3
 sub-product-3 c = search rules
@@ -20,7 +20,7 @@ sub-product-4 : tie.Need-overflow-sub-product-4
 sub-product-4 c = search rules
 
 product-requires-2 : tie.Need-product-requires-2
-product-requires-2 c κs = product-fits (omega arith) (omega arith)
+product-requires-2 c κs = product_fits (omega arith) (omega arith)
 
 returns : tie.Need-returns
 returns c = search rules

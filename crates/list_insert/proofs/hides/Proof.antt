@@ -1,5 +1,5 @@
 use borrow.Author.Rules.{rules}
-use Rattle.list_insert.proofs.Testing.{hides-tied}
+use Rattle.list_insert.proofs.Testing.{hides_tied}
 use Rattle.list_insert.proofs.hides.Statement.{statement}
 use Rattle.list_insert.proofs.hides.Tie as tie
 
@@ -16,7 +16,7 @@ comes-first-requires : tie.Need-comes-first-requires
 comes-first-requires c κs = search rules
 
 returns-4 : tie.Need-returns-4
-returns-4 c = search (rules, hides-tied)
+returns-4 c = search (rules, hides_tied)
 
 pub hides-spec : {M : Type 1} → statement M
 hides-spec = tie.close (tie.spec returns returns-2 returns-3 comes-first-requires returns-4)

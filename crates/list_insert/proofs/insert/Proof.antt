@@ -1,4 +1,4 @@
-use Rattle.list_insert.proofs.Inserting.{insert-hidden, insert-between, insert-above, insert-listed}
+use Rattle.list_insert.proofs.Inserting.{insert_hidden, insert_between, insert_above, insert_listed}
 use Rattle.list_row.proofs.Stacks.{held_below}
 use borrow.Author.Tests.{not-true, not-false}
 use borrow.Author.Rules.{rules}
@@ -18,7 +18,7 @@ returns : tie.Need-returns
 returns c =
     let s = c.before.before.before.before.before.before in
     let p = c.before.before.place in
-    insert-hidden s.requires.0.0 s.requires.0.3 s.requires.1.0 p.ensures.0 p.result.add p.ensures.1 (not-true _ c.if1.true)
+    insert_hidden s.requires.0.0 s.requires.0.3 s.requires.1.0 p.ensures.0 p.result.add p.ensures.1 (not-true _ c.if1.true)
 
 right-tangent-requires : tie.Need-right-tangent-requires
 right-tangent-requires c κs = search rules
@@ -27,7 +27,7 @@ below-chord-requires : tie.Need-below-chord-requires
 below-chord-requires c κs =
     let s = c.before.before.before.before.before.before.before.before.before in
     let p = c.before.before.before.before.before.place in
-    let b = insert-between s.requires.0.0 s.requires.0.3 s.requires.1.0 p.ensures.0 p.result.add p.ensures.1 (not-false _ c.before.before.before.if1.false) c.before.right-tangent.ensures in
+    let b = insert_between s.requires.0.0 s.requires.0.3 s.requires.1.0 p.ensures.0 p.result.add p.ensures.1 (not-false _ c.before.before.before.if1.false) c.before.right-tangent.ensures in
     ((s.requires.0.0, s.requires.0.1, b.0, b.1), (s.requires.1.0, b.2))
 
 same-length-2 : tie.Need-same-length-2
@@ -37,7 +37,7 @@ returns-2 : tie.Need-returns-2
 returns-2 c =
     let s = c.before.before.before.before.before.before.before.before.before.before.before in
     let p = c.before.before.before.before.before.before.before.place in
-    insert-above s.requires.0.0 s.requires.0.3 s.requires.1.0 p.ensures.0 p.result.add p.ensures.1 (not-false _ c.before.before.before.before.before.if1.false) c.before.before.before.right-tangent.ensures c.before.below-chord.result (not-true _ c.if2.true) c.before.below-chord.ensures
+    insert_above s.requires.0.0 s.requires.0.3 s.requires.1.0 p.ensures.0 p.result.add p.ensures.1 (not-false _ c.before.before.before.before.before.if1.false) c.before.before.before.right-tangent.ensures c.before.below-chord.result (not-true _ c.if2.true) c.before.below-chord.ensures
 
 splice-requires : tie.Need-splice-requires
 splice-requires c κs = search rules
@@ -51,7 +51,7 @@ returns-3 c =
     let p = c.before.before.before.before.before.before.before.before.before.before.before.place in
     let b = c.before.before.before.before.before.below-chord in
     let q = c.before.before.splice.ensures in
-    insert-listed s.requires.0.0 s.requires.0.3 s.requires.1.0 p.ensures.0 p.result.add p.ensures.1 (not-false _ c.before.before.before.before.before.before.before.before.before.if1.false) c.before.before.before.before.before.before.before.right-tangent.ensures s.requires.1.1 s.requires.0.2 b.result (not-false _ c.before.before.before.before.if2.false) b.ensures q.0 q.1
+    insert_listed s.requires.0.0 s.requires.0.3 s.requires.1.0 p.ensures.0 p.result.add p.ensures.1 (not-false _ c.before.before.before.before.before.before.before.before.before.if1.false) c.before.before.before.before.before.before.before.right-tangent.ensures s.requires.1.1 s.requires.0.2 b.result (not-false _ c.before.before.before.before.if2.false) b.ensures q.0 q.1
 
 pub insert-spec : {M : Type 1} → statement M
 insert-spec =

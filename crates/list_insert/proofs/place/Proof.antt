@@ -2,13 +2,13 @@ use Rattle.list_insert.proofs.place.Statement.{statement}
 use borrow.Author.Rules.{rules}
 use native.Mathlib.Omega.{arith}
 use mathlib.Core.Path.{refl}
-use Rattle.list_row.specs.Vertices.{pointAt}
+use Rattle.list_row.specs.Vertices.{point_at}
 use Rattle.list_row.proofs.Reading.{itself}
-use Rattle.list_insert.proofs.Pushing.{Dropped, last_has, place-hidden, place-under, place-next, none_left}
+use Rattle.list_insert.proofs.Pushing.{Dropped, last_has, place_hidden, place_under, place_next, none_left}
 use Rattle.list_insert.proofs.place.Tie as tie
 
 abbrev invariant-loop : tie.invariant-loop
-invariant-loop t row leg k x j₀ j = Dropped leg t row k (pointAt leg t x.place) j
+invariant-loop t row leg k x j₀ j = Dropped leg t row k (point_at leg t x.place) j
 
 abbrev decreases-loop : tie.decreases-loop
 decreases-loop t row leg k x j₀ j = j
@@ -26,13 +26,13 @@ hides-requires : tie.Need-hides-requires invariant-loop decreases-loop
 hides-requires c κs = ((search (rules, itself), search (rules, last_has)), (search rules, search rules))
 
 returns : tie.Need-returns invariant-loop decreases-loop
-returns c = (omega arith, search (rules, place-hidden))
+returns c = (omega arith, search (rules, place_hidden))
 
 stands-requires : tie.Need-stands-requires invariant-loop decreases-loop
 stands-requires c κs = search rules
 
 returns-2 : tie.Need-returns-2 invariant-loop decreases-loop
-returns-2 c = (omega arith, search (rules, place-under))
+returns-2 c = (omega arith, search (rules, place_under))
 
 sub-j : tie.Need-overflow-sub-j invariant-loop decreases-loop
 sub-j c = omega arith
@@ -41,7 +41,7 @@ loop-less : tie.Need-loop-smaller invariant-loop decreases-loop
 loop-less c = omega arith
 
 loop-again : tie.Need-loop-preserved invariant-loop decreases-loop
-loop-again c = search (rules, place-next)
+loop-again c = search (rules, place_next)
 
 returns-3 : tie.Need-returns-3 invariant-loop decreases-loop
 returns-3 c = (omega arith, none_left c.before.loop.invariant (omega arith))

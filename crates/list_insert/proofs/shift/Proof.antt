@@ -1,4 +1,4 @@
-use Rattle.list_insert.proofs.Moving.{room-made}
+use Rattle.list_insert.proofs.Moving.{room_made}
 use borrow.Author.Rules.{rules}
 use Rattle.list_insert.proofs.shift.Statement.{statement}
 use Rattle.list_insert.proofs.shift.Tie as tie
@@ -22,7 +22,7 @@ same_length : tie.Need-same-length
 same_length c = search rules
 
 returns : tie.Need-returns
-returns c = search (rules, room-made)
+returns c = search (rules, room_made)
 
 mul-shift : tie.Need-overflow-mul-shift
 mul-shift c = search rules

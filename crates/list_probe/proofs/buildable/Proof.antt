@@ -1,5 +1,5 @@
 use borrow.Author.Rules.{rules}
-use Rattle.list_probe.proofs.Testing.{not-ready-s, not-ready-e, ready-is}
+use Rattle.list_probe.proofs.Testing.{not_ready_s, not_ready_e, ready_is}
 use Rattle.list_probe.proofs.buildable.Statement.{statement}
 use Rattle.list_probe.proofs.buildable.Tie as tie
 
@@ -25,13 +25,13 @@ orderly-requires : tie.Need-orderly-requires
 orderly-requires c κs = search rules
 
 returns-4 : tie.Need-returns-4
-returns-4 c = search (rules, ready-is)
+returns-4 c = search (rules, ready_is)
 
 returns-5 : tie.Need-returns-5
-returns-5 c = search (rules, not-ready-e)
+returns-5 c = search (rules, not_ready_e)
 
 returns-6 : tie.Need-returns-6
-returns-6 c = search (rules, not-ready-s)
+returns-6 c = search (rules, not_ready_s)
 
 pub buildable-spec : {M : Type 1} → statement M
 buildable-spec =

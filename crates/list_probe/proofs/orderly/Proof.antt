@@ -2,7 +2,7 @@ use Rattle.list_probe.proofs.orderly.Statement.{statement}
 use borrow.Author.Rules.{rules}
 use native.Mathlib.Omega.{arith}
 use Prim.Native.Nat.{◌-◌}
-use Rattle.list_probe.proofs.Testing.{Tested, tested-none, not-rising, not-on-grid, tested-one, tested-all}
+use Rattle.list_probe.proofs.Testing.{Tested, tested_none, not_rising, not_on_grid, tested_one, tested_all}
 use Rattle.list_probe.proofs.orderly.Tie as tie
 
 abbrev invariant-loop : tie.invariant-loop
@@ -12,7 +12,7 @@ abbrev decreases-loop : tie.decreases-loop
 decreases-loop t n last₀ i₀ last i = n - i
 
 loop-holds : tie.Need-loop-init invariant-loop decreases-loop
-loop-holds c = search tested-none
+loop-holds c = search tested_none
 
 mul-site-at : tie.Need-overflow-mul-site-at invariant-loop decreases-loop
 mul-site-at c = omega arith
@@ -21,7 +21,7 @@ site-at-requires : tie.Need-site-at-requires invariant-loop decreases-loop
 site-at-requires c κs = search rules
 
 returns : tie.Need-returns invariant-loop decreases-loop
-returns c = search (rules, not-rising)
+returns c = search (rules, not_rising)
 
 on-grid-requires : tie.Need-on-grid-requires invariant-loop decreases-loop
 on-grid-requires c κs = search rules
@@ -33,13 +33,13 @@ loop-less : tie.Need-loop-smaller invariant-loop decreases-loop
 loop-less c = omega arith
 
 loop-again : tie.Need-loop-preserved invariant-loop decreases-loop
-loop-again c = search (rules, tested-one)
+loop-again c = search (rules, tested_one)
 
 returns-2 : tie.Need-returns-2 invariant-loop decreases-loop
-returns-2 c = search (rules, not-on-grid)
+returns-2 c = search (rules, not_on_grid)
 
 returns-3 : tie.Need-returns-3 invariant-loop decreases-loop
-returns-3 c = search (rules, tested-all)
+returns-3 c = search (rules, tested_all)
 
 pub orderly-spec : {M : Type 1} → statement M
 orderly-spec =

@@ -1,11 +1,11 @@
 use borrow.Author.Rules.{rules}
-use Rattle.list_probe.proofs.Order.{ready-sites}
-use Rattle.list_probe.proofs.Writing.{wrote_none, wrote-all}
+use Rattle.list_probe.proofs.Order.{ready_sites}
+use Rattle.list_probe.proofs.Writing.{wrote_none, wrote_all}
 use Rattle.list_probe.proofs.written.Statement.{statement}
 use Rattle.list_probe.proofs.written.Tie as tie
 
 build-requires : tie.Need-build-requires
-build-requires c κs = (search ready-sites, search rules, search rules)
+build-requires c κs = (search ready_sites, search rules, search rules)
 
 list-size-requires : tie.Need-list-size-requires
 list-size-requires c κs = search rules
@@ -26,7 +26,7 @@ same-length-3 : tie.Need-same-length-3
 same-length-3 c = search rules
 
 returns-2 : tie.Need-returns-2
-returns-2 c = search (rules, wrote-all)
+returns-2 c = search (rules, wrote_all)
 
 pub written-spec : {M : Type 1} → statement M
 written-spec =

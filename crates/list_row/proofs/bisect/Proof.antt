@@ -3,7 +3,7 @@ use borrow.Author.Rules.{rules}
 use native.Mathlib.Omega.{arith}
 use Prim.Native.Nat.{◌-◌}
 use Rattle.list_row.specs.Vertices.{CutBetween}
-use Rattle.list_row.proofs.Bisection.{cut_up, cut_down, cut-found}
+use Rattle.list_row.proofs.Bisection.{cut_up, cut_down, cut_found}
 use Rattle.list_row.proofs.bisect.Tie as tie
 
 abbrev invariant-loop : tie.invariant-loop
@@ -39,7 +39,7 @@ loop-again-2 c =
     search (rules, cut_down)
 
 returns : tie.Need-returns invariant-loop decreases-loop
-returns c = search (rules, cut-found)
+returns c = search (rules, cut_found)
 
 pub bisect-spec : {M : Type 1} → statement M
 bisect-spec =

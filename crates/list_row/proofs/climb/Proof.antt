@@ -2,7 +2,7 @@ use borrow.Author.Rules.{rules}
 use native.Mathlib.Omega.{arith}
 use Rattle.list_row.specs.Vertices.{CutBetween}
 use Rattle.list_row.specs.Gaps.{Stands}
-use Rattle.list_row.proofs.Bisection.{climb-end, climb-found, climb-more}
+use Rattle.list_row.proofs.Bisection.{climb_end, climb_found, climb_more}
 use Rattle.list_row.proofs.climb.Statement.{statement}
 use Rattle.list_row.proofs.climb.Tie as tie
 
@@ -16,13 +16,13 @@ loop-holds : tie.Need-loop-init invariant-loop decreases-loop
 loop-holds c = search rules
 
 returns : tie.Need-returns invariant-loop decreases-loop
-returns c = climb-end c.before.before.loop.invariant.0 (omega arith) (search rules) c.before.before.loop.invariant.1
+returns c = climb_end c.before.before.loop.invariant.0 (omega arith) (search rules) c.before.before.loop.invariant.1
 
 vertex-in-requires : tie.Need-vertex-in-requires invariant-loop decreases-loop
 vertex-in-requires c κs = (search rules, search rules, search rules)
 
 returns-2 : tie.Need-returns-2 invariant-loop decreases-loop
-returns-2 c = search (rules, climb-found)
+returns-2 c = search (rules, climb_found)
 
 add-i : tie.Need-overflow-add-i invariant-loop decreases-loop
 add-i c = omega arith
@@ -34,7 +34,7 @@ loop-less : tie.Need-loop-smaller invariant-loop decreases-loop
 loop-less c = omega arith
 
 loop-again : tie.Need-loop-preserved invariant-loop decreases-loop
-loop-again c = climb-more c.before.before.before.before.before.loop.invariant.0 (search rules) c.before.before.vertex-in.ensures (omega arith)
+loop-again c = climb_more c.before.before.before.before.before.loop.invariant.0 (search rules) c.before.before.vertex-in.ensures (omega arith)
 
 bisected-requires : tie.Need-bisected-requires invariant-loop decreases-loop
 bisected-requires c κs = search rules

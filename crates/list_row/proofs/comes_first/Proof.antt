@@ -1,5 +1,5 @@
 use borrow.Author.Rules.{rules}
-use Rattle.list_row.proofs.Ranking.{not_first, is-first}
+use Rattle.list_row.proofs.Ranking.{not_first, is_first}
 use Rattle.list_row.proofs.comes_first.Statement.{statement}
 use Rattle.list_row.proofs.comes_first.Tie as tie
 
@@ -19,7 +19,7 @@ returns : tie.Need-returns
 returns c = search (rules, not_first)
 
 returns-2 : tie.Need-returns-2
-returns-2 c = search (rules, is-first)
+returns-2 c = search (rules, is_first)
 
 pub comes-first-spec : {M : Type 1} → statement M
 comes-first-spec =

@@ -1,5 +1,5 @@
 use borrow.Author.Rules.{rules}
-use Rattle.list_row.proofs.Bisection.{stands_at, climb-begun, fall-begun, pair_found}
+use Rattle.list_row.proofs.Bisection.{stands_at, climb_begun, fall_begun, pair_found}
 use Rattle.list_row.proofs.cut_near.Statement.{statement}
 use Rattle.list_row.proofs.cut_near.Tie as tie
 
@@ -19,7 +19,7 @@ add-climb : tie.Need-overflow-add-climb
 add-climb c = search rules
 
 climb-requires : tie.Need-climb-requires
-climb-requires c κs = (search rules, search rules, search rules, search (rules, climb-begun), search (rules, stands_at))
+climb-requires c κs = (search rules, search rules, search rules, search (rules, climb_begun), search (rules, stands_at))
 
 returns : tie.Need-returns
 returns c = search rules
@@ -28,7 +28,7 @@ returns-2 : tie.Need-returns-2
 returns-2 c = search (rules, pair_found)
 
 fall-requires : tie.Need-fall-requires
-fall-requires c κs = (search rules, search rules, search rules, search (rules, fall-begun), search (rules, stands_at))
+fall-requires c κs = (search rules, search rules, search rules, search (rules, fall_begun), search (rules, stands_at))
 
 returns-3 : tie.Need-returns-3
 returns-3 c = search rules

@@ -2,7 +2,7 @@ use borrow.Author.Rules.{rules}
 use native.Mathlib.Omega.{arith}
 use Rattle.list_row.specs.Vertices.{CutBetween}
 use Rattle.list_row.specs.Gaps.{Stands}
-use Rattle.list_row.proofs.Bisection.{fall-end, fall-found, fall-less}
+use Rattle.list_row.proofs.Bisection.{fall_end, fall_found, fall_less}
 use Rattle.list_row.proofs.fall.Statement.{statement}
 use Rattle.list_row.proofs.fall.Tie as tie
 
@@ -16,7 +16,7 @@ loop-holds : tie.Need-loop-init invariant-loop decreases-loop
 loop-holds c = search rules
 
 returns : tie.Need-returns invariant-loop decreases-loop
-returns c = fall-end c.before.before.loop.invariant.0 (omega arith) (search rules) c.before.before.loop.invariant.1
+returns c = fall_end c.before.before.loop.invariant.0 (omega arith) (search rules) c.before.before.loop.invariant.1
 
 sub-vertex-in : tie.Need-overflow-sub-vertex-in invariant-loop decreases-loop
 sub-vertex-in c = omega arith
@@ -25,7 +25,7 @@ vertex-in-requires : tie.Need-vertex-in-requires invariant-loop decreases-loop
 vertex-in-requires c κs = (search rules, search rules, search rules)
 
 returns-2 : tie.Need-returns-2 invariant-loop decreases-loop
-returns-2 c = search (rules, fall-found)
+returns-2 c = search (rules, fall_found)
 
 sub-i : tie.Need-overflow-sub-i invariant-loop decreases-loop
 sub-i c = omega arith
@@ -37,7 +37,7 @@ loop-less : tie.Need-loop-smaller invariant-loop decreases-loop
 loop-less c = omega arith
 
 loop-again : tie.Need-loop-preserved invariant-loop decreases-loop
-loop-again c = fall-less c.before.before.before.before.before.loop.invariant.0 (search rules) c.before.before.vertex-in.ensures (omega arith)
+loop-again c = fall_less c.before.before.before.before.before.loop.invariant.0 (search rules) c.before.before.vertex-in.ensures (omega arith)
 
 bisected-requires : tie.Need-bisected-requires invariant-loop decreases-loop
 bisected-requires c κs = search rules

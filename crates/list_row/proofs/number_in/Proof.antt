@@ -1,5 +1,5 @@
 use borrow.Author.Rules.{rules}
-use Rattle.list_row.proofs.Reading.{number-asks, number_is}
+use Rattle.list_row.proofs.Reading.{number_asks, number_is}
 use Rattle.list_row.proofs.number_in.Statement.{statement}
 use Rattle.list_row.proofs.number_in.Tie as tie
 
@@ -16,7 +16,7 @@ mul-word-2 : tie.Need-overflow-mul-word-2
 mul-word-2 c = search rules
 
 word-requires-2 : tie.Need-word-requires-2
-word-requires-2 c κs = search (rules, number-asks)
+word-requires-2 c κs = search (rules, number_asks)
 
 returns : tie.Need-returns
 returns c = (search number_is, search rules)

@@ -1,5 +1,5 @@
 use borrow.Author.Rules.{rules}
-use Rattle.list_row.proofs.Reading.{site-is}
+use Rattle.list_row.proofs.Reading.{site_is}
 use Rattle.list_row.proofs.site_at.Statement.{statement}
 use Rattle.list_row.proofs.site_at.Tie as tie
 
@@ -22,7 +22,7 @@ word-requires-3 : tie.Need-word-requires-3
 word-requires-3 c κs = search rules
 
 returns : tie.Need-returns
-returns c = search (rules, site-is)
+returns c = search (rules, site_is)
 
 pub site-at-spec : {M : Type 1} → statement M
 site-at-spec =

@@ -1,5 +1,5 @@
 use borrow.Author.Rules.{rules}
-use Rattle.list_row.proofs.Reading.{in-has, in_is}
+use Rattle.list_row.proofs.Reading.{in_has, in_is}
 use Rattle.list_row.proofs.vertex_in.Statement.{statement}
 use Rattle.list_row.proofs.vertex_in.Tie as tie
 
@@ -13,7 +13,7 @@ cast-p : tie.Need-overflow-cast-p
 cast-p c = search rules
 
 vertex-at-requires : tie.Need-vertex-at-requires
-vertex-at-requires c κs = (search (rules, in-has), search rules)
+vertex-at-requires c κs = (search (rules, in_has), search rules)
 
 returns : tie.Need-returns
 returns c = search in_is

@@ -1,6 +1,6 @@
 use borrow.Author.Rules.{rules}
 use native.Mathlib.Omega.{arith}
-use Rattle.split.proofs.Skipping.{shut-edge}
+use Rattle.split.proofs.Skipping.{shut_edge}
 use Rattle.list_skip.proofs.above.Statement.{statement}
 use Rattle.list_skip.proofs.above.Tie as tie
 
@@ -29,7 +29,7 @@ weigh-requires-2 : tie.Need-weigh-requires-2
 weigh-requires-2 c κs = omega (arith, c.before.before.before.before.before.before.before.before.before.before.before.before.before.before.before.before.before.requires)
 
 returns-5 : tie.Need-returns-5
-returns-5 c = search (rules, shut-edge)
+returns-5 c = search (rules, shut_edge)
 
 returns-6 : tie.Need-returns-6
 returns-6 c = search rules

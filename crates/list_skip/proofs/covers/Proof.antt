@@ -1,4 +1,4 @@
-use Rattle.list_skip.proofs.Witnesses.{looked, looked-none}
+use Rattle.list_skip.proofs.Witnesses.{looked, looked_none}
 use borrow.Author.Rules.{rules}
 use Rattle.list_skip.proofs.covers.Statement.{statement}
 use Rattle.list_skip.proofs.covers.Tie as tie
@@ -7,7 +7,7 @@ no-edge-requires : tie.Need-no-edge-requires
 no-edge-requires c κs = search rules
 
 returns : tie.Need-returns
-returns c = search (rules, looked-none)
+returns c = search (rules, looked_none)
 
 cut-near-requires : tie.Need-cut-near-requires
 cut-near-requires c κs = search rules

@@ -1,4 +1,4 @@
-use Rattle.list_skip.proofs.Witnesses.{looked, looked-none}
+use Rattle.list_skip.proofs.Witnesses.{looked, looked_none}
 use borrow.Author.Rules.{rules}
 use Rattle.list_skip.proofs.look.Statement.{statement}
 use Rattle.list_skip.proofs.look.Tie as tie
@@ -7,7 +7,7 @@ no-edge-requires : tie.Need-no-edge-requires
 no-edge-requires c κs = search rules
 
 returns : tie.Need-returns
-returns c = search (rules, looked-none)
+returns c = search (rules, looked_none)
 
 cut-requires : tie.Need-cut-requires
 cut-requires c κs = search rules

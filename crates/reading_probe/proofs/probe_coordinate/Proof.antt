@@ -1,5 +1,5 @@
 use Rattle.readings.proofs.Answers.{finite-told}
-use Rattle.reading_probe.proofs.Asked.{probed-finite, probed-not}
+use Rattle.reading_probe.proofs.Asked.{probed_finite, probed_not}
 use borrow.Author.Rules.{rules}
 use Rattle.reading_probe.proofs.probe_coordinate.Statement.{statement}
 use Rattle.reading_probe.proofs.probe_coordinate.Tie as tie
@@ -17,10 +17,10 @@ cast-result : tie.Need-overflow-cast-result
 cast-result c = search rules
 
 returns : tie.Need-returns
-returns c = search probed-finite
+returns c = search probed_finite
 
 returns-2 : tie.Need-returns-2
-returns-2 c = search probed-not
+returns-2 c = search probed_not
 
 pub probe-coordinate-spec : {M : Type 1} → statement M
 probe-coordinate-spec =

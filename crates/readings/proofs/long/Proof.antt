@@ -1,4 +1,4 @@
-use Rattle.readings.specs.Location.{longAt}
+use Rattle.readings.specs.Location.{long_at}
 use Rattle.std.proofs.Common.{rules}
 use Rattle.readings.proofs.long.Statement.{statement}
 use Rattle.readings.proofs.long.Tie as tie
@@ -25,7 +25,7 @@ add-result : tie.Need-overflow-add-result
 add-result c = search rules
 
 returns : tie.Need-returns
-unfolding longAt
+unfolding long_at
 returns c = search rules
 
 pub long-spec : {M : Type 1} → statement M

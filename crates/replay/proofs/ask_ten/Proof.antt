@@ -1,4 +1,4 @@
-use Rattle.replay.proofs.Citing.{asked-ten}
+use Rattle.replay.proofs.Citing.{asked_ten}
 use borrow.Author.Rules.{rules}
 use Rattle.replay.proofs.ask_ten.Statement.{statement}
 use Rattle.replay.proofs.ask_ten.Tie as tie
@@ -16,7 +16,7 @@ same_length : tie.Need-same-length
 same_length c = search rules
 
 returns : tie.Need-returns
-returns c = search (rules, asked-ten)
+returns c = search (rules, asked_ten)
 
 pub ask-ten-spec : {M : Type 1} → statement M
 ask-ten-spec =

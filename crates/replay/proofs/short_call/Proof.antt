@@ -1,4 +1,4 @@
-use Rattle.replay.proofs.Citing.{short-made}
+use Rattle.replay.proofs.Citing.{short_made}
 use borrow.Author.Rules.{rules}
 use Rattle.replay.proofs.short_call.Statement.{statement}
 use Rattle.replay.proofs.short_call.Tie as tie
@@ -16,7 +16,7 @@ same_length : tie.Need-same-length
 same_length c = search rules
 
 returns : tie.Need-returns
-returns c = search (rules, short-made)
+returns c = search (rules, short_made)
 
 pub short-call-spec : {M : Type 1} → statement M
 short-call-spec =

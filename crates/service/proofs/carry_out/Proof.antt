@@ -1,4 +1,4 @@
-use Rattle.service.proofs.Calls.{served-cleared}
+use Rattle.service.proofs.Calls.{served_cleared}
 use borrow.Author.Rules.{rules}
 use Rattle.service.proofs.carry_out.Statement.{statement}
 use Rattle.service.proofs.carry_out.Tie as tie
@@ -19,7 +19,7 @@ same-length-3 : tie.Need-same-length-3
 same-length-3 c = search rules
 
 returns : tie.Need-returns
-returns c = search (rules, served-cleared)
+returns c = search (rules, served_cleared)
 
 pub carry-out-spec : {M : Type 1} → statement M
 carry-out-spec =

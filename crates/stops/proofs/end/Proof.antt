@@ -1,5 +1,5 @@
 use borrow.Author.Rules.{rules}
-use Rattle.stops.proofs.Serving.{reason-byte}
+use Rattle.stops.proofs.Serving.{reason_byte}
 use Rattle.stops.proofs.end.Statement.{statement}
 use Rattle.stops.proofs.end.Tie as tie
 
@@ -7,7 +7,7 @@ reason-number-requires : tie.Need-reason-number-requires
 reason-number-requires c κs = search rules
 
 cast-t4 : tie.Need-overflow-cast-t4
-cast-t4 c = search (rules, reason-byte)
+cast-t4 c = search (rules, reason_byte)
 
 slice-aggregate-write-all : tie.Need-slice-aggregate-write-all
 slice-aggregate-write-all c = search rules

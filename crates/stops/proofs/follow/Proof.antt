@@ -1,6 +1,6 @@
 use borrow.Author.Rules.{rules}
 use Rattle.book.specs.declared.Reason.TheVariants.{AllUsed, WrongLength, Broken, CutShort, BrokenStanding}
-use Rattle.stops.proofs.Following.{reads_as, ready-as, onward-full, final-unknown}
+use Rattle.stops.proofs.Following.{reads_as, ready_as, onward_full, final_unknown}
 use Rattle.stops.proofs.follow.Statement.{statement}
 use Rattle.stops.proofs.follow.Tie as tie
 
@@ -8,13 +8,13 @@ enum_told : tie.Need-enum-told
 enum_told c = search rules
 
 join-requires : tie.Need-join-requires
-join-requires c κs = (ready-as _ _ c.before.before.before.before.args.reason AllUsed (search rules) c.before.before.before.before.requires.1, search (rules, reads_as))
+join-requires c κs = (ready_as _ _ c.before.before.before.before.args.reason AllUsed (search rules) c.before.before.before.before.requires.1, search (rules, reads_as))
 
 enum-told-2 : tie.Need-enum-told-2
 enum-told-2 c = search rules
 
 join-requires-2 : tie.Need-join-requires-2
-join-requires-2 c κs = (ready-as _ _ c.before.before.before.before.args.reason CutShort (search rules) c.before.before.before.before.requires.1, search (rules, reads_as))
+join-requires-2 c κs = (ready_as _ _ c.before.before.before.before.args.reason CutShort (search rules) c.before.before.before.before.requires.1, search (rules, reads_as))
 
 enum-told-3 : tie.Need-enum-told-3
 enum-told-3 c = search rules
@@ -44,19 +44,19 @@ returns-2 : tie.Need-returns-2
 returns-2 c = search rules
 
 returns-3 : tie.Need-returns-3
-returns-3 c = search (rules, onward-full)
+returns-3 c = search (rules, onward_full)
 
 returns-4 : tie.Need-returns-4
-returns-4 c = search (rules, final-unknown)
+returns-4 c = search (rules, final_unknown)
 
 returns-5 : tie.Need-returns-5
-returns-5 c = absurd (ready-as _ _ c.before.before.before.args.reason WrongLength (search rules) c.before.before.before.requires.1)
+returns-5 c = absurd (ready_as _ _ c.before.before.before.args.reason WrongLength (search rules) c.before.before.before.requires.1)
 
 returns-6 : tie.Need-returns-6
-returns-6 c = absurd (ready-as _ _ c.before.before.before.args.reason Broken (search rules) c.before.before.before.requires.1)
+returns-6 c = absurd (ready_as _ _ c.before.before.before.args.reason Broken (search rules) c.before.before.before.requires.1)
 
 returns-7 : tie.Need-returns-7
-returns-7 c = absurd (ready-as _ _ c.before.before.before.args.reason BrokenStanding (search rules) c.before.before.before.requires.1)
+returns-7 c = absurd (ready_as _ _ c.before.before.before.args.reason BrokenStanding (search rules) c.before.before.before.requires.1)
 
 pub follow-spec : {M : Type 1} → statement M
 follow-spec =

@@ -1,5 +1,5 @@
 use borrow.Author.Rules.{rules}
-use Rattle.stops.proofs.Reading.{read-bytes, read-end, read-failed}
+use Rattle.stops.proofs.Reading.{read_bytes, read_end, read_failed}
 use Rattle.stops.proofs.read_on.Statement.{statement}
 use Rattle.stops.proofs.read_on.Tie as tie
 
@@ -25,7 +25,7 @@ same_length : tie.Need-same-length
 same_length c = search rules
 
 returns : tie.Need-returns
-returns c = search (rules, read-failed)
+returns c = search (rules, read_failed)
 
 count-requires : tie.Need-count-requires
 count-requires c κs = search rules
@@ -34,7 +34,7 @@ same-length-2 : tie.Need-same-length-2
 same-length-2 c = search rules
 
 returns-2 : tie.Need-returns-2
-returns-2 c = search (rules, read-end)
+returns-2 c = search (rules, read_end)
 
 add-all : tie.Need-overflow-add-all
 add-all c = search rules
@@ -43,7 +43,7 @@ same-length-3 : tie.Need-same-length-3
 same-length-3 c = search rules
 
 returns-3 : tie.Need-returns-3
-returns-3 c = search (rules, read-bytes)
+returns-3 c = search (rules, read_bytes)
 
 pub read-on-spec : {M : Type 1} → statement M
 read-on-spec =

@@ -7,7 +7,7 @@ use borrow.Author.Rules.{rules}
 use Rattle.stops.specs.declared.Next.{Next}
 use Rattle.stops.specs.declared.Next.TheVariants.{More}
 use Rattle.stops.specs.contracts.Next.{the_type}
-use Rattle.stops.proofs.Running.{Running, running-first, running-spent, running-next, running-last}
+use Rattle.stops.proofs.Running.{Running, running_first, running_spent, running_next, running_last}
 use Rattle.stops.proofs.run.Statement.{statement}
 use Rattle.stops.proofs.run.Tie as tie
 
@@ -22,7 +22,7 @@ abbrev decreases-loop : tie.decreases-loop
 decreases-loop table₀ work₀ input₀ report₀ held₀ turns₀ table work input report held turns = turns
 
 loop-holds : tie.Need-loop-init invariant-loop decreases-loop
-loop-holds c = search (rules, running-first)
+loop-holds c = search (rules, running_first)
 
 turn-requires : tie.Need-turn-requires invariant-loop decreases-loop
 turn-requires c κs = search rules
@@ -45,7 +45,7 @@ same-length-4 c = search rules
 returns : tie.Need-returns invariant-loop decreases-loop
 returns c =
     let r = c.before.before.before.before.before.before.before.before.before.turn.result in
-    search (rules, running-last, not_more r c.match.keys2)
+    search (rules, running_last, not_more r c.match.keys2)
 
 sub-turns : tie.Need-overflow-sub-turns invariant-loop decreases-loop
 sub-turns c = search rules
@@ -54,7 +54,7 @@ loop-less : tie.Need-loop-smaller invariant-loop decreases-loop
 loop-less c = search rules
 
 loop-again : tie.Need-loop-preserved invariant-loop decreases-loop
-loop-again c = search (rules, running-next)
+loop-again c = search (rules, running_next)
 
 same-length-5 : tie.Need-same-length-5 invariant-loop decreases-loop
 same-length-5 c = search rules
@@ -69,7 +69,7 @@ same-length-8 : tie.Need-same-length-8 invariant-loop decreases-loop
 same-length-8 c = search rules
 
 returns-2 : tie.Need-returns-2 invariant-loop decreases-loop
-returns-2 c = search (rules, running-spent)
+returns-2 c = search (rules, running_spent)
 
 pub run_spec : {M : Type 1} → statement M
 run_spec =

@@ -1,6 +1,6 @@
 use native.Mathlib.Omega.{arith}
 use borrow.Author.Rules.{rules}
-use Rattle.stops.proofs.Serving.{counts-front, used-inside, written-inside, answered}
+use Rattle.stops.proofs.Serving.{counts_front, used_inside, written_inside, answered}
 use Rattle.stops.proofs.serve.Statement.{statement}
 use Rattle.stops.proofs.serve.Tie as tie
 
@@ -8,7 +8,7 @@ slice-reshare-prefix-batch : tie.Need-slice-reshare-prefix-batch
 slice-reshare-prefix-batch c = search rules
 
 slice-aggregate-batch : tie.Need-slice-aggregate-batch
-slice-aggregate-batch c = search (rules, counts-front)
+slice-aggregate-batch c = search (rules, counts_front)
 
 batch-requires : tie.Need-batch-requires
 batch-requires c κs = search rules
@@ -17,13 +17,13 @@ slice-reshare-prefix-write-all : tie.Need-slice-reshare-prefix-write-all
 slice-reshare-prefix-write-all c =
     let p = c.before.before.before.before.before.before.before.before.before.before.before.before.before.before.before.requires in
     let k = c.before.before.before.before.before.before.batch in
-    omega (arith, written-inside _ _ _ _ k.result _ _ _ p.0 p.1.work k.ensures, k.auto.1.1.1.0)
+    omega (arith, written_inside _ _ _ _ k.result _ _ _ p.0 p.1.work k.ensures, k.auto.1.1.1.0)
 
 slice-aggregate-write-all : tie.Need-slice-aggregate-write-all
 slice-aggregate-write-all c =
     let p = c.before.before.before.before.before.before.before.before.before.before.before.before.before.before.before.before.requires in
     let k = c.before.before.before.before.before.before.before.batch in
-    counts-front _ _ (omega (arith, written-inside _ _ _ _ k.result _ _ _ p.0 p.1.work k.ensures, k.auto.1.1.1.0))
+    counts_front _ _ (omega (arith, written_inside _ _ _ _ k.result _ _ _ p.0 p.1.work k.ensures, k.auto.1.1.1.0))
 
 write-all-requires : tie.Need-write-all-requires
 write-all-requires c κs = search rules
@@ -32,7 +32,7 @@ keep-requires : tie.Need-keep-requires
 keep-requires c κs =
     let p = c.before.before.before.before.before.before.before.before.before.before.before.before.before.before.before.before.before.before.requires in
     let k = c.before.before.before.before.before.before.before.before.before.batch in
-    (omega (arith, used-inside _ _ _ _ k.result _ _ _ p.0 p.1.work k.ensures, counts-front c.before.before.before.before.before.before.before.before.before.before.before.before.before.before.before.before.before.before.args.held c.before.before.before.before.before.before.before.before.before.before.before.before.before.before.before.before.before.before.args.input.now p.2), search rules)
+    (omega (arith, used_inside _ _ _ _ k.result _ _ _ p.0 p.1.work k.ensures, counts_front c.before.before.before.before.before.before.before.before.before.before.before.before.before.before.before.before.before.before.args.held c.before.before.before.before.before.before.before.before.before.before.before.before.before.before.before.before.before.before.args.input.now p.2), search rules)
 
 same_length : tie.Need-same-length
 same_length c = search rules

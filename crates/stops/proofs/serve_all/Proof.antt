@@ -1,5 +1,5 @@
 use borrow.Author.Rules.{rules}
-use Rattle.stops.proofs.Running.{laid-sound, program}
+use Rattle.stops.proofs.Running.{laid_sound, program}
 use Rattle.stops.proofs.serve_all.Statement.{statement}
 use Rattle.stops.proofs.serve_all.Tie as tie
 
@@ -7,7 +7,7 @@ lay-out-requires : tie.Need-lay-out-requires
 lay-out-requires c κs = search rules
 
 run-requires : tie.Need-run-requires
-run-requires c κs = (search (rules, laid-sound), search rules)
+run-requires c κs = (search (rules, laid_sound), search rules)
 
 same_length : tie.Need-same-length
 same_length c = search rules

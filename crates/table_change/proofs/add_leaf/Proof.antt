@@ -1,4 +1,4 @@
-use Rattle.table_change.proofs.Relining.{added-noted, noted-told}
+use Rattle.table_change.proofs.Relining.{added_noted, noted_told}
 use borrow.Author.Rules.{rules}
 use Rattle.table_change.proofs.add_leaf.Statement.{statement}
 use Rattle.table_change.proofs.add_leaf.Tie as tie
@@ -21,7 +21,7 @@ same_length c = search rules
 
 -- src/lib.rt:34:1
 returns : tie.Need-returns
-returns c = (search (rules, added-noted), search (rules, noted-told))
+returns c = (search (rules, added_noted), search (rules, noted_told))
 
 pub add-leaf-spec : {M : Type 1} → statement M
 add-leaf-spec = tie.close (tie.spec add-requires store-requires same_length returns)

@@ -1,4 +1,4 @@
-use Rattle.table_change.proofs.Accepting.{begin-done, stored-alone}
+use Rattle.table_change.proofs.Accepting.{begin_done, stored_alone}
 use borrow.Author.Rules.{rules}
 use Rattle.table_change.proofs.begin.Statement.{statement}
 use Rattle.table_change.proofs.begin.Tie as tie
@@ -13,7 +13,7 @@ same_length : tie.Need-same-length
 same_length c = search rules
 
 returns : tie.Need-returns
-returns c = (search (rules, begin-done), search (rules, stored-alone))
+returns c = (search (rules, begin_done), search (rules, stored_alone))
 
 pub begin-spec : {M : Type 1} → statement M
 begin-spec = tie.close (tie.spec store-tour-requires same_length returns)

@@ -1,4 +1,4 @@
-use Rattle.table_change.proofs.Accepting.{ended-whole, ended-idle, ended_at, remove-patch, remove-gone, remove-done}
+use Rattle.table_change.proofs.Accepting.{ended_whole, ended_idle, ended_at, remove_patch, remove_gone, remove_done}
 use borrow.Author.Rules.{rules}
 use Rattle.table_change.proofs.delete.Statement.{statement}
 use Rattle.table_change.proofs.delete.Tie as tie
@@ -12,10 +12,10 @@ end-tour-requires : tie.Need-end-tour-requires
 end-tour-requires c κs = search rules
 
 shrink-requires : tie.Need-shrink-requires
-shrink-requires c κs = (search (rules, ended-whole), search (rules, ended-idle), search (rules, ended_at))
+shrink-requires c κs = (search (rules, ended_whole), search (rules, ended_idle), search (rules, ended_at))
 
 patch-gone-requires : tie.Need-patch-gone-requires
-patch-gone-requires c κs = (search (rules, remove-patch), search (rules, remove-gone), search rules)
+patch-gone-requires c κs = (search (rules, remove_patch), search (rules, remove_gone), search rules)
 
 same_length : tie.Need-same-length
 same_length c = search rules
@@ -24,7 +24,7 @@ same-length-2 : tie.Need-same-length-2
 same-length-2 c = search rules
 
 returns : tie.Need-returns
-returns c = search (rules, remove-done)
+returns c = search (rules, remove_done)
 
 pub delete-spec : {M : Type 1} → statement M
 delete-spec =

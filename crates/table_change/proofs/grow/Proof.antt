@@ -1,16 +1,16 @@
-use Rattle.table_change.proofs.Relining.{whole-array, whole_room, absent-inside, changed-rooted, grow-few, grown}
+use Rattle.table_change.proofs.Relining.{whole_array, whole_room, absent_inside, changed_rooted, grow_few, grown}
 use borrow.Author.Rules.{rules}
 use Rattle.table_change.proofs.grow.Statement.{statement}
 use Rattle.table_change.proofs.grow.Tie as tie
 
 insert-requires : tie.Need-insert-requires
-insert-requires c κs = (search (rules, whole-array), search (rules, whole_room), search (rules, absent-inside))
+insert-requires c κs = (search (rules, whole_array), search (rules, whole_room), search (rules, absent_inside))
 
 leaf-entry-requires : tie.Need-leaf-entry-requires
 leaf-entry-requires c κs = search rules
 
 add-leaf-requires : tie.Need-add-leaf-requires
-add-leaf-requires c κs = (search (rules, changed-rooted), search (rules, grow-few))
+add-leaf-requires c κs = (search (rules, changed_rooted), search (rules, grow_few))
 
 same_length : tie.Need-same-length
 same_length c = search rules

@@ -1,4 +1,4 @@
-use Rattle.table_change.proofs.Accepting.{ended-whole, ended-idle, ended-nowhere, ended-room, add-patch, add-stands, add_done}
+use Rattle.table_change.proofs.Accepting.{ended_whole, ended_idle, ended_nowhere, ended_room, add_patch, add_stands, add_done}
 use borrow.Author.Rules.{rules}
 use Rattle.table_change.proofs.insert.Statement.{statement}
 use Rattle.table_change.proofs.insert.Tie as tie
@@ -12,10 +12,10 @@ end-tour-requires : tie.Need-end-tour-requires
 end-tour-requires c κs = search rules
 
 grow-requires : tie.Need-grow-requires
-grow-requires c κs = ((search (rules, ended-whole), search (rules, ended-idle), search (rules, ended-nowhere), search (rules, ended-room)), search rules)
+grow-requires c κs = ((search (rules, ended_whole), search (rules, ended_idle), search (rules, ended_nowhere), search (rules, ended_room)), search rules)
 
 patch-requires : tie.Need-patch-requires
-patch-requires c κs = (search (rules, add-patch), search (rules, add-stands), search rules)
+patch-requires c κs = (search (rules, add_patch), search (rules, add_stands), search rules)
 
 same_length : tie.Need-same-length
 same_length c = search rules

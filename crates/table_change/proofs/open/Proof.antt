@@ -1,4 +1,4 @@
-use Rattle.table_change.proofs.Accepting.{turn-few, open-turned, open-same}
+use Rattle.table_change.proofs.Accepting.{turn_few, open_turned, open_same}
 use borrow.Author.Rules.{rules}
 use Rattle.table_change.proofs.open.Statement.{statement}
 use Rattle.table_change.proofs.open.Tie as tie
@@ -8,7 +8,7 @@ use Rattle.table_change.proofs.turn.Reads as turn-reads
 use Rattle.table_sites.proofs.mark.Reads as mark-reads
 
 mark-requires : tie.Need-mark-requires
-mark-requires c κs = (search rules, search (rules, turn-few))
+mark-requires c κs = (search rules, search (rules, turn_few))
 
 turn-requires : tie.Need-turn-requires
 turn-requires c κs = search rules
@@ -20,13 +20,13 @@ same-length-2 : tie.Need-same-length-2
 same-length-2 c = search rules
 
 returns : tie.Need-returns
-returns c = search (rules, open-turned)
+returns c = search (rules, open_turned)
 
 same-length-3 : tie.Need-same-length-3
 same-length-3 c = search rules
 
 returns-2 : tie.Need-returns-2
-returns-2 c = search (rules, open-same)
+returns-2 c = search (rules, open_same)
 
 pub open_spec : {M : Type 1} → statement M
 open_spec =

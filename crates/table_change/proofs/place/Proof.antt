@@ -1,4 +1,4 @@
-use Rattle.table_change.proofs.Accepting.{ended-whole, ended-idle, ended_at, move-patch, move-stands, move-done}
+use Rattle.table_change.proofs.Accepting.{ended_whole, ended_idle, ended_at, move_patch, move_stands, move_done}
 use borrow.Author.Rules.{rules}
 use Rattle.table_change.proofs.place.Statement.{statement}
 use Rattle.table_change.proofs.place.Tie as tie
@@ -12,10 +12,10 @@ end-tour-requires : tie.Need-end-tour-requires
 end-tour-requires c κs = search rules
 
 relocate-requires : tie.Need-relocate-requires
-relocate-requires c κs = (search (rules, ended-whole), search (rules, ended-idle), search (rules, ended_at), search rules)
+relocate-requires c κs = (search (rules, ended_whole), search (rules, ended_idle), search (rules, ended_at), search rules)
 
 patch-requires : tie.Need-patch-requires
-patch-requires c κs = (search (rules, move-patch), search (rules, move-stands), search rules)
+patch-requires c κs = (search (rules, move_patch), search (rules, move_stands), search rules)
 
 same_length : tie.Need-same-length
 same_length c = search rules
@@ -24,7 +24,7 @@ same-length-2 : tie.Need-same-length-2
 same-length-2 c = search rules
 
 returns : tie.Need-returns
-returns c = search (rules, move-done)
+returns c = search (rules, move_done)
 
 pub place-spec : {M : Type 1} → statement M
 place-spec =

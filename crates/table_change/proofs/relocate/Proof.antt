@@ -1,4 +1,4 @@
-use Rattle.table_change.proofs.Relining.{line-few, whole-array, at-inside, changed-rooted, leaf-there, leaves-few, moved}
+use Rattle.table_change.proofs.Relining.{line_few, whole_array, at_inside, changed_rooted, leaf_there, leaves_few, moved}
 use borrow.Author.Rules.{rules}
 use Rattle.table_change.proofs.relocate.Statement.{statement}
 use Rattle.table_change.proofs.relocate.Tie as tie
@@ -11,10 +11,10 @@ use Rattle.table_sites.proofs.mark.Reads as mark-reads
 use Rattle.tree_check.proofs.leaf_entry.Reads as leaf-entry-reads
 
 mark-requires : tie.Need-mark-requires
-mark-requires c κs = (search rules, search (rules, line-few))
+mark-requires c κs = (search rules, search (rules, line_few))
 
 line-requires : tie.Need-line-requires
-line-requires c κs = (search rules, search (rules, line-few))
+line-requires c κs = (search rules, search (rules, line_few))
 
 leaf-entry-requires : tie.Need-leaf-entry-requires
 leaf-entry-requires c κs = search rules
@@ -23,10 +23,10 @@ leaf-entry-requires-2 : tie.Need-leaf-entry-requires-2
 leaf-entry-requires-2 c κs = search rules
 
 place-requires : tie.Need-place-requires
-place-requires c κs = (search (rules, whole-array), search (rules, at-inside))
+place-requires c κs = (search (rules, whole_array), search (rules, at_inside))
 
 swap-leaf-requires : tie.Need-swap-leaf-requires
-swap-leaf-requires c κs = (search (rules, changed-rooted), search (rules, leaf-there), search (rules, leaves-few))
+swap-leaf-requires c κs = (search (rules, changed_rooted), search (rules, leaf_there), search (rules, leaves_few))
 
 same_length : tie.Need-same-length
 same_length c = search rules

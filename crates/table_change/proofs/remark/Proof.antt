@@ -1,4 +1,4 @@
-use Rattle.table_change.proofs.Relining.{line-few, whole-array, at-inside, changed-rooted, leaf-there, leaves-few, marked}
+use Rattle.table_change.proofs.Relining.{line_few, whole_array, at_inside, changed_rooted, leaf_there, leaves_few, marked}
 use borrow.Author.Rules.{rules}
 use Rattle.table_change.proofs.remark.Statement.{statement}
 use Rattle.table_change.proofs.remark.Tie as tie
@@ -11,10 +11,10 @@ use Rattle.table_sites.proofs.mark.Reads as mark-reads
 use Rattle.tree_check.proofs.leaf_entry.Reads as leaf-entry-reads
 
 line-requires : tie.Need-line-requires
-line-requires c κs = (search rules, search (rules, line-few))
+line-requires c κs = (search rules, search (rules, line_few))
 
 mark-requires : tie.Need-mark-requires
-mark-requires c κs = (search rules, search (rules, line-few))
+mark-requires c κs = (search rules, search (rules, line_few))
 
 leaf-entry-requires : tie.Need-leaf-entry-requires
 leaf-entry-requires c κs = search rules
@@ -23,15 +23,15 @@ leaf-entry-requires-2 : tie.Need-leaf-entry-requires-2
 leaf-entry-requires-2 c κs = search rules
 
 mark-requires-2 : tie.Need-mark-requires-2
-mark-requires-2 c κs = (search (rules, whole-array), search (rules, at-inside), search rules)
+mark-requires-2 c κs = (search (rules, whole_array), search (rules, at_inside), search rules)
 
 swap-leaf-requires : tie.Need-swap-leaf-requires
 swap-leaf-requires c κs =
     let s = c.before.before.before.before.before.before.before.before.before.before.before.before in
     let there = c.before.before.before.mark2.ensures in (
-      changed-rooted _ _ _ _ s.requires.0 there,
-      leaf-there _ _ _ _ s.requires.0 s.requires.1 s.requires.2 _ _ _ _ _ c.before.before.before.before.before.before.before.before.before.line.ensures c.before.before.before.before.before.before.before.mark.ensures c.before.before.before.before.before.before.leaf-entry.ensures there,
-      leaves-few _ _ _ _ s.requires.0 s.requires.1 s.requires.2 _ _ there,
+      changed_rooted _ _ _ _ s.requires.0 there,
+      leaf_there _ _ _ _ s.requires.0 s.requires.1 s.requires.2 _ _ _ _ _ c.before.before.before.before.before.before.before.before.before.line.ensures c.before.before.before.before.before.before.before.mark.ensures c.before.before.before.before.before.before.leaf-entry.ensures there,
+      leaves_few _ _ _ _ s.requires.0 s.requires.1 s.requires.2 _ _ there,
     )
 
 same_length : tie.Need-same-length

@@ -1,4 +1,4 @@
-use Rattle.table_change.proofs.Relining.{removed-noted, noted-told}
+use Rattle.table_change.proofs.Relining.{removed_noted, noted_told}
 use borrow.Author.Rules.{rules}
 use Rattle.table_change.proofs.remove_leaf.Statement.{statement}
 use Rattle.table_change.proofs.remove_leaf.Tie as tie
@@ -21,7 +21,7 @@ same_length c = search rules
 
 -- src/lib.rt:43:1
 returns : tie.Need-returns
-returns c = (search (rules, removed-noted), search (rules, noted-told))
+returns c = (search (rules, removed_noted), search (rules, noted_told))
 
 pub remove-leaf-spec : {M : Type 1} → statement M
 remove-leaf-spec = tie.close (tie.spec remove-requires store-requires same_length returns)

@@ -1,4 +1,4 @@
-use Rattle.table_change.proofs.Relining.{line-few, whole-array, at-inside, changed-rooted, leaf-there, shrunk}
+use Rattle.table_change.proofs.Relining.{line_few, whole_array, at_inside, changed_rooted, leaf_there, shrunk}
 use borrow.Author.Rules.{rules}
 use Rattle.table_change.proofs.shrink.Statement.{statement}
 use Rattle.table_change.proofs.shrink.Tie as tie
@@ -11,19 +11,19 @@ use Rattle.tree_check.proofs.leaf_entry.Reads as leaf-entry-reads
 use Rattle.table_change.proofs.remove_leaf.Reads as remove-leaf-reads
 
 line-requires : tie.Need-line-requires
-line-requires c κs = (search rules, search (rules, line-few))
+line-requires c κs = (search rules, search (rules, line_few))
 
 mark-requires : tie.Need-mark-requires
-mark-requires c κs = (search rules, search (rules, line-few))
+mark-requires c κs = (search rules, search (rules, line_few))
 
 leaf-entry-requires : tie.Need-leaf-entry-requires
 leaf-entry-requires c κs = search rules
 
 delete-requires : tie.Need-delete-requires
-delete-requires c κs = (search (rules, whole-array), search (rules, at-inside))
+delete-requires c κs = (search (rules, whole_array), search (rules, at_inside))
 
 remove-leaf-requires : tie.Need-remove-leaf-requires
-remove-leaf-requires c κs = (search (rules, changed-rooted), search (rules, leaf-there))
+remove-leaf-requires c κs = (search (rules, changed_rooted), search (rules, leaf_there))
 
 same_length : tie.Need-same-length
 same_length c = search rules

@@ -1,4 +1,4 @@
-use Rattle.table_change.proofs.Relining.{swap-few, swapped}
+use Rattle.table_change.proofs.Relining.{swap_few, swapped}
 use borrow.Author.Rules.{rules}
 use Rattle.table_change.proofs.swap_leaf.Statement.{statement}
 use Rattle.table_change.proofs.swap_leaf.Tie as tie
@@ -7,7 +7,7 @@ remove-requires : tie.Need-remove-requires
 remove-requires c κs = search rules
 
 add-leaf-requires : tie.Need-add-leaf-requires
-add-leaf-requires c κs = (search rules, search (rules, swap-few))
+add-leaf-requires c κs = (search rules, search (rules, swap_few))
 
 same_length : tie.Need-same-length
 same_length c = search rules

@@ -1,4 +1,4 @@
-use Rattle.table_check.proofs.Deciding.{unnamed-ok, named-few, named-says, named-not}
+use Rattle.table_check.proofs.Deciding.{unnamed_ok, named_few, named_says, named_not}
 use borrow.Author.Rules.{rules}
 use Rattle.table_check.proofs.remembered_ok.Statement.{statement}
 use Rattle.table_check.proofs.remembered_ok.Tie as tie
@@ -8,7 +8,7 @@ use Rattle.table_sites.proofs.find.Reads as find-reads
 use Rattle.table_sites.proofs.mark.Reads as mark-reads
 
 returns : tie.Need-returns
-returns c = search (rules, unnamed-ok)
+returns c = search (rules, unnamed_ok)
 
 find-requires : tie.Need-find-requires
 find-requires c κs = search rules
@@ -17,16 +17,16 @@ enum-known-found : tie.Need-enum-known-found
 enum-known-found c = search rules
 
 mark-requires : tie.Need-mark-requires
-mark-requires c κs = (search rules, search (rules, named-few))
+mark-requires c κs = (search rules, search (rules, named_few))
 
 enum_told : tie.Need-enum-told
 enum_told c = search rules
 
 returns-2 : tie.Need-returns-2
-returns-2 c = search (rules, named-says)
+returns-2 c = search (rules, named_says)
 
 returns-3 : tie.Need-returns-3
-returns-3 c = search (rules, named-not)
+returns-3 c = search (rules, named_not)
 
 pub remembered-ok-spec : {M : Type 1} → statement M
 remembered-ok-spec =

@@ -1,4 +1,4 @@
-use Rattle.table_check.proofs.Deciding.{unset-says, along-off, along-grid, along-says}
+use Rattle.table_check.proofs.Deciding.{unset_says, along_off, along_grid, along_says}
 use borrow.Author.Rules.{rules}
 use Rattle.table_check.proofs.standing_ok.Statement.{statement}
 use Rattle.table_check.proofs.standing_ok.Tie as tie
@@ -19,7 +19,7 @@ leg-on-grid-requires : tie.Need-leg-on-grid-requires
 leg-on-grid-requires c κs = search rules
 
 search-requires : tie.Need-search-requires
-search-requires c κs = (search rules, search (rules, along-grid), search rules)
+search-requires c κs = (search rules, search (rules, along_grid), search rules)
 
 list-matches-requires : tie.Need-list-matches-requires
 list-matches-requires c κs = search rules
@@ -28,13 +28,13 @@ same_length : tie.Need-same-length
 same_length c = search rules
 
 returns : tie.Need-returns
-returns c = search (rules, along-says)
+returns c = search (rules, along_says)
 
 returns-2 : tie.Need-returns-2
-returns-2 c = search (rules, unset-says)
+returns-2 c = search (rules, unset_says)
 
 returns-3 : tie.Need-returns-3
-returns-3 c = search (rules, along-off)
+returns-3 c = search (rules, along_off)
 
 pub standing-ok-spec : {M : Type 1} → statement M
 standing-ok-spec =

@@ -1,4 +1,4 @@
-use Rattle.table_check.proofs.Deciding.{idle-ok, corner-off, corner-says}
+use Rattle.table_check.proofs.Deciding.{idle_ok, corner_off, corner_says}
 use borrow.Author.Rules.{rules}
 use Rattle.table_check.proofs.tour_ok.Statement.{statement}
 use Rattle.table_check.proofs.tour_ok.Tie as tie
@@ -24,13 +24,13 @@ remembered-ok-requires : tie.Need-remembered-ok-requires
 remembered-ok-requires c κs = search rules
 
 returns : tie.Need-returns
-returns c = search (rules, corner-says)
+returns c = search (rules, corner_says)
 
 returns-2 : tie.Need-returns-2
-returns-2 c = search (rules, corner-off)
+returns-2 c = search (rules, corner_off)
 
 returns-3 : tie.Need-returns-3
-returns-3 c = search (rules, idle-ok)
+returns-3 c = search (rules, idle_ok)
 
 pub tour-ok-spec : {M : Type 1} → statement M
 tour-ok-spec =

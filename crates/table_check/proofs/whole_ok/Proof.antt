@@ -1,4 +1,4 @@
-use Rattle.table_check.proofs.Deciding.{sites-yes, sites-not, header-not, tour-not, whole_says}
+use Rattle.table_check.proofs.Deciding.{sites_yes, sites_not, header_not, tour_not, whole_says}
 use lib.Seq.{length-take-le}
 use borrow.Author.Rules.{rules}
 use Rattle.table_check.proofs.whole_ok.Statement.{statement}
@@ -17,7 +17,7 @@ header-ok-requires : tie.Need-header-ok-requires
 header-ok-requires c κs = search rules
 
 tour-ok-requires : tie.Need-tour-ok-requires
-tour-ok-requires c κs = (search rules, search (rules, sites-yes))
+tour-ok-requires c κs = (search rules, search (rules, sites_yes))
 
 slice-relend-prefix-check : tie.Need-slice-relend-prefix-check
 slice-relend-prefix-check c = search rules
@@ -26,7 +26,7 @@ slice-aggregate-check : tie.Need-slice-aggregate-check
 slice-aggregate-check c = search (rules, length-take-le)
 
 check-requires-2 : tie.Need-check-requires-2
-check-requires-2 c κs = (search (rules, sites-yes), search (rules, length-take-le))
+check-requires-2 c κs = (search (rules, sites_yes), search (rules, length-take-le))
 
 same_length : tie.Need-same-length
 same_length c = search rules
@@ -35,13 +35,13 @@ returns : tie.Need-returns
 returns c = search (rules, whole_says)
 
 returns-2 : tie.Need-returns-2
-returns-2 c = search (rules, tour-not)
+returns-2 c = search (rules, tour_not)
 
 returns-3 : tie.Need-returns-3
-returns-3 c = search (rules, header-not)
+returns-3 c = search (rules, header_not)
 
 returns-4 : tie.Need-returns-4
-returns-4 c = search (rules, sites-not)
+returns-4 c = search (rules, sites_not)
 
 pub whole-ok-spec : {M : Type 1} → statement M
 whole-ok-spec =

@@ -5,7 +5,7 @@ use mathlib.Core.List.{◌++◌}
 use Prim.Native.Nat.{◌-◌, ◌≤◌}
 use lib.ListN.{length, drop, length-set}
 use Rattle.table_empty.specs.EmptyTable.{zeros}
-use Rattle.table_empty.proofs.Laying.{clear_next, clear-all}
+use Rattle.table_empty.proofs.Laying.{clear_next, clear_all}
 use Rattle.table_empty.proofs.clear.Statement.{statement}
 use Rattle.table_empty.proofs.clear.Tie as tie
 
@@ -34,7 +34,7 @@ same_length : tie.Need-same-length invariant-loop decreases-loop
 same_length c = search rules
 
 returns : tie.Need-returns invariant-loop decreases-loop
-returns c = search clear-all
+returns c = search clear_all
 
 pub clear_spec : {M : Type 1} → statement M
 clear_spec =

@@ -1,4 +1,4 @@
-use Rattle.table_header.proofs.Tours.{tour-ended}
+use Rattle.table_header.proofs.Tours.{tour_ended}
 use borrow.Author.Rules.{rules}
 use Rattle.table_header.proofs.end_tour.Statement.{statement}
 use Rattle.table_header.proofs.end_tour.Tie as tie
@@ -13,7 +13,7 @@ same_length : tie.Need-same-length
 same_length c = search rules
 
 returns : tie.Need-returns
-returns c = search (rules, tour-ended)
+returns c = search (rules, tour_ended)
 
 pub end-tour-spec : {M : Type 1} → statement M
 end-tour-spec = tie.close (tie.spec put-tour-requires same_length returns)

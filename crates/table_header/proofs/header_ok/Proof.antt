@@ -1,4 +1,4 @@
-use Rattle.table_header.proofs.Zeros.{leg-left, tour-left, header-says}
+use Rattle.table_header.proofs.Zeros.{leg_left, tour_left, header_says}
 use borrow.Author.Rules.{rules}
 use Rattle.table_header.proofs.header_ok.Statement.{statement}
 use Rattle.table_header.proofs.header_ok.Tie as tie
@@ -24,13 +24,13 @@ zero-from-requires : tie.Need-zero-from-requires
 zero-from-requires c κs = search rules
 
 returns-2 : tie.Need-returns-2
-returns-2 c = search (rules, header-says)
+returns-2 c = search (rules, header_says)
 
 returns-3 : tie.Need-returns-3
-returns-3 c = search (rules, tour-left)
+returns-3 c = search (rules, tour_left)
 
 returns-4 : tie.Need-returns-4
-returns-4 c = search (rules, leg-left)
+returns-4 c = search (rules, leg_left)
 
 pub header-ok-spec : {M : Type 1} → statement M
 header-ok-spec =

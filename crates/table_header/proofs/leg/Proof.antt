@@ -1,4 +1,4 @@
-use Rattle.table_header.proofs.Legs.{unset-is, along-is}
+use Rattle.table_header.proofs.Legs.{unset_is, along_is}
 use borrow.Author.Rules.{rules}
 use Rattle.table_header.proofs.leg.Statement.{statement}
 use Rattle.table_header.proofs.leg.Tie as tie
@@ -7,7 +7,7 @@ word-requires : tie.Need-word-requires
 word-requires c κs = search rules
 
 returns : tie.Need-returns
-returns c = search (rules, unset-is)
+returns c = search (rules, unset_is)
 
 position-at-requires : tie.Need-position-at-requires
 position-at-requires c κs = search rules
@@ -19,7 +19,7 @@ position-at-requires-2 : tie.Need-position-at-requires-2
 position-at-requires-2 c κs = search rules
 
 returns-2 : tie.Need-returns-2
-returns-2 c = search (rules, along-is)
+returns-2 c = search (rules, along_is)
 
 pub leg-spec : {M : Type 1} → statement M
 leg-spec =

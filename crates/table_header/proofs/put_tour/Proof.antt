@@ -1,4 +1,4 @@
-use Rattle.table_header.proofs.Tours.{tour-put}
+use Rattle.table_header.proofs.Tours.{tour_put}
 use borrow.Author.Rules.{rules}
 use Rattle.table_header.proofs.put_tour.Statement.{statement}
 use Rattle.table_header.proofs.put_tour.Tie as tie
@@ -20,7 +20,7 @@ same_length : tie.Need-same-length
 same_length c = search rules
 
 returns : tie.Need-returns
-returns c = search (rules, tour-put)
+returns c = search (rules, tour_put)
 
 pub put-tour-spec : {M : Type 1} → statement M
 put-tour-spec =

@@ -1,4 +1,4 @@
-use Rattle.table_header.proofs.Legs.{leg-stored}
+use Rattle.table_header.proofs.Legs.{leg_stored}
 use borrow.Author.Rules.{rules}
 use Rattle.table_header.proofs.store_leg.Statement.{statement}
 use Rattle.table_header.proofs.store_leg.Tie as tie
@@ -19,7 +19,7 @@ same_length : tie.Need-same-length
 same_length c = search rules
 
 returns : tie.Need-returns
-returns c = search (rules, leg-stored)
+returns c = search (rules, leg_stored)
 
 pub store-leg-spec : {M : Type 1} → statement M
 store-leg-spec =

@@ -1,4 +1,4 @@
-use Rattle.table_header.proofs.Legs.{position-stored}
+use Rattle.table_header.proofs.Legs.{position_stored}
 use borrow.Author.Rules.{rules}
 use Rattle.table_header.proofs.store_position.Statement.{statement}
 use Rattle.table_header.proofs.store_position.Tie as tie
@@ -16,7 +16,7 @@ same_length : tie.Need-same-length
 same_length c = search rules
 
 returns : tie.Need-returns
-returns c = search (rules, position-stored)
+returns c = search (rules, position_stored)
 
 pub store-position-spec : {M : Type 1} → statement M
 store-position-spec =

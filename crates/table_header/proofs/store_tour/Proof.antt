@@ -1,4 +1,4 @@
-use Rattle.table_header.proofs.Tours.{tour-stored}
+use Rattle.table_header.proofs.Tours.{tour_stored}
 use borrow.Author.Rules.{rules}
 use Rattle.table_header.proofs.store_tour.Statement.{statement}
 use Rattle.table_header.proofs.store_tour.Tie as tie
@@ -13,7 +13,7 @@ same_length : tie.Need-same-length
 same_length c = search rules
 
 returns : tie.Need-returns
-returns c = search (rules, tour-stored)
+returns c = search (rules, tour_stored)
 
 pub store-tour-spec : {M : Type 1} → statement M
 store-tour-spec = tie.close (tie.spec put-tour-requires same_length returns)

@@ -1,4 +1,4 @@
-use Rattle.table_header.proofs.Tours.{idle-is, from_is}
+use Rattle.table_header.proofs.Tours.{idle_is, from_is}
 use borrow.Author.Rules.{rules}
 use Rattle.table_header.proofs.tour.Statement.{statement}
 use Rattle.table_header.proofs.tour.Tie as tie
@@ -11,7 +11,7 @@ word-requires : tie.Need-word-requires
 word-requires c κs = search rules
 
 returns : tie.Need-returns
-returns c = search (rules, idle-is)
+returns c = search (rules, idle_is)
 
 position-at-requires : tie.Need-position-at-requires
 position-at-requires c κs = search rules

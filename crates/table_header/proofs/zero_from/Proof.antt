@@ -1,7 +1,7 @@
 use borrow.Author.Rules.{rules}
 use native.Mathlib.Omega.{arith}
 use Prim.Native.Nat.{◌-◌}
-use Rattle.table_header.proofs.Zeros.{Zeroing, zeroing-none, zeroing-one, zeroing-all, not-zero}
+use Rattle.table_header.proofs.Zeros.{Zeroing, zeroing_none, zeroing_one, zeroing_all, not_zero}
 use Rattle.table_header.proofs.zero_from.Statement.{statement}
 use Rattle.table_header.proofs.zero_from.Tie as tie
 
@@ -12,13 +12,13 @@ abbrev decreases-loop : tie.decreases-loop
 decreases-loop t lo hi i₀ i = hi - i
 
 loop-holds : tie.Need-loop-init invariant-loop decreases-loop
-loop-holds c = search (rules, zeroing-none)
+loop-holds c = search (rules, zeroing_none)
 
 shared-slice-read-if1 : tie.Need-shared-slice-read-if1 invariant-loop decreases-loop
 shared-slice-read-if1 c = omega arith
 
 returns : tie.Need-returns invariant-loop decreases-loop
-returns c = search (rules, not-zero)
+returns c = search (rules, not_zero)
 
 add-i : tie.Need-overflow-add-i invariant-loop decreases-loop
 add-i c = omega arith
@@ -27,10 +27,10 @@ loop-less : tie.Need-loop-smaller invariant-loop decreases-loop
 loop-less c = omega arith
 
 loop-again : tie.Need-loop-preserved invariant-loop decreases-loop
-loop-again c = search (rules, zeroing-one)
+loop-again c = search (rules, zeroing_one)
 
 returns-2 : tie.Need-returns-2 invariant-loop decreases-loop
-returns-2 c = search (rules, zeroing-all)
+returns-2 c = search (rules, zeroing_all)
 
 pub zero-from-spec : {M : Type 1} → statement M
 zero-from-spec =

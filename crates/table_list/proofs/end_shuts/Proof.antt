@@ -1,5 +1,5 @@
 use borrow.Author.Rules.{rules}
-use Rattle.table_list.proofs.Ends.{shut-true}
+use Rattle.table_list.proofs.Ends.{shut_true}
 use Rattle.table_list.proofs.end_shuts.Statement.{statement}
 use Rattle.table_list.proofs.end_shuts.Tie as tie
 
@@ -16,7 +16,7 @@ entry-shuts-requires : tie.Need-entry-shuts-requires
 entry-shuts-requires c κs = search rules
 
 returns-2 : tie.Need-returns-2
-returns-2 c = search (rules, shut-true)
+returns-2 c = search (rules, shut_true)
 
 entry-shuts-requires-2 : tie.Need-entry-shuts-requires-2
 entry-shuts-requires-2 c κs = search rules

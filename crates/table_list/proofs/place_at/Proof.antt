@@ -1,10 +1,10 @@
 use borrow.Author.Rules.{rules}
-use Rattle.table_list.proofs.Records.{start-few, place_is}
+use Rattle.table_list.proofs.Records.{start_few, place_is}
 use Rattle.table_list.proofs.place_at.Statement.{statement}
 use Rattle.table_list.proofs.place_at.Tie as tie
 
 place-of-record-requires : tie.Need-place-of-record-requires
-place-of-record-requires c κs = search (rules, start-few)
+place-of-record-requires c κs = search (rules, start_few)
 
 returns : tie.Need-returns
 returns c = search (rules, place_is)

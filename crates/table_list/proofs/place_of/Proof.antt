@@ -1,4 +1,4 @@
-use Rattle.table_list.proofs.Records.{at-found, never-absent}
+use Rattle.table_list.proofs.Records.{at_found, never_absent}
 use borrow.Author.Rules.{rules}
 use Rattle.table_list.proofs.place_of.Statement.{statement}
 use Rattle.table_list.proofs.place_of.Tie as tie
@@ -10,7 +10,7 @@ enum-known-found : tie.Need-enum-known-found
 enum-known-found c = search rules
 
 place-at-requires : tie.Need-place-at-requires
-place-at-requires c κs = (search rules, search rules, search (rules, at-found))
+place-at-requires c κs = (search rules, search rules, search (rules, at_found))
 
 enum_told : tie.Need-enum-told
 enum_told c = search rules
@@ -19,7 +19,7 @@ returns : tie.Need-returns
 returns c = search rules
 
 returns-2 : tie.Need-returns-2
-returns-2 c = search (rules, never-absent)
+returns-2 c = search (rules, never_absent)
 
 pub place-of-spec : {M : Type 1} → statement M
 place-of-spec =

@@ -1,7 +1,7 @@
 use borrow.Author.Rules.{rules}
 use native.Mathlib.Omega.{arith}
 use Prim.Native.Nat.{◌-◌}
-use Rattle.table_list.proofs.Rows.{Loading, loading-none, loading-one, loading-all, number-held}
+use Rattle.table_list.proofs.Rows.{Loading, loading_none, loading_one, loading_all, number_held}
 use Rattle.table_list.proofs.places.Statement.{statement}
 use Rattle.table_list.proofs.places.Tie as tie
 
@@ -15,13 +15,13 @@ length-requires : tie.Need-length-requires invariant-loop decreases-loop
 length-requires c κs = search rules
 
 loop-holds : tie.Need-loop-init invariant-loop decreases-loop
-loop-holds c = search (rules, loading-none)
+loop-holds c = search (rules, loading_none)
 
 number-requires : tie.Need-number-requires invariant-loop decreases-loop
 number-requires c κs = search rules
 
 place-of-requires : tie.Need-place-of-requires invariant-loop decreases-loop
-place-of-requires c κs = (search rules, search rules, search (rules, number-held))
+place-of-requires c κs = (search rules, search rules, search (rules, number_held))
 
 put-place-requires : tie.Need-put-place-requires invariant-loop decreases-loop
 put-place-requires c κs = omega arith
@@ -33,13 +33,13 @@ loop-less : tie.Need-loop-smaller invariant-loop decreases-loop
 loop-less c = omega arith
 
 loop-again : tie.Need-loop-preserved invariant-loop decreases-loop
-loop-again c = search (rules, loading-one)
+loop-again c = search (rules, loading_one)
 
 same_length : tie.Need-same-length invariant-loop decreases-loop
 same_length c = omega arith
 
 returns : tie.Need-returns invariant-loop decreases-loop
-returns c = search (rules, loading-all)
+returns c = search (rules, loading_all)
 
 pub places-spec : {M : Type 1} → statement M
 places-spec =

@@ -1,4 +1,4 @@
-use Rattle.table_patch.proofs.Patching.{others-held, others-leg, shut-holds}
+use Rattle.table_patch.proofs.Patching.{others_held, others_leg, shut_holds}
 use borrow.Author.Rules.{rules}
 use Rattle.table_patch.proofs.deal_along.Statement.{statement}
 use Rattle.table_patch.proofs.deal_along.Tie as tie
@@ -7,16 +7,16 @@ place-at-requires : tie.Need-place-at-requires
 place-at-requires c κs = search rules
 
 vertex-at-requires : tie.Need-vertex-at-requires
-vertex-at-requires c κs = (search rules, search (rules, others-leg))
+vertex-at-requires c κs = (search rules, search (rules, others_leg))
 
 end-shuts-requires : tie.Need-end-shuts-requires
-end-shuts-requires c κs = ((search rules, search rules, search (rules, others-held)), (search (rules, others-leg), search rules))
+end-shuts-requires c κs = ((search rules, search rules, search (rules, others_held)), (search (rules, others_leg), search rules))
 
 same_length : tie.Need-same-length
 same_length c = search rules
 
 returns : tie.Need-returns
-returns c = search (rules, shut-holds)
+returns c = search (rules, shut_holds)
 
 deal-in-requires : tie.Need-deal-in-requires
 deal-in-requires c κs = search rules

@@ -1,4 +1,4 @@
-use Rattle.table_patch.proofs.Patching.{along-is, unset-holds}
+use Rattle.table_patch.proofs.Patching.{along_is, unset_holds}
 use borrow.Author.Rules.{rules}
 use Rattle.table_patch.proofs.deal_site.Statement.{statement}
 use Rattle.table_patch.proofs.deal_site.Tie as tie
@@ -13,13 +13,13 @@ enum-known-s : tie.Need-enum-known-s
 enum-known-s c = search rules
 
 deal-along-requires : tie.Need-deal-along-requires
-deal-along-requires c κs = ((search rules, search rules, search (rules, along-is), search rules), search rules)
+deal-along-requires c κs = ((search rules, search rules, search (rules, along_is), search rules), search rules)
 
 same_length : tie.Need-same-length
 same_length c = search rules
 
 returns : tie.Need-returns
-returns c = search (rules, unset-holds)
+returns c = search (rules, unset_holds)
 
 same-length-2 : tie.Need-same-length-2
 same-length-2 c = search rules

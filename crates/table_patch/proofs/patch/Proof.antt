@@ -1,4 +1,4 @@
-use Rattle.table_patch.proofs.Patching.{patch-few, patch-open, patch-shut}
+use Rattle.table_patch.proofs.Patching.{patch_few, patch_open, patch_shut}
 use borrow.Author.Rules.{rules}
 use Rattle.table_patch.proofs.patch.Statement.{statement}
 use Rattle.table_patch.proofs.patch.Tie as tie
@@ -9,10 +9,10 @@ use Rattle.table_patch.proofs.patch_held.Reads as patch-held-reads
 use Rattle.table_sites.proofs.mark.Reads as mark-reads
 
 mark-requires : tie.Need-mark-requires
-mark-requires c κs = (search rules, search (rules, patch-few))
+mark-requires c κs = (search rules, search (rules, patch_few))
 
 patch-held-requires : tie.Need-patch-held-requires
-patch-held-requires c κs = (search rules, search rules, search (rules, patch-open), search rules)
+patch-held-requires c κs = (search rules, search rules, search (rules, patch_open), search rules)
 
 same_length : tie.Need-same-length
 same_length c = search rules
@@ -24,7 +24,7 @@ returns : tie.Need-returns
 returns c = search rules
 
 patch-gone-requires : tie.Need-patch-gone-requires
-patch-gone-requires c κs = (search rules, search (rules, patch-shut), search rules)
+patch-gone-requires c κs = (search rules, search (rules, patch_shut), search rules)
 
 same-length-3 : tie.Need-same-length-3
 same-length-3 c = search rules

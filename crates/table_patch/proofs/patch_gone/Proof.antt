@@ -1,4 +1,4 @@
-use Rattle.table_patch.proofs.Patching.{patch-gone}
+use Rattle.table_patch.proofs.Patching.{patch_gone}
 use borrow.Author.Rules.{rules}
 use Rattle.table_patch.proofs.patch_gone.Statement.{statement}
 use Rattle.table_patch.proofs.patch_gone.Tie as tie
@@ -22,7 +22,7 @@ same-length-3 : tie.Need-same-length-3
 same-length-3 c = search rules
 
 returns-2 : tie.Need-returns-2
-returns-2 c = search (rules, patch-gone)
+returns-2 c = search (rules, patch_gone)
 
 pub patch-gone-spec : {M : Type 1} → statement M
 patch-gone-spec =

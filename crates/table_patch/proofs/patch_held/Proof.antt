@@ -1,4 +1,4 @@
-use Rattle.table_patch.proofs.Patching.{patch-others}
+use Rattle.table_patch.proofs.Patching.{patch_others}
 use borrow.Author.Rules.{rules}
 use Rattle.table_patch.proofs.patch_held.Statement.{statement}
 use Rattle.table_patch.proofs.patch_held.Tie as tie
@@ -19,7 +19,7 @@ returns : tie.Need-returns
 returns c = search rules
 
 deal-site-requires : tie.Need-deal-site-requires
-deal-site-requires c κs = (search rules, (search (rules, patch-others), search rules, search rules))
+deal-site-requires c κs = (search rules, (search (rules, patch_others), search rules, search rules))
 
 same-length-3 : tie.Need-same-length-3
 same-length-3 c = search rules

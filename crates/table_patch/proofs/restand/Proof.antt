@@ -1,4 +1,4 @@
-use Rattle.table_patch.proofs.Restanding.{along-leg, restood-none, restood-list}
+use Rattle.table_patch.proofs.Restanding.{along_leg, restood_none, restood_list}
 use borrow.Author.Rules.{rules}
 use Rattle.table_patch.proofs.restand.Statement.{statement}
 use Rattle.table_patch.proofs.restand.Tie as tie
@@ -16,7 +16,7 @@ enum-known-s : tie.Need-enum-known-s
 enum-known-s c = search rules
 
 search-requires : tie.Need-search-requires
-search-requires c κs = (search rules, search (rules, along-leg), search rules)
+search-requires c κs = (search rules, search (rules, along_leg), search rules)
 
 store-list-requires : tie.Need-store-list-requires
 store-list-requires c κs = search rules
@@ -25,7 +25,7 @@ same_length : tie.Need-same-length
 same_length c = search rules
 
 returns : tie.Need-returns
-returns c = search (rules, restood-none)
+returns c = search (rules, restood_none)
 
 same-length-2 : tie.Need-same-length-2
 same-length-2 c = search rules
@@ -34,7 +34,7 @@ same-length-3 : tie.Need-same-length-3
 same-length-3 c = search rules
 
 returns-2 : tie.Need-returns-2
-returns-2 c = search (rules, restood-list)
+returns-2 c = search (rules, restood_list)
 
 pub restand-spec : {M : Type 1} → statement M
 restand-spec =

@@ -1,5 +1,5 @@
 use native.Mathlib.Omega.{arith}
-use Rattle.table_sites.proofs.Finding.{find-up, find-down, find_at, find_absent}
+use Rattle.table_sites.proofs.Finding.{find_up, find_down, find_at, find_absent}
 use borrow.Author.Rules.{rules}
 use Rattle.table_sites.specs.Lines.{Narrowed}
 use Prim.Native.Nat.{◌-◌}
@@ -38,7 +38,7 @@ loop-less c = search rules
 loop-again : tie.Need-loop-preserved invariant-loop decreases-loop
 loop-again c =
     let s = c.before.before.before.before in
-    find-up s.before.before.requires.0 s.loop.invariant c.before.before.number.ensures (omega arith) (omega arith)
+    find_up s.before.before.requires.0 s.loop.invariant c.before.before.number.ensures (omega arith) (omega arith)
 
 loop-less-2 : tie.Need-loop-smaller-2 invariant-loop decreases-loop
 loop-less-2 c = search rules
@@ -46,7 +46,7 @@ loop-less-2 c = search rules
 loop-again-2 : tie.Need-loop-preserved-2 invariant-loop decreases-loop
 loop-again-2 c =
     let s = c.before.before.before.before in
-    find-down s.before.before.requires.0 s.loop.invariant c.before.before.number.ensures (omega arith) (omega arith)
+    find_down s.before.before.requires.0 s.loop.invariant c.before.before.number.ensures (omega arith) (omega arith)
     (omega arith)
 
 returns-2 : tie.Need-returns-2 invariant-loop decreases-loop

@@ -2,7 +2,7 @@ use native.Mathlib.Omega.{arith}
 use Prim.Native.Nat.{◌-◌}
 use borrow.Author.Rules.{rules}
 use Rattle.table_sites.specs.Lines.{Narrowed}
-use Rattle.table_sites.proofs.Finding.{find-up, find-down, find_at}
+use Rattle.table_sites.proofs.Finding.{find_up, find_down, find_at}
 use Rattle.table_sites.proofs.climb.Statement.{statement}
 use Rattle.table_sites.proofs.climb.Tie as tie
 
@@ -32,7 +32,7 @@ returns c =
 bisect-requires : tie.Need-bisect-requires invariant-loop decreases-loop
 bisect-requires c κs =
     let s = c.before.before.before.before in
-    (search rules, find-down s.before.before.requires.0 s.loop.invariant c.before.before.number.ensures (omega arith) (omega arith) (omega arith))
+    (search rules, find_down s.before.before.requires.0 s.loop.invariant c.before.before.number.ensures (omega arith) (omega arith) (omega arith))
 
 returns-2 : tie.Need-returns-2 invariant-loop decreases-loop
 returns-2 c = search rules
@@ -52,7 +52,7 @@ loop-less c = search rules
 loop-again : tie.Need-loop-preserved invariant-loop decreases-loop
 loop-again c =
     let s = c.before.before.before.before in
-    find-up s.before.before.requires.0 s.loop.invariant c.before.before.number.ensures (omega arith) (omega arith)
+    find_up s.before.before.requires.0 s.loop.invariant c.before.before.number.ensures (omega arith) (omega arith)
 
 bisect-requires-2 : tie.Need-bisect-requires-2 invariant-loop decreases-loop
 bisect-requires-2 c κs = search rules

@@ -1,4 +1,4 @@
-use Rattle.table_sites.proofs.Finding.{find_none, guessed-at, guessed-low, guessed-high}
+use Rattle.table_sites.proofs.Finding.{find_none, guessed_at, guessed_low, guessed_high}
 use borrow.Author.Rules.{rules}
 use Rattle.table_sites.proofs.find.Statement.{statement}
 use Rattle.table_sites.proofs.find.Tie as tie
@@ -16,13 +16,13 @@ number-requires : tie.Need-number-requires
 number-requires c κs = search rules
 
 returns-2 : tie.Need-returns-2
-returns-2 c = search (rules, guessed-at)
+returns-2 c = search (rules, guessed_at)
 
 add-bisect : tie.Need-overflow-add-bisect
 add-bisect c = search rules
 
 bisect-requires : tie.Need-bisect-requires
-bisect-requires c κs = (search rules, search (rules, guessed-low))
+bisect-requires c κs = (search rules, search (rules, guessed_low))
 
 returns-3 : tie.Need-returns-3
 returns-3 c = search rules
@@ -34,7 +34,7 @@ lowest-requires : tie.Need-lowest-requires
 lowest-requires c κs = search rules
 
 find-spread-requires : tie.Need-find-spread-requires
-find-spread-requires c κs = (search rules, search (rules, guessed-high), search rules)
+find-spread-requires c κs = (search rules, search (rules, guessed_high), search rules)
 
 returns-4 : tie.Need-returns-4
 returns-4 c = search rules

@@ -1,4 +1,4 @@
-use Rattle.table_sites.proofs.Finding.{find-begun, guessed-at}
+use Rattle.table_sites.proofs.Finding.{find_begun, guessed_at}
 use native.Mathlib.Omega.{arith}
 use borrow.Author.Rules.{rules}
 use Rattle.table_sites.proofs.find_near.Statement.{statement}
@@ -22,10 +22,10 @@ number-requires-2 c κs = search rules
 returns : tie.Need-returns
 returns c =
     let s = c.before.before.before.before.before.before in
-    guessed-at _ _ _ _ _ s.before.before.requires s.count.ensures.0 (omega arith) c.before.number2.ensures (omega arith)
+    guessed_at _ _ _ _ _ s.before.before.requires s.count.ensures.0 (omega arith) c.before.number2.ensures (omega arith)
 
 bisect-requires : tie.Need-bisect-requires
-bisect-requires c κs = (search rules, search (rules, find-begun))
+bisect-requires c κs = (search rules, search (rules, find_begun))
 
 returns-2 : tie.Need-returns-2
 returns-2 c = search rules

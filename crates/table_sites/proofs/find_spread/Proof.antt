@@ -1,6 +1,6 @@
 use native.Mathlib.Omega.{arith}
 use borrow.Author.Rules.{rules}
-use Rattle.table_sites.proofs.Finding.{find-up, find-down, find_at, find_absent}
+use Rattle.table_sites.proofs.Finding.{find_up, find_down, find_at, find_absent}
 use Rattle.table_sites.proofs.find_spread.Statement.{statement}
 use Rattle.table_sites.proofs.find_spread.Tie as tie
 
@@ -24,7 +24,7 @@ add-climb c = search rules
 climb-requires : tie.Need-climb-requires
 climb-requires c κs =
     let s = c.before.before.before.before.before.before in
-    (search rules, find-up s.requires.0 s.requires.1 c.before.before.number.ensures (omega arith) (omega arith))
+    (search rules, find_up s.requires.0 s.requires.1 c.before.before.number.ensures (omega arith) (omega arith))
 
 returns-3 : tie.Need-returns-3
 returns-3 c = search rules
@@ -32,7 +32,7 @@ returns-3 c = search rules
 fall-requires : tie.Need-fall-requires
 fall-requires c κs =
     let s = c.before.before.before.before.before.before in
-    (search rules, find-down s.requires.0 s.requires.1 c.before.before.number.ensures (omega arith) (omega arith) (omega arith))
+    (search rules, find_down s.requires.0 s.requires.1 c.before.before.number.ensures (omega arith) (omega arith) (omega arith))
 
 returns-4 : tie.Need-returns-4
 returns-4 c = search rules

@@ -1,4 +1,4 @@
-use Rattle.table_sites.proofs.Reading.{site-is}
+use Rattle.table_sites.proofs.Reading.{site_is}
 use borrow.Author.Rules.{rules}
 use Rattle.table_sites.proofs.line.Statement.{statement}
 use Rattle.table_sites.proofs.line.Tie as tie
@@ -25,7 +25,7 @@ word-requires-3 : tie.Need-word-requires-3
 word-requires-3 c κs = search rules
 
 returns : tie.Need-returns
-returns c = search (rules, site-is)
+returns c = search (rules, site_is)
 
 pub line-spec : {M : Type 1} → statement M
 line-spec =

@@ -1,7 +1,7 @@
 use borrow.Author.Rules.{rules}
 use native.Mathlib.Omega.{arith}
 use Prim.Native.Nat.{◌-◌}
-use Rattle.table_standing.proofs.Numbers.{Numbering, numbering-none, numbering-one, numbering-all, site-there}
+use Rattle.table_standing.proofs.Numbers.{Numbering, numbering_none, numbering_one, numbering_all, site_there}
 use Rattle.table_standing.proofs.number_row.Statement.{statement}
 use Rattle.table_standing.proofs.number_row.Tie as tie
 
@@ -12,10 +12,10 @@ abbrev decreases-loop : tie.decreases-loop
 decreases-loop t work₀ k i₀ work i = k - i
 
 loop-holds : tie.Need-loop-init invariant-loop decreases-loop
-loop-holds c = search (rules, numbering-none)
+loop-holds c = search (rules, numbering_none)
 
 number-in-requires : tie.Need-number-in-requires invariant-loop decreases-loop
-number-in-requires c κs = (omega arith, search (rules, site-there))
+number-in-requires c κs = (omega arith, search (rules, site_there))
 
 mul-put-word : tie.Need-overflow-mul-put-word invariant-loop decreases-loop
 mul-put-word c = omega arith
@@ -30,13 +30,13 @@ loop-less : tie.Need-loop-smaller invariant-loop decreases-loop
 loop-less c = omega arith
 
 loop-again : tie.Need-loop-preserved invariant-loop decreases-loop
-loop-again c = search (rules, numbering-one)
+loop-again c = search (rules, numbering_one)
 
 same_length : tie.Need-same-length invariant-loop decreases-loop
 same_length c = omega arith
 
 returns : tie.Need-returns invariant-loop decreases-loop
-returns c = search (rules, numbering-all)
+returns c = search (rules, numbering_all)
 
 pub number-row-spec : {M : Type 1} → statement M
 number-row-spec =

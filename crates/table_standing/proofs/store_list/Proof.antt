@@ -1,4 +1,4 @@
-use Rattle.table_standing.proofs.Stored.{list-stored}
+use Rattle.table_standing.proofs.Stored.{list_stored}
 use borrow.Author.Rules.{rules}
 use Rattle.table_standing.proofs.store_list.Statement.{statement}
 use Rattle.table_standing.proofs.store_list.Tie as tie
@@ -25,7 +25,7 @@ same-length-2 : tie.Need-same-length-2
 same-length-2 c = search rules
 
 returns : tie.Need-returns
-returns c = search (rules, list-stored)
+returns c = search (rules, list_stored)
 
 pub store-list-spec : {M : Type 1} → statement M
 store-list-spec =

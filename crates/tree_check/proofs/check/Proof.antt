@@ -1,4 +1,4 @@
-use Rattle.tree_check.proofs.Opens.{check-no, check-opens}
+use Rattle.tree_check.proofs.Opens.{check_no, check_opens}
 use borrow.Author.Rules.{rules}
 use Rattle.tree_check.proofs.check.Statement.{statement}
 use Rattle.tree_check.proofs.check.Tie as tie
@@ -26,7 +26,7 @@ same_length c = search rules
 
 -- src/lib.rt:76:9
 returns : tie.Need-returns
-returns c = search check-opens
+returns c = search check_opens
 
 -- src/lib.rt:69:1
 same-length-2 : tie.Need-same-length-2
@@ -34,7 +34,7 @@ same-length-2 c = search rules
 
 -- src/lib.rt:69:1
 returns-2 : tie.Need-returns-2
-returns-2 c = search check-no
+returns-2 c = search check_no
 
 pub check-spec : {M : Type 1} → statement M
 check-spec =

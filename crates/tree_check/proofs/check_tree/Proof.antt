@@ -1,6 +1,6 @@
-use Rattle.tree_check.proofs.Marking.{blank-bits}
-use Rattle.tree_check.proofs.RootPassing.{bits-next}
-use Rattle.tree_check.proofs.Tying.{check-root-no, check-free-no, check-told}
+use Rattle.tree_check.proofs.Marking.{blank_bits}
+use Rattle.tree_check.proofs.RootPassing.{bits_next}
+use Rattle.tree_check.proofs.Tying.{check_root_no, check_free_no, check_told}
 use borrow.Author.Rules.{rules}
 use Rattle.tree_check.proofs.check_tree.Statement.{statement}
 use Rattle.tree_check.proofs.check_tree.Tie as tie
@@ -15,17 +15,17 @@ clear-requires : tie.Need-clear-requires
 clear-requires c κs = search rules
 
 check-root-requires : tie.Need-check-root-requires
-check-root-requires c κs = search (rules, blank-bits)
+check-root-requires c κs = search (rules, blank_bits)
 
 check-free-requires : tie.Need-check-free-requires
 check-free-requires c κs = (
   search rules,
   search rules,
-  bits-next _ _ _ _ _ c.before.before.before.before.check-root.ensures c.before.if1.true,
+  bits_next _ _ _ _ _ c.before.before.before.before.check-root.ensures c.before.if1.true,
 )
 
-add-full : tie.Need-overflow-add-full
-add-full c = search rules
+add_full : tie.Need-overflow-add-full
+add_full c = search rules
 
 full-requires : tie.Need-full-requires
 full-requires c κs = search rules
@@ -34,19 +34,19 @@ same_length : tie.Need-same-length
 same_length c = search rules
 
 returns : tie.Need-returns
-returns c = search check-told
+returns c = search check_told
 
 same-length-2 : tie.Need-same-length-2
 same-length-2 c = search rules
 
 returns-2 : tie.Need-returns-2
-returns-2 c = search check-free-no
+returns-2 c = search check_free_no
 
 same-length-3 : tie.Need-same-length-3
 same-length-3 c = search rules
 
 returns-3 : tie.Need-returns-3
-returns-3 c = search check-root-no
+returns-3 c = search check_root_no
 
 pub check-tree-spec : {M : Type 1} → statement M
 check-tree-spec =
@@ -57,7 +57,7 @@ check-tree-spec =
     clear-requires
     check-root-requires
     check-free-requires
-    add-full
+    add_full
     full-requires
     same_length
     returns

@@ -1,6 +1,6 @@
 use mathlib.Core.Path.{sym, ◌∙◌}
 use mathlib.Core.List.{[]}
-use Rattle.tree_search.proofs.Finding.{empty-found, top-readable, top-some, top-ahead, top-found}
+use Rattle.tree_search.proofs.Finding.{empty_found, top_readable, top_some, top_ahead, top_found}
 use borrow.Author.Rules.{rules}
 use Rattle.tree_search.proofs.search.Statement.{statement}
 use Rattle.tree_search.proofs.search.Tie as tie
@@ -21,10 +21,10 @@ search-node-requires : tie.Need-search-node-requires
 search-node-requires c κs =
     let s = c.before.before.before.before.before.before.before.before in
     let q = sym c.before.before.before.before.before.read-root.ensures ∙ c.before.before.before.root.given.1 in
-    ((top-readable _ _ _ s.requires.0.0 q, top-some _ _ _ s.requires.0.0 q), (top-ahead _ _ _ s.requires.0.0 q _ _ s.requires.0.1 s.requires.0.2 s.requires.1.0 s.requires.1.1, c.before.no_edge.ensures []))
+    ((top_readable _ _ _ s.requires.0.0 q, top_some _ _ _ s.requires.0.0 q), (top_ahead _ _ _ s.requires.0.0 q _ _ s.requires.0.1 s.requires.0.2 s.requires.1.0 s.requires.1.1, c.before.no_edge.ensures []))
 
 returns : tie.Need-returns
-returns c = empty-found _ (sym c.before.before.read-root.ensures ∙ c.enum_told.given.1) _ _
+returns c = empty_found _ (sym c.before.before.read-root.ensures ∙ c.enum_told.given.1) _ _
 
 same_length : tie.Need-same-length
 same_length c = search rules
@@ -33,7 +33,7 @@ returns-2 : tie.Need-returns-2
 returns-2 c =
     let s = c.before.before.before.before.before.before.before.before.before.before.before in
     let q = sym c.before.before.before.before.before.before.before.before.read-root.ensures ∙ c.before.before.before.before.before.before.root.given.1 in
-    top-found _ _ _ s.requires.0.0 q _ _ _ _ c.before.before.search-node.ensures
+    top_found _ _ _ s.requires.0.0 q _ _ _ _ c.before.before.search-node.ensures
 
 pub search-spec : {M : Type 1} → statement M
 search-spec =

@@ -1,6 +1,6 @@
 use native.Mathlib.Omega.{arith}
 use lib.ListN.{length-set}
-use Rattle.words.specs.Words.{putWord}
+use Rattle.words.specs.Words.{put_word}
 use borrow.Author.Rules.{rules}
 use Rattle.words.proofs.put_word.Statement.{statement}
 use Rattle.words.proofs.put_word.Tie as tie
@@ -24,7 +24,7 @@ same_length : tie.Need-same-length
 same_length c = search rules
 
 returns : tie.Need-returns
-unfolding putWord
+unfolding put_word
 returns c = search rules
 
 pub put-word-spec : {M : Type 1} → statement M

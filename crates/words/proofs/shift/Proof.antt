@@ -1,7 +1,7 @@
 use borrow.Author.Rules.{rules}
 use native.Mathlib.Omega.{arith}
 use Prim.Native.Nat.{◌-◌}
-use Rattle.words.proofs.Copying.{Shifting, shift_none, shifting-none, shifting-one, shifting-all}
+use Rattle.words.proofs.Copying.{Shifting, shift_none, shifting_none, shifting_one, shifting_all}
 use Rattle.words.proofs.shift.Statement.{statement}
 use Rattle.words.proofs.shift.Tie as tie
 
@@ -15,7 +15,7 @@ returns : tie.Need-returns invariant-loop decreases-loop
 returns c = search (rules, shift_none)
 
 loop-holds : tie.Need-loop-init invariant-loop decreases-loop
-loop-holds c = search (rules, shifting-none)
+loop-holds c = search (rules, shifting_none)
 
 in-turn-requires : tie.Need-in-turn-requires invariant-loop decreases-loop
 in-turn-requires c κs = search rules
@@ -39,13 +39,13 @@ loop-less : tie.Need-loop-smaller invariant-loop decreases-loop
 loop-less c = omega arith
 
 loop-again : tie.Need-loop-preserved invariant-loop decreases-loop
-loop-again c = search (rules, shifting-one)
+loop-again c = search (rules, shifting_one)
 
 same_length : tie.Need-same-length invariant-loop decreases-loop
 same_length c = omega arith
 
 returns-2 : tie.Need-returns-2 invariant-loop decreases-loop
-returns-2 c = search (rules, shifting-all)
+returns-2 c = search (rules, shifting_all)
 
 pub shift-spec : {M : Type 1} → statement M
 shift-spec =

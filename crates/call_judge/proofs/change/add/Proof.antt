@@ -1,4 +1,4 @@
-use Rattle.call_judge.proofs.Deciding.{good-number, good-grid, good-add, bad-add}
+use Rattle.call_judge.proofs.Deciding.{good_number, good_grid, good_add, bad_add}
 use borrow.Author.Rules.{rules}
 use Rattle.call_judge.proofs.change.add.Statement.{statement}
 use Rattle.call_judge.proofs.change.add.Tie as tie
@@ -13,13 +13,13 @@ enum-known-tested-2 : tie.Need-enum-known-tested-2
 enum-known-tested-2 c = search rules
 
 add-site-requires : tie.Need-add-site-requires
-add-site-requires c κs = (search rules, search (rules, good-number), search (rules, good-grid))
+add-site-requires c κs = (search rules, search (rules, good_number), search (rules, good_grid))
 
 returns : tie.Need-returns
-returns c = search (rules, bad-add)
+returns c = search (rules, bad_add)
 
 returns-2 : tie.Need-returns-2
-returns-2 c = search (rules, good-add)
+returns-2 c = search (rules, good_add)
 
 pub add_spec : {M : Type 1} → statement M
 add_spec =

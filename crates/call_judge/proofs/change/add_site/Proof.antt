@@ -1,4 +1,4 @@
-use Rattle.call_judge.proofs.Deciding.{add-full, absent-few, add-held, add_done}
+use Rattle.call_judge.proofs.Deciding.{add_full, absent_few, add_held_lem, add_done}
 use borrow.Author.Rules.{rules}
 use Rattle.call_judge.proofs.change.add_site.Statement.{statement}
 use Rattle.call_judge.proofs.change.add_site.Tie as tie
@@ -16,13 +16,13 @@ enum-known-found : tie.Need-enum-known-found
 enum-known-found c = search rules
 
 returns : tie.Need-returns
-returns c = search (rules, add-full)
+returns c = search (rules, add_full)
 
 narrow-requires : tie.Need-narrow-requires
-narrow-requires c κs = search (rules, absent-few)
+narrow-requires c κs = search (rules, absent_few)
 
 returns-2 : tie.Need-returns-2
-returns-2 c = search (rules, add-held)
+returns-2 c = search (rules, add_held_lem)
 
 returns-3 : tie.Need-returns-3
 returns-3 c = search (rules, add_done)

@@ -1,4 +1,4 @@
-use Rattle.call_judge.proofs.Deciding.{close-zero, at-few, close-done, close-absent}
+use Rattle.call_judge.proofs.Deciding.{close_zero, at_few, close_done, close_absent}
 use borrow.Author.Rules.{rules}
 use Rattle.call_judge.proofs.change.close.Statement.{statement}
 use Rattle.call_judge.proofs.change.close.Tie as tie
@@ -8,7 +8,7 @@ use Rattle.call_judge.proofs.change.narrow.Reads as narrow-reads
 use Rattle.table_sites.proofs.find.Reads as find-reads
 
 returns : tie.Need-returns
-returns c = search (rules, close-zero)
+returns c = search (rules, close_zero)
 
 find-requires : tie.Need-find-requires
 find-requires c κs = search rules
@@ -17,16 +17,16 @@ enum-known-found : tie.Need-enum-known-found
 enum-known-found c = search rules
 
 narrow-requires : tie.Need-narrow-requires
-narrow-requires c κs = search (rules, at-few)
+narrow-requires c κs = search (rules, at_few)
 
 enum_told : tie.Need-enum-told
 enum_told c = search rules
 
 returns-2 : tie.Need-returns-2
-returns-2 c = search (rules, close-done)
+returns-2 c = search (rules, close_done)
 
 returns-3 : tie.Need-returns-3
-returns-3 c = search (rules, close-absent)
+returns-3 c = search (rules, close_absent)
 
 pub close_spec : {M : Type 1} → statement M
 close_spec =

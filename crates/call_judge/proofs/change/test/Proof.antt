@@ -1,4 +1,4 @@
-use Rattle.call_judge.proofs.Deciding.{test-not-finite, test_good, test-off}
+use Rattle.call_judge.proofs.Deciding.{test_not_finite, test_good, test_off}
 use borrow.Author.Rules.{rules}
 use Rattle.call_judge.proofs.change.test.Statement.{statement}
 use Rattle.call_judge.proofs.change.test.Tie as tie
@@ -16,7 +16,7 @@ enum_told : tie.Need-enum-told
 enum_told c = search rules
 
 returns-2 : tie.Need-returns-2
-returns-2 c = search (rules, test-not-finite)
+returns-2 c = search (rules, test_not_finite)
 
 on-grid-requires : tie.Need-on-grid-requires
 on-grid-requires c κs = search rules
@@ -25,7 +25,7 @@ returns-3 : tie.Need-returns-3
 returns-3 c = search (rules, test_good)
 
 returns-4 : tie.Need-returns-4
-returns-4 c = search (rules, test-off)
+returns-4 c = search (rules, test_off)
 
 pub test-spec : {M : Type 1} → statement M
 test-spec =

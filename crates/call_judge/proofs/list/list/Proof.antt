@@ -1,4 +1,4 @@
-use Rattle.call_judge.proofs.Deciding.{list-none, leg-yes, list_done, list-off}
+use Rattle.call_judge.proofs.Deciding.{list_none, leg_yes, list_done, list_off}
 use borrow.Author.Rules.{rules}
 use Rattle.call_judge.proofs.list.list.Statement.{statement}
 use Rattle.call_judge.proofs.list.list.Tie as tie
@@ -11,13 +11,13 @@ leg-on-grid-requires : tie.Need-leg-on-grid-requires
 leg-on-grid-requires c κs = search rules
 
 search-requires : tie.Need-search-requires
-search-requires c κs = (search rules, search (rules, leg-yes), search rules)
+search-requires c κs = (search rules, search (rules, leg_yes), search rules)
 
 same_length : tie.Need-same-length
 same_length c = search rules
 
 returns : tie.Need-returns
-returns c = search (rules, list-none)
+returns c = search (rules, list_none)
 
 same-length-2 : tie.Need-same-length-2
 same-length-2 c = search rules
@@ -26,7 +26,7 @@ returns-2 : tie.Need-returns-2
 returns-2 c = search (rules, list_done)
 
 returns-3 : tie.Need-returns-3
-returns-3 c = search (rules, list-off)
+returns-3 c = search (rules, list_off)
 
 pub list-spec : {M : Type 1} → statement M
 list-spec =

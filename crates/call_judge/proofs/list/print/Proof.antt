@@ -1,4 +1,4 @@
-use Rattle.call_judge.proofs.Deciding.{print-along, print-unset}
+use Rattle.call_judge.proofs.Deciding.{print_along, print_unset}
 use borrow.Author.Rules.{rules}
 use Rattle.call_judge.proofs.list.print.Statement.{statement}
 use Rattle.call_judge.proofs.list.print.Tie as tie
@@ -13,10 +13,10 @@ enum-known-s : tie.Need-enum-known-s
 enum-known-s c = search rules
 
 stored-requires : tie.Need-stored-requires
-stored-requires c κs = (search rules, search (rules, print-along), search rules)
+stored-requires c κs = (search rules, search (rules, print_along), search rules)
 
 returns : tie.Need-returns
-returns c = search (rules, print-unset)
+returns c = search (rules, print_unset)
 
 same_length : tie.Need-same-length
 same_length c = search rules

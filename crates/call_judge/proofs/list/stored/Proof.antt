@@ -1,4 +1,4 @@
-use Rattle.call_judge.proofs.Deciding.{stored-none, stored-done}
+use Rattle.call_judge.proofs.Deciding.{stored_none, stored_done}
 use borrow.Author.Rules.{rules}
 use Rattle.call_judge.proofs.list.stored.Statement.{statement}
 use Rattle.call_judge.proofs.list.stored.Tie as tie
@@ -13,13 +13,13 @@ same_length : tie.Need-same-length
 same_length c = search rules
 
 returns : tie.Need-returns
-returns c = search (rules, stored-none)
+returns c = search (rules, stored_none)
 
 same-length-2 : tie.Need-same-length-2
 same-length-2 c = search rules
 
 returns-2 : tie.Need-returns-2
-returns-2 c = search (rules, stored-done)
+returns-2 c = search (rules, stored_done)
 
 pub stored-spec : {M : Type 1} → statement M
 stored-spec = tie.close (tie.spec load-requires same_length returns same-length-2 returns-2)

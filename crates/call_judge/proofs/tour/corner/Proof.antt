@@ -1,4 +1,4 @@
-use Rattle.call_judge.proofs.Touring.{corner-idle, corner-runs}
+use Rattle.call_judge.proofs.Touring.{corner_idle, corner_runs}
 use borrow.Author.Rules.{rules}
 use Rattle.call_judge.proofs.tour.corner.Statement.{statement}
 use Rattle.call_judge.proofs.tour.corner.Tie as tie
@@ -17,10 +17,10 @@ enum-known-tour : tie.Need-enum-known-tour
 enum-known-tour c = search rules
 
 onward-requires : tie.Need-onward-requires
-onward-requires c κs = (search rules, search (rules, corner-runs), search rules)
+onward-requires c κs = (search rules, search (rules, corner_runs), search rules)
 
 returns : tie.Need-returns
-returns c = search (rules, corner-idle)
+returns c = search (rules, corner_idle)
 
 same_length : tie.Need-same-length
 same_length c = search rules

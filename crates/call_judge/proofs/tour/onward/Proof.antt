@@ -1,4 +1,4 @@
-use Rattle.call_judge.proofs.Touring.{onward-off, onward-none, onward-leg, onward-grid}
+use Rattle.call_judge.proofs.Touring.{onward_off, onward_none, onward_leg, onward_grid}
 use borrow.Author.Rules.{rules}
 use Rattle.call_judge.proofs.tour.onward.Statement.{statement}
 use Rattle.call_judge.proofs.tour.onward.Tie as tie
@@ -12,16 +12,16 @@ on-grid-requires : tie.Need-on-grid-requires
 on-grid-requires c κs = search rules
 
 search-requires : tie.Need-search-requires
-search-requires c κs = (search rules, search (rules, onward-leg), search rules)
+search-requires c κs = (search rules, search (rules, onward_leg), search rules)
 
 same_length : tie.Need-same-length
 same_length c = search rules
 
 returns : tie.Need-returns
-returns c = search (rules, onward-none)
+returns c = search (rules, onward_none)
 
 shown-requires : tie.Need-shown-requires
-shown-requires c κs = ((search rules, search rules, search (rules, onward-grid)), (search rules, search rules))
+shown-requires c κs = ((search rules, search rules, search (rules, onward_grid)), (search rules, search rules))
 
 same-length-2 : tie.Need-same-length-2
 same-length-2 c = search rules
@@ -30,7 +30,7 @@ returns-2 : tie.Need-returns-2
 returns-2 c = search rules
 
 returns-3 : tie.Need-returns-3
-returns-3 c = search (rules, onward-off)
+returns-3 c = search (rules, onward_off)
 
 pub onward-spec : {M : Type 1} → statement M
 onward-spec =

@@ -1,4 +1,4 @@
-use Rattle.call_serve.proofs.Carrying.{insert-nowhere, insert-room, insert-number, insert-grid, delete-at, place_at, place-grid, stand-grid, begin-grid, follow-found, close_at, open_at, refused-left, shown-left, inserted, deleted, placed, stood, begun, followed, closed, opened}
+use Rattle.call_serve.proofs.Carrying.{insert_nowhere, insert_room, insert_number, insert_grid, delete_at, place_at, place_grid, stand_grid, begin_grid, follow_found, close_at, open_at, refused_left, shown_left, inserted, deleted, placed, stood, begun, followed, closed, opened}
 use borrow.Author.Rules.{rules}
 use Rattle.call_serve.proofs.carry.carry.Statement.{statement}
 use Rattle.call_serve.proofs.carry.carry.Tie as tie
@@ -26,7 +26,7 @@ cast-insert : tie.Need-overflow-cast-insert
 cast-insert c = search rules
 
 insert-requires : tie.Need-insert-requires
-insert-requires c κs = ((search rules, search (rules, insert-nowhere), search (rules, insert-room)), (search (rules, insert-number), search (rules, insert-grid), search rules))
+insert-requires c κs = ((search rules, search (rules, insert_nowhere), search (rules, insert_room)), (search (rules, insert_number), search (rules, insert_grid), search rules))
 
 enum-known-v-2 : tie.Need-enum-known-v-2
 enum-known-v-2 c = search rules
@@ -35,7 +35,7 @@ cast-delete : tie.Need-overflow-cast-delete
 cast-delete c = search rules
 
 delete-requires : tie.Need-delete-requires
-delete-requires c κs = (search rules, search (rules, delete-at), search rules)
+delete-requires c κs = (search rules, search (rules, delete_at), search rules)
 
 enum-known-v-3 : tie.Need-enum-known-v-3
 enum-known-v-3 c = search rules
@@ -44,25 +44,25 @@ cast-place : tie.Need-overflow-cast-place
 cast-place c = search rules
 
 place-requires : tie.Need-place-requires
-place-requires c κs = (search rules, search (rules, place_at), search (rules, place-grid), search rules)
+place-requires c κs = (search rules, search (rules, place_at), search (rules, place_grid), search rules)
 
 enum-known-v-4 : tie.Need-enum-known-v-4
 enum-known-v-4 c = search rules
 
 stand-requires : tie.Need-stand-requires
-stand-requires c κs = (search rules, search (rules, stand-grid), search rules)
+stand-requires c κs = (search rules, search (rules, stand_grid), search rules)
 
 enum-known-v-5 : tie.Need-enum-known-v-5
 enum-known-v-5 c = search rules
 
 begin-requires : tie.Need-begin-requires
-begin-requires c κs = (search rules, search (rules, begin-grid))
+begin-requires c κs = (search rules, search (rules, begin_grid))
 
 enum-known-v-6 : tie.Need-enum-known-v-6
 enum-known-v-6 c = search rules
 
 follow-requires : tie.Need-follow-requires
-follow-requires c κs = (search rules, search (rules, follow-found))
+follow-requires c κs = (search rules, search (rules, follow_found))
 
 enum-known-v-7 : tie.Need-enum-known-v-7
 enum-known-v-7 c = search rules
@@ -83,10 +83,10 @@ open-requires : tie.Need-open-requires
 open-requires c κs = (search rules, search (rules, open_at), search rules)
 
 returns : tie.Need-returns
-returns c = search (rules, refused-left)
+returns c = search (rules, refused_left)
 
 returns-2 : tie.Need-returns-2
-returns-2 c = search (rules, shown-left)
+returns-2 c = search (rules, shown_left)
 
 same_length : tie.Need-same-length
 same_length c = search rules

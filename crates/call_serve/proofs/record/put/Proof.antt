@@ -1,4 +1,4 @@
-use Rattle.call_serve.proofs.Recording.{one-fits, put-done, refusal-fits, put_refused, list-fits, list_held, list-leg, list_left, put-listed}
+use Rattle.call_serve.proofs.Recording.{one_fits, put_done, refusal_fits, put_refused, list_fits, list_held, list_leg, list_left, put_listed}
 use borrow.Author.Rules.{rules}
 use Rattle.call_serve.proofs.record.put.Statement.{statement}
 use Rattle.call_serve.proofs.record.put.Tie as tie
@@ -12,25 +12,25 @@ enum_told : tie.Need-enum-told
 enum_told c = search rules
 
 put-done-requires : tie.Need-put-done-requires
-put-done-requires c κs = search (rules, one-fits)
+put-done-requires c κs = search (rules, one_fits)
 
 enum-known-a : tie.Need-enum-known-a
 enum-known-a c = search rules
 
 put-refusal-requires : tie.Need-put-refusal-requires
-put-refusal-requires c κs = search (rules, refusal-fits)
+put-refusal-requires c κs = search (rules, refusal_fits)
 
 enum-known-a-2 : tie.Need-enum-known-a-2
 enum-known-a-2 c = search rules
 
 put-list-requires : tie.Need-put-list-requires
-put-list-requires c κs = (search (rules, list_held), search (rules, list-leg), search (rules, list_left), search (rules, list-fits))
+put-list-requires c κs = (search (rules, list_held), search (rules, list_leg), search (rules, list_left), search (rules, list_fits))
 
 same_length : tie.Need-same-length
 same_length c = search rules
 
 returns : tie.Need-returns
-returns c = search (rules, put-done)
+returns c = search (rules, put_done)
 
 same-length-2 : tie.Need-same-length-2
 same-length-2 c = search rules
@@ -42,7 +42,7 @@ same-length-3 : tie.Need-same-length-3
 same-length-3 c = search rules
 
 returns-3 : tie.Need-returns-3
-returns-3 c = search (rules, put-listed)
+returns-3 c = search (rules, put_listed)
 
 pub put_spec : {M : Type 1} → statement M
 put_spec =

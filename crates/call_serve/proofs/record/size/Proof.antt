@@ -1,4 +1,4 @@
-use Rattle.call_serve.proofs.Recording.{done-sized, refusal-sized, size-left, size_few, list-sized}
+use Rattle.call_serve.proofs.Recording.{done_sized, refusal_sized, size_left, size_few, list_sized}
 use borrow.Author.Rules.{rules}
 use Rattle.call_serve.proofs.record.size.Statement.{statement}
 use Rattle.call_serve.proofs.record.size.Tie as tie
@@ -16,19 +16,19 @@ enum-known-a : tie.Need-enum-known-a
 enum-known-a c = search rules
 
 sub-list-size : tie.Need-overflow-sub-list-size
-sub-list-size c = search (rules, size-left)
+sub-list-size c = search (rules, size_left)
 
 list-size-requires : tie.Need-list-size-requires
 list-size-requires c κs = search (rules, size_few)
 
 returns : tie.Need-returns
-returns c = search (rules, done-sized)
+returns c = search (rules, done_sized)
 
 returns-2 : tie.Need-returns-2
-returns-2 c = search (rules, refusal-sized)
+returns-2 c = search (rules, refusal_sized)
 
 returns-3 : tie.Need-returns-3
-returns-3 c = search (rules, list-sized)
+returns-3 c = search (rules, list_sized)
 
 pub size-spec : {M : Type 1} → statement M
 size-spec =

@@ -1,4 +1,4 @@
-use Rattle.grid.specs.Coordinate.{fromWord}
+use Rattle.grid.specs.Coordinate.{from_word}
 use borrow.Author.Rules.{rules}
 use Rattle.grid.proofs.coordinate.from_word.Statement.{statement}
 use Rattle.grid.proofs.coordinate.from_word.Tie as tie
@@ -13,7 +13,7 @@ cast-result : tie.Need-overflow-cast-result
 cast-result c = search rules
 
 returns : tie.Need-returns
-unfolding fromWord
+unfolding from_word
 returns c = search rules
 
 pub from-word-spec : {M : Type 1} → statement M

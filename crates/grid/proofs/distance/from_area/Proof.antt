@@ -1,4 +1,4 @@
-use Rattle.grid.specs.Area.{areaDistance}
+use Rattle.grid.specs.Area.{area_distance}
 use borrow.Author.Rules.{rules}
 use Rattle.grid.proofs.distance.from_area.Statement.{statement}
 use Rattle.grid.proofs.distance.from_area.Tie as tie
@@ -13,7 +13,7 @@ add-result : tie.Need-overflow-add-result
 add-result c = search rules
 
 returns : tie.Need-returns
-unfolding areaDistance
+unfolding area_distance
 returns c = search rules
 
 pub from-area-spec : {M : Type 1} → statement M

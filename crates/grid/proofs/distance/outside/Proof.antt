@@ -1,4 +1,4 @@
-use Rattle.grid.proofs.Nearest.{outside_below, outside_above, outside-within}
+use Rattle.grid.proofs.Nearest.{outside_below, outside_above, outside_within}
 use borrow.Author.Rules.{rules}
 use Rattle.grid.proofs.distance.outside.Statement.{statement}
 use Rattle.grid.proofs.distance.outside.Tie as tie
@@ -16,7 +16,7 @@ returns-2 : tie.Need-returns-2
 returns-2 c = search (rules, outside_above)
 
 returns-3 : tie.Need-returns-3
-returns-3 c = search (rules, outside-within)
+returns-3 c = search (rules, outside_within)
 
 pub outside-spec : {M : Type 1} → statement M
 outside-spec = tie.close (tie.spec apart-requires apart-requires-2 returns returns-2 returns-3)

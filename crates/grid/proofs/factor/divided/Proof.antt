@@ -1,13 +1,13 @@
 use borrow.Author.Rules.{rules}
-use Rattle.grid.proofs.LowestTerms.{gcd-positive, lowest_by}
+use Rattle.grid.proofs.LowestTerms.{gcd_positive, lowest_by}
 use Rattle.grid.proofs.factor.divided.Statement.{statement}
 use Rattle.grid.proofs.factor.divided.Tie as tie
 
 div-num : tie.Need-nonzero-div-num
-div-num c = search (rules, gcd-positive)
+div-num c = search (rules, gcd_positive)
 
 div-den : tie.Need-nonzero-div-den
-div-den c = search (rules, gcd-positive)
+div-den c = search (rules, gcd_positive)
 
 returns : tie.Need-returns
 returns c = search (rules, lowest_by)

@@ -1,7 +1,7 @@
 use borrow.Author.Rules.{rules}
 use native.Mathlib.Omega.{arith}
 use Prim.Native.Nat.{◌+◌}
-use Rattle.grid.proofs.InStep.{InStep, in_step, both-step, both-fall, both-done}
+use Rattle.grid.proofs.InStep.{InStep, in_step, both_step, both_fall, both_done}
 use Rattle.grid.proofs.factor.gcd_two.Statement.{statement}
 use Rattle.grid.proofs.factor.gcd_two.Tie as tie
 
@@ -26,17 +26,17 @@ step-requires-2 c κs = search rules
 loop-less : tie.Need-loop-smaller invariant-loop decreases-loop
 loop-less c =
     let s = c.before.before.before.before.before.loop in
-    both-fall s.p.x s.p.y s.q.x s.q.y _ _ _ _ (search rules) c.before.step.ensures c.step2.ensures
+    both_fall s.p.x s.p.y s.q.x s.q.y _ _ _ _ (search rules) c.before.step.ensures c.step2.ensures
 
 loop-again : tie.Need-loop-preserved invariant-loop decreases-loop
 loop-again c =
     let s = c.before.before.before.before.before.loop in
-    both-step _ _ _ _ s.p.x s.p.y s.q.x s.q.y s.invariant _ _ _ _ c.before.step.ensures c.step2.ensures
+    both_step _ _ _ _ s.p.x s.p.y s.q.x s.q.y s.invariant _ _ _ _ c.before.step.ensures c.step2.ensures
 
 returns : tie.Need-returns invariant-loop decreases-loop
 returns c =
     let s = c.before.before.before.loop in
-    both-done _ _ _ _ s.p.x s.p.y s.q.x s.q.y s.invariant (search rules)
+    both_done _ _ _ _ s.p.x s.p.y s.q.x s.q.y s.invariant (search rules)
 
 pub gcd-two-spec : {M : Type 1} → statement M
 gcd-two-spec =

@@ -1,5 +1,5 @@
 use borrow.Author.Rules.{rules}
-use Rattle.grid.proofs.InStep.{divisor-positive, stepped}
+use Rattle.grid.proofs.InStep.{divisor_positive, stepped}
 use Rattle.grid.proofs.factor.step.Statement.{statement}
 use Rattle.grid.proofs.factor.step.Tie as tie
 
@@ -7,7 +7,7 @@ divisor-of-requires : tie.Need-divisor-of-requires
 divisor-of-requires c κs = search rules
 
 nearest-rest-requires : tie.Need-nearest-rest-requires
-nearest-rest-requires c κs = search (rules, divisor-positive)
+nearest-rest-requires c κs = search (rules, divisor_positive)
 
 kept-of-requires : tie.Need-kept-of-requires
 kept-of-requires c κs = search rules

@@ -1,10 +1,10 @@
-use Rattle.replay.proofs.Faults.{flag-hit, hit-long}
+use Rattle.replay.proofs.Faults.{flag_hit, hit_long}
 use borrow.Author.Rules.{rules}
 use Rattle.replay.proofs.damage.hit_flag.Statement.{statement}
 use Rattle.replay.proofs.damage.hit_flag.Tie as tie
 
 put-word-requires : tie.Need-put-word-requires
-put-word-requires c κs = search (rules, hit-long)
+put-word-requires c κs = search (rules, hit_long)
 
 slice-aggregate-small-call : tie.Need-slice-aggregate-small-call
 slice-aggregate-small-call c = search rules
@@ -16,7 +16,7 @@ same_length : tie.Need-same-length
 same_length c = search rules
 
 returns : tie.Need-returns
-returns c = search (rules, flag-hit)
+returns c = search (rules, flag_hit)
 
 pub hit-flag-spec : {M : Type 1} → statement M
 hit-flag-spec =

@@ -1,4 +1,4 @@
-use Rattle.replay.proofs.Faults.{leg-hit}
+use Rattle.replay.proofs.Faults.{leg_hit}
 use borrow.Author.Rules.{rules}
 use Rattle.replay.proofs.damage.hit_leg.Statement.{statement}
 use Rattle.replay.proofs.damage.hit_leg.Tie as tie
@@ -19,7 +19,7 @@ same_length : tie.Need-same-length
 same_length c = search rules
 
 returns : tie.Need-returns
-returns c = search (rules, leg-hit)
+returns c = search (rules, leg_hit)
 
 pub hit-leg-spec : {M : Type 1} → statement M
 hit-leg-spec =

@@ -1,4 +1,4 @@
-use Rattle.replay.proofs.Faults.{length-hit}
+use Rattle.replay.proofs.Faults.{length_hit_lem}
 use borrow.Author.Rules.{rules}
 use Rattle.replay.proofs.damage.hit_length.Statement.{statement}
 use Rattle.replay.proofs.damage.hit_length.Tie as tie
@@ -19,7 +19,7 @@ same_length : tie.Need-same-length
 same_length c = search rules
 
 returns : tie.Need-returns
-returns c = search (rules, length-hit)
+returns c = search (rules, length_hit_lem)
 
 pub hit-length-spec : {M : Type 1} → statement M
 hit-length-spec =

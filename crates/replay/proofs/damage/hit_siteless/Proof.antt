@@ -1,4 +1,4 @@
-use Rattle.replay.proofs.Faults.{siteless-hit}
+use Rattle.replay.proofs.Faults.{siteless_hit}
 use borrow.Author.Rules.{rules}
 use Rattle.replay.proofs.damage.hit_siteless.Statement.{statement}
 use Rattle.replay.proofs.damage.hit_siteless.Tie as tie
@@ -19,7 +19,7 @@ same_length : tie.Need-same-length
 same_length c = search rules
 
 returns : tie.Need-returns
-returns c = search (rules, siteless-hit)
+returns c = search (rules, siteless_hit)
 
 pub hit-siteless-spec : {M : Type 1} → statement M
 hit-siteless-spec =

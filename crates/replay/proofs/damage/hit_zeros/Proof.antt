@@ -1,4 +1,4 @@
-use Rattle.replay.proofs.Faults.{zeros-hit}
+use Rattle.replay.proofs.Faults.{zeros_hit}
 use borrow.Author.Rules.{rules}
 use Rattle.replay.proofs.damage.hit_zeros.Statement.{statement}
 use Rattle.replay.proofs.damage.hit_zeros.Tie as tie
@@ -19,7 +19,7 @@ same_length : tie.Need-same-length
 same_length c = search rules
 
 returns : tie.Need-returns
-returns c = search (rules, zeros-hit)
+returns c = search (rules, zeros_hit)
 
 pub hit-zeros-spec : {M : Type 1} → statement M
 hit-zeros-spec =

@@ -1,4 +1,4 @@
-use Rattle.replay.proofs.ByMarkFaults.{ran-one}
+use Rattle.replay.proofs.ByMarkFaults.{ran_one}
 use borrow.Author.Rules.{rules}
 use Rattle.replay.proofs.mark_damage.add_first.Statement.{statement}
 use Rattle.replay.proofs.mark_damage.add_first.Tie as tie
@@ -16,7 +16,7 @@ same_length : tie.Need-same-length
 same_length c = search rules
 
 returns : tie.Need-returns
-returns c = search (rules, ran-one)
+returns c = search (rules, ran_one)
 
 pub add-first-spec : {M : Type 1} → statement M
 add-first-spec =

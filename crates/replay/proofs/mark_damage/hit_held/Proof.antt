@@ -1,4 +1,4 @@
-use Rattle.replay.proofs.ByMarkFaults.{held-hit}
+use Rattle.replay.proofs.ByMarkFaults.{held_hit}
 use borrow.Author.Rules.{rules}
 use Rattle.replay.proofs.mark_damage.hit_held.Statement.{statement}
 use Rattle.replay.proofs.mark_damage.hit_held.Tie as tie
@@ -19,7 +19,7 @@ same_length : tie.Need-same-length
 same_length c = search rules
 
 returns : tie.Need-returns
-returns c = search (rules, held-hit)
+returns c = search (rules, held_hit)
 
 pub hit-held-spec : {M : Type 1} → statement M
 hit-held-spec =

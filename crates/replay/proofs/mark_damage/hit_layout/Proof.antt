@@ -1,4 +1,4 @@
-use Rattle.replay.proofs.ByMarkFaults.{layout-hit}
+use Rattle.replay.proofs.ByMarkFaults.{layout_hit}
 use borrow.Author.Rules.{rules}
 use Rattle.replay.proofs.mark_damage.hit_layout.Statement.{statement}
 use Rattle.replay.proofs.mark_damage.hit_layout.Tie as tie
@@ -19,7 +19,7 @@ same_length : tie.Need-same-length
 same_length c = search rules
 
 returns : tie.Need-returns
-returns c = search (rules, layout-hit)
+returns c = search (rules, layout_hit)
 
 pub hit-layout-spec : {M : Type 1} → statement M
 hit-layout-spec =

@@ -1,4 +1,4 @@
-use Rattle.replay.proofs.ByMarkFaults.{mark-hit}
+use Rattle.replay.proofs.ByMarkFaults.{mark_hit}
 use borrow.Author.Rules.{rules}
 use Rattle.replay.proofs.mark_damage.hit_mark.Statement.{statement}
 use Rattle.replay.proofs.mark_damage.hit_mark.Tie as tie
@@ -19,7 +19,7 @@ same_length : tie.Need-same-length
 same_length c = search rules
 
 returns : tie.Need-returns
-returns c = search (rules, mark-hit)
+returns c = search (rules, mark_hit)
 
 pub hit-mark-spec : {M : Type 1} → statement M
 hit-mark-spec =

@@ -1,4 +1,4 @@
-use Rattle.replay.proofs.ByMarkFaults.{root-hit}
+use Rattle.replay.proofs.ByMarkFaults.{root_hit}
 use borrow.Author.Rules.{rules}
 use Rattle.replay.proofs.mark_damage.hit_root.Statement.{statement}
 use Rattle.replay.proofs.mark_damage.hit_root.Tie as tie
@@ -19,7 +19,7 @@ same_length : tie.Need-same-length
 same_length c = search rules
 
 returns : tie.Need-returns
-returns c = search (rules, root-hit)
+returns c = search (rules, root_hit)
 
 pub hit-root-spec : {M : Type 1} → statement M
 hit-root-spec =

@@ -1,4 +1,4 @@
-use Rattle.replay.proofs.ByMarkFaults.{tour-hit}
+use Rattle.replay.proofs.ByMarkFaults.{tour_hit}
 use borrow.Author.Rules.{rules}
 use Rattle.replay.proofs.mark_damage.hit_tour.Statement.{statement}
 use Rattle.replay.proofs.mark_damage.hit_tour.Tie as tie
@@ -19,7 +19,7 @@ same_length : tie.Need-same-length
 same_length c = search rules
 
 returns : tie.Need-returns
-returns c = search (rules, tour-hit)
+returns c = search (rules, tour_hit)
 
 pub hit-tour-spec : {M : Type 1} → statement M
 hit-tour-spec =

@@ -1,4 +1,4 @@
-use Rattle.replay.proofs.ByBatches.{rules-told}
+use Rattle.replay.proofs.ByBatches.{rules_told}
 use borrow.Author.Rules.{rules}
 use Rattle.replay.proofs.mark_rules.call_ruled.Statement.{statement}
 use Rattle.replay.proofs.mark_rules.call_ruled.Tie as tie
@@ -35,7 +35,7 @@ end-tours-requires c κs = search rules
 
 returns : tie.Need-returns
 returns c =
-    rules-told _ _ _ _ _ _ _ _ _ _
+    rules_told _ _ _ _ _ _ _ _ _ _
     c.before.before.before.before.before.before.before.before.before.before.before.before.before.refuse-marks.ensures
     c.before.before.before.before.before.before.before.before.before.before.hold-closed.ensures
     c.before.before.before.before.before.before.before.ask-none.ensures

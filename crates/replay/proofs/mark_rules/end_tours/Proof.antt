@@ -1,4 +1,4 @@
-use Rattle.replay.proofs.ByBatches.{four-paged}
+use Rattle.replay.proofs.ByBatches.{four_paged}
 use borrow.Author.Rules.{rules}
 use Rattle.replay.proofs.mark_rules.end_tours.Statement.{statement}
 use Rattle.replay.proofs.mark_rules.end_tours.Tie as tie
@@ -31,7 +31,7 @@ same_length : tie.Need-same-length
 same_length c = search rules
 
 returns : tie.Need-returns
-returns c = search (rules, four-paged)
+returns c = search (rules, four_paged)
 
 pub end-tours-spec : {M : Type 1} → statement M
 end-tours-spec =

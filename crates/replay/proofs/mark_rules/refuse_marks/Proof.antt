@@ -1,4 +1,4 @@
-use Rattle.replay.proofs.ByBatches.{two-paged, first-paged}
+use Rattle.replay.proofs.ByBatches.{two_paged, first_paged}
 use borrow.Author.Rules.{rules}
 use Rattle.replay.proofs.mark_rules.refuse_marks.Statement.{statement}
 use Rattle.replay.proofs.mark_rules.refuse_marks.Tie as tie
@@ -22,7 +22,7 @@ same_length : tie.Need-same-length
 same_length c = search rules
 
 returns : tie.Need-returns
-returns c = search (rules, two-paged, first-paged)
+returns c = search (rules, two_paged, first_paged)
 
 pub refuse-marks-spec : {M : Type 1} → statement M
 refuse-marks-spec =

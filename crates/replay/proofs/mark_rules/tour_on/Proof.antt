@@ -1,4 +1,4 @@
-use Rattle.replay.proofs.ByBatches.{three-paged}
+use Rattle.replay.proofs.ByBatches.{three_paged}
 use borrow.Author.Rules.{rules}
 use Rattle.replay.proofs.mark_rules.tour_on.Statement.{statement}
 use Rattle.replay.proofs.mark_rules.tour_on.Tie as tie
@@ -25,7 +25,7 @@ same_length : tie.Need-same-length
 same_length c = search rules
 
 returns : tie.Need-returns
-returns c = search (rules, three-paged)
+returns c = search (rules, three_paged)
 
 pub tour-on-spec : {M : Type 1} → statement M
 tour-on-spec =

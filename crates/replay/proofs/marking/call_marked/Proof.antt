@@ -1,4 +1,4 @@
-use Rattle.replay.proofs.ByMarks.{mark-told}
+use Rattle.replay.proofs.ByMarks.{mark_told}
 use borrow.Author.Rules.{rules}
 use Rattle.replay.proofs.marking.call_marked.Statement.{statement}
 use Rattle.replay.proofs.marking.call_marked.Tie as tie
@@ -29,7 +29,7 @@ add-and-remove-requires c κs = search rules
 
 returns : tie.Need-returns
 returns c =
-    mark-told _ _ _ _ _ _ _ _
+    mark_told _ _ _ _ _ _ _ _
     c.before.before.before.before.before.before.before.before.before.before.stand-both.ensures
     c.before.before.before.before.before.before.before.list-and-print.ensures
     c.before.before.before.before.close-and-open.ensures

@@ -1,4 +1,4 @@
-use Rattle.replay.proofs.ByMarks.{stood-both}
+use Rattle.replay.proofs.ByMarks.{stood_both}
 use borrow.Author.Rules.{rules}
 use Rattle.replay.proofs.marking.stand_both.Statement.{statement}
 use Rattle.replay.proofs.marking.stand_both.Tie as tie
@@ -22,7 +22,7 @@ same_length : tie.Need-same-length
 same_length c = search rules
 
 returns : tie.Need-returns
-returns c = search (rules, stood-both)
+returns c = search (rules, stood_both)
 
 pub stand-both-spec : {M : Type 1} → statement M
 stand-both-spec =

@@ -1,4 +1,4 @@
-use Rattle.replay.proofs.ByPrint.{shut-told}
+use Rattle.replay.proofs.ByPrint.{shut_told}
 use borrow.Author.Rules.{rules}
 use Rattle.replay.proofs.no_print.print_shut.Statement.{statement}
 use Rattle.replay.proofs.no_print.print_shut.Tie as tie
@@ -16,7 +16,7 @@ same_length : tie.Need-same-length
 same_length c = search rules
 
 returns : tie.Need-returns
-returns c = search (rules, shut-told)
+returns c = search (rules, shut_told)
 
 pub print-shut-spec : {M : Type 1} → statement M
 print-shut-spec =

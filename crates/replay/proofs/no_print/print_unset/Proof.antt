@@ -1,4 +1,4 @@
-use Rattle.replay.proofs.ByPrint.{unset-told}
+use Rattle.replay.proofs.ByPrint.{unset_told}
 use borrow.Author.Rules.{rules}
 use Rattle.replay.proofs.no_print.print_unset.Statement.{statement}
 use Rattle.replay.proofs.no_print.print_unset.Tie as tie
@@ -16,7 +16,7 @@ same_length : tie.Need-same-length
 same_length c = search rules
 
 returns : tie.Need-returns
-returns c = search (rules, unset-told)
+returns c = search (rules, unset_told)
 
 pub print-unset-spec : {M : Type 1} → statement M
 print-unset-spec =

@@ -1,4 +1,4 @@
-use Rattle.replay.proofs.ByClosedLine.{ran-so}
+use Rattle.replay.proofs.ByClosedLine.{ran_so}
 use borrow.Author.Rules.{rules}
 use Rattle.replay.proofs.refresh.add_and_close.Statement.{statement}
 use Rattle.replay.proofs.refresh.add_and_close.Tie as tie
@@ -22,7 +22,7 @@ same_length : tie.Need-same-length
 same_length c = search rules
 
 returns : tie.Need-returns
-returns c = search (rules, ran-so)
+returns c = search (rules, ran_so)
 
 pub add-and-close-spec : {M : Type 1} → statement M
 add-and-close-spec =

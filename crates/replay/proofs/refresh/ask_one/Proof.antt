@@ -1,4 +1,4 @@
-use Rattle.replay.proofs.ByClosedLine.{asked-one}
+use Rattle.replay.proofs.ByClosedLine.{asked_one}
 use borrow.Author.Rules.{rules}
 use Rattle.replay.proofs.refresh.ask_one.Statement.{statement}
 use Rattle.replay.proofs.refresh.ask_one.Tie as tie
@@ -16,7 +16,7 @@ same_length : tie.Need-same-length
 same_length c = search rules
 
 returns : tie.Need-returns
-returns c = search (rules, asked-one)
+returns c = search (rules, asked_one)
 
 pub ask-one-spec : {M : Type 1} → statement M
 ask-one-spec =

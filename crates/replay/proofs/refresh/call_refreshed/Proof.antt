@@ -1,4 +1,4 @@
-use Rattle.replay.proofs.ByClosedLine.{closed-line-told}
+use Rattle.replay.proofs.ByClosedLine.{closed_line_told}
 use borrow.Author.Rules.{rules}
 use Rattle.replay.proofs.refresh.call_refreshed.Statement.{statement}
 use Rattle.replay.proofs.refresh.call_refreshed.Tie as tie
@@ -28,7 +28,7 @@ ask-one-requires-2 : tie.Need-ask-one-requires-2
 ask-one-requires-2 c κs = search rules
 
 returns : tie.Need-returns
-returns c = search (rules, closed-line-told)
+returns c = search (rules, closed_line_told)
 
 pub call-refreshed-spec : {M : Type 1} → statement M
 call-refreshed-spec =

@@ -1,4 +1,4 @@
-use Rattle.replay.proofs.Surveying.{survey-told}
+use Rattle.replay.proofs.Surveying.{survey_told}
 use borrow.Author.Rules.{rules}
 use Rattle.replay.proofs.survey.call_surveyed.Statement.{statement}
 use Rattle.replay.proofs.survey.call_surveyed.Tie as tie
@@ -29,7 +29,7 @@ survey-badly-requires-2 c κs = search rules
 
 returns : tie.Need-returns
 returns c =
-    survey-told _ _ _ _ _ _ _ _
+    survey_told _ _ _ _ _ _ _ _
     c.before.before.before.before.before.before.before.before.before.before.survey-all.ensures
     c.before.before.before.before.before.before.before.step-all.ensures
     c.before.before.before.before.survey-badly.ensures

@@ -1,4 +1,4 @@
-use Rattle.replay.proofs.Surveying.{survey-begun}
+use Rattle.replay.proofs.Surveying.{survey_begun}
 use borrow.Author.Rules.{rules}
 use Rattle.replay.proofs.survey.survey_first.Statement.{statement}
 use Rattle.replay.proofs.survey.survey_first.Tie as tie
@@ -16,7 +16,7 @@ same_length : tie.Need-same-length
 same_length c = search rules
 
 returns : tie.Need-returns
-returns c = search (rules, survey-begun)
+returns c = search (rules, survey_begun)
 
 pub survey-first-spec : {M : Type 1} → statement M
 survey-first-spec =

@@ -1,4 +1,4 @@
-use Rattle.table_sites.proofs.Changing.{delete-done}
+use Rattle.table_sites.proofs.Changing.{delete_done}
 use borrow.Author.Rules.{rules}
 use Rattle.table_sites.proofs.change.delete.Statement.{statement}
 use Rattle.table_sites.proofs.change.delete.Tie as tie
@@ -37,7 +37,7 @@ same_length : tie.Need-same-length
 same_length c = search rules
 
 returns : tie.Need-returns
-returns c = search (rules, delete-done)
+returns c = search (rules, delete_done)
 
 pub delete-spec : {M : Type 1} → statement M
 delete-spec =

@@ -1,4 +1,4 @@
-use Rattle.table_sites.proofs.Changing.{insert-done}
+use Rattle.table_sites.proofs.Changing.{insert_done}
 use borrow.Author.Rules.{rules}
 use Rattle.table_sites.proofs.change.insert.Statement.{statement}
 use Rattle.table_sites.proofs.change.insert.Tie as tie
@@ -40,7 +40,7 @@ same_length : tie.Need-same-length
 same_length c = search rules
 
 returns : tie.Need-returns
-returns c = search (rules, insert-done)
+returns c = search (rules, insert_done)
 
 pub insert-spec : {M : Type 1} → statement M
 insert-spec =

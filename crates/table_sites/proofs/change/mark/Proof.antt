@@ -1,4 +1,4 @@
-use Rattle.table_sites.proofs.Changing.{mark-done}
+use Rattle.table_sites.proofs.Changing.{mark_done}
 use borrow.Author.Rules.{rules}
 use Rattle.table_sites.proofs.change.mark.Statement.{statement}
 use Rattle.table_sites.proofs.change.mark.Tie as tie
@@ -22,7 +22,7 @@ same_length : tie.Need-same-length
 same_length c = search rules
 
 returns : tie.Need-returns
-returns c = search (rules, mark-done)
+returns c = search (rules, mark_done)
 
 pub mark_spec : {M : Type 1} → statement M
 mark_spec = tie.close (tie.spec mul_at add_at add-put-word put-word-requires same_length returns)

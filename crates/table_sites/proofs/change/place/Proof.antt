@@ -1,5 +1,5 @@
 use native.Mathlib.Omega.{arith}
-use Rattle.table_sites.proofs.Changing.{place-done}
+use Rattle.table_sites.proofs.Changing.{place_done}
 use borrow.Author.Rules.{rules}
 use Rattle.table_sites.proofs.change.place.Statement.{statement}
 use Rattle.table_sites.proofs.change.place.Tie as tie
@@ -20,7 +20,7 @@ returns : tie.Need-returns
 returns c =
     let putting = c.before.before in
     let start = putting.before.before.before in
-    place-done start.requires.0 start.requires.1 (omega arith) putting.put-position.ensures
+    place_done start.requires.0 start.requires.1 (omega arith) putting.put-position.ensures
 
 pub place-spec : {M : Type 1} → statement M
 place-spec = tie.close (tie.spec mul_at add_at put-position-requires same_length returns)

@@ -1,4 +1,4 @@
-use Rattle.table_sites.proofs.Stores.{position-put}
+use Rattle.table_sites.proofs.Stores.{position_put}
 use borrow.Author.Rules.{rules}
 use Rattle.table_sites.proofs.change.put_position.Statement.{statement}
 use Rattle.table_sites.proofs.change.put_position.Tie as tie
@@ -19,7 +19,7 @@ same_length : tie.Need-same-length
 same_length c = search rules
 
 returns : tie.Need-returns
-returns c = search (rules, position-put)
+returns c = search (rules, position_put)
 
 pub put-position-spec : {M : Type 1} → statement M
 put-position-spec =

@@ -1,4 +1,4 @@
-use Rattle.table_sites.proofs.Stores.{site-put}
+use Rattle.table_sites.proofs.Stores.{site_put}
 use borrow.Author.Rules.{rules}
 use Rattle.table_sites.proofs.change.put_site.Statement.{statement}
 use Rattle.table_sites.proofs.change.put_site.Tie as tie
@@ -19,7 +19,7 @@ same_length : tie.Need-same-length
 same_length c = search rules
 
 returns : tie.Need-returns
-returns c = search (rules, site-put)
+returns c = search (rules, site_put)
 
 pub put-site-spec : {M : Type 1} → statement M
 put-site-spec =

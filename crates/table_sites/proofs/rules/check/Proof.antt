@@ -1,4 +1,4 @@
-use Rattle.table_sites.proofs.Checking.{Checked, check-none, check-one, check-stopped, check-all, check-many}
+use Rattle.table_sites.proofs.Checking.{Checked, check_none, check_one, check_stopped, check_all, check_many}
 use Prim.Native.Nat.{◌-◌}
 use borrow.Author.Tests.{not-true, not-false}
 use borrow.Author.Rules.{rules}
@@ -15,10 +15,10 @@ count-requires : tie.Need-count-requires invariant-loop decreases-loop
 count-requires c κs = search rules
 
 returns : tie.Need-returns invariant-loop decreases-loop
-returns c = search (rules, check-many)
+returns c = search (rules, check_many)
 
 loop-holds : tie.Need-loop-init invariant-loop decreases-loop
-loop-holds c = search (rules, check-none)
+loop-holds c = search (rules, check_none)
 
 mul-i : tie.Need-overflow-mul-i invariant-loop decreases-loop
 mul-i c = search rules
@@ -33,7 +33,7 @@ returns-2 : tie.Need-returns-2 invariant-loop decreases-loop
 returns-2 c =
     let ok = c.before.record-ok in
     let s = c.before.before in
-    check-stopped s.before.loop.invariant s.loop-test.true ok.result ok.ensures (not-true ok.result c.if2.true)
+    check_stopped s.before.loop.invariant s.loop-test.true ok.result ok.ensures (not-true ok.result c.if2.true)
 
 word-requires : tie.Need-word-requires invariant-loop decreases-loop
 word-requires c κs = search rules
@@ -48,11 +48,11 @@ loop-again : tie.Need-loop-preserved invariant-loop decreases-loop
 loop-again c =
     let ok = c.before.before.record-ok in
     let s = c.before.before.before in
-    check-one s.before.loop.invariant s.loop-test.true ok.result ok.ensures (not-false ok.result c.before.if2.false)
+    check_one s.before.loop.invariant s.loop-test.true ok.result ok.ensures (not-false ok.result c.before.if2.false)
     c.word.ensures.0
 
 returns-3 : tie.Need-returns-3 invariant-loop decreases-loop
-returns-3 c = search (rules, check-all)
+returns-3 c = search (rules, check_all)
 
 pub check-spec : {M : Type 1} → statement M
 check-spec =

@@ -1,7 +1,7 @@
 use Prim.Native.Nat.{ℕ, ◌+◌, ◌*◌, ◌<◌}
 use native.Mathlib.Omega.{arith}
 use borrow.Author.Rules.{rules}
-use Rattle.tree_add.proofs.Upward.{inserted-leaf, down-ready, down-some, up-len, up_in, up-free, up-not-free, up_kept, up-open, up-full, up-out, up-over}
+use Rattle.tree_add.proofs.Upward.{inserted_leaf, down_ready, down_some, up_len, up_in, up_free, up_not_free, up_kept, up_open, up_full, up_out, up_over}
 use borrow.Fn.Kinds.{In}
 use borrow.Fn.PlainCycle.{Measures, is, falls, and}
 use Rattle.tree_add.proofs.insert.insert.Reads as insert
@@ -75,7 +75,7 @@ insert-same-length : (t : ℕ) → insert-lts.Need-same-length (insert-calls t) 
 insert-same-length t c = search rules
 
 insert-returns : (t : ℕ) → insert-lts.Need-returns (insert-calls t) (insert-at t) insert.Post
-insert-returns t c = search inserted-leaf
+insert-returns t c = search inserted_leaf
 
 insert-choose-requires : (t : ℕ) → insert-lts.Need-choose-requires (insert-calls t) (insert-at t) insert.Post
 insert-choose-requires t c κs = (search rules, search rules, c.before.before.before.requires.1.2 c.before.if1.false)
@@ -99,7 +99,7 @@ insert-under-sub-insert : (t : ℕ) → insert-under-lts.Need-overflow-sub-inser
 insert-under-sub-insert t c = search rules
 
 insert-under-insert-requires : (t : ℕ) → insert-under-lts.Need-insert-requires (insert-under-calls t) (insert-under-at t) insert-under.Post
-insert-under-insert-requires t c κs = (omega arith, (search down-ready, omega arith, search down-some))
+insert-under-insert-requires t c κs = (omega arith, (search down_ready, omega arith, search down_some))
 
 insert-under-enum-told : (t : ℕ) → insert-under-lts.Need-enum-told (insert-under-calls t) (insert-under-at t) insert-under.Post
 insert-under-enum-told t c = search rules
@@ -108,7 +108,7 @@ insert-under-grown-requires : (t : ℕ) → insert-under-lts.Need-grown-requires
 insert-under-grown-requires t c κs = search rules
 
 insert-under-put-requires : (t : ℕ) → insert-under-lts.Need-put-requires (insert-under-calls t) (insert-under-at t) insert-under.Post
-insert-under-put-requires t c κs = (search up-len, search rules, search up_in)
+insert-under-put-requires t c κs = (search up_len, search rules, search up_in)
 
 insert-under-enum-known-r : (t : ℕ) → insert-under-lts.Need-enum-known-r (insert-under-calls t) (insert-under-at t) insert-under.Post
 insert-under-enum-known-r t c = search rules
@@ -117,7 +117,7 @@ insert-under-sub-halve : (t : ℕ) → insert-under-lts.Need-overflow-sub-halve 
 insert-under-sub-halve t c = search rules
 
 insert-under-halve-requires : (t : ℕ) → insert-under-lts.Need-halve-requires (insert-under-calls t) (insert-under-at t) insert-under.Post
-insert-under-halve-requires t c κs = (search up-open, search rules, search up_in, search up-full, search up-free, search up-out, search up-not-free)
+insert-under-halve-requires t c κs = (search up_open, search rules, search up_in, search up_full, search up_free, search up_out, search up_not_free)
 
 insert-under-same-length : (t : ℕ) → insert-under-lts.Need-same-length (insert-under-calls t) (insert-under-at t) insert-under.Post
 insert-under-same-length t c = search rules
@@ -129,7 +129,7 @@ insert-under-same-length-2 : (t : ℕ) → insert-under-lts.Need-same-length-2 (
 insert-under-same-length-2 t c = search rules
 
 insert-under-returns-2 : (t : ℕ) → insert-under-lts.Need-returns-2 (insert-under-calls t) (insert-under-at t) insert-under.Post
-insert-under-returns-2 t c = search up-over
+insert-under-returns-2 t c = search up_over
 
 pub +insert-insert-under-spec : {M : Type 1} → statement M
 +insert-insert-under-spec = close μ-insert μ-insert-under (λ t. insert-lts.spec (insert-calls t)

@@ -1,10 +1,10 @@
-use Rattle.tree_add.proofs.Halves.{open-not-free, half_in, renewed-split}
+use Rattle.tree_add.proofs.Halves.{open_not_free, half_in, renewed_split}
 use borrow.Author.Rules.{rules}
 use Rattle.tree_add.proofs.insert.halve.Statement.{statement}
 use Rattle.tree_add.proofs.insert.halve.Tie as tie
 
 split-requires : tie.Need-split-requires
-split-requires c κs = (search rules, search rules, search rules, search rules, search open-not-free, search rules)
+split-requires c κs = (search rules, search rules, search rules, search rules, search open_not_free, search rules)
 
 renew-requires : tie.Need-renew-requires
 renew-requires c κs = (search rules, search rules, search rules, search half_in)
@@ -25,7 +25,7 @@ returns c =
     let w = v.before.before.before.before in
     let s = w.before.before.before.before in
     let p = s.before.before.before.requires in
-    renewed-split _ _ _ _ _ _ _ p.5 p.6 s.split.ensures _ _ _ _ _ p.0 p.1 w.renew.ensures v.hull-of.ensures u.put_in.ensures
+    renewed_split _ _ _ _ _ _ _ p.5 p.6 s.split.ensures _ _ _ _ _ p.0 p.1 w.renew.ensures v.hull-of.ensures u.put_in.ensures
 
 pub halve-spec : {M : Type 1} → statement M
 halve-spec =

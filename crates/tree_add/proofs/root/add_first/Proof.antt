@@ -1,13 +1,13 @@
-use Rattle.tree_add.proofs.Raising.{first_some, first-within, first_done, over-room}
+use Rattle.tree_add.proofs.Raising.{first_some, first_within, first_done, over_room}
 use borrow.Author.Rules.{rules}
 use Rattle.tree_add.proofs.root.add_first.Statement.{statement}
 use Rattle.tree_add.proofs.root.add_first.Tie as tie
 
 fresh-requires : tie.Need-fresh-requires
-fresh-requires c κs = (search rules, search first_some, search first-within)
+fresh-requires c κs = (search rules, search first_some, search first_within)
 
 push-requires : tie.Need-push-requires
-push-requires c κs = (search rules, search rules, search over-room)
+push-requires c κs = (search rules, search rules, search over_room)
 
 same_length : tie.Need-same-length
 same_length c = search rules

@@ -1,4 +1,4 @@
-use Rattle.tree_add.proofs.Raising.{over-room, over-room-2, over_done}
+use Rattle.tree_add.proofs.Raising.{over_room, over_room_2, over_done}
 use borrow.Author.Rules.{rules}
 use Rattle.tree_add.proofs.root.over.Statement.{statement}
 use Rattle.tree_add.proofs.root.over.Tie as tie
@@ -7,10 +7,10 @@ fresh-requires : tie.Need-fresh-requires
 fresh-requires c κs = search rules
 
 lift-requires : tie.Need-lift-requires
-lift-requires c κs = (search rules, search rules, search rules, search over-room)
+lift-requires c κs = (search rules, search rules, search rules, search over_room)
 
 lift-requires-2 : tie.Need-lift-requires-2
-lift-requires-2 c κs = (search rules, search rules, search rules, over-room-2 _ _ _ c.before.before.before.before.before.before.before.fresh.ensures _ _ c.before.before.before.lift.ensures)
+lift-requires-2 c κs = (search rules, search rules, search rules, over_room_2 _ _ _ c.before.before.before.before.before.before.before.fresh.ensures _ _ c.before.before.before.lift.ensures)
 
 same_length : tie.Need-same-length
 same_length c = search rules

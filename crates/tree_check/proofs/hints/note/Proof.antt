@@ -2,12 +2,12 @@ use mathlib.Core.Path.{◌≡◌}
 use Prim.Native.Nat.{◌-◌, ◌≤◌}
 use lib.ListN.{length}
 use borrow.Author.Rules.{rules}
-use Rattle.tree_check.specs.Marks.{seenBytes}
+use Rattle.tree_check.specs.Marks.{seen_bytes}
 use Rattle.tree_check.proofs.hints.note.Statement.{statement}
 use Rattle.tree_check.proofs.hints.note.Tie as tie
 
 abbrev invariant-loop : tie.invariant-loop
-invariant-loop t n seen₀ k₀ seen k = (k ≤ n) × (length seen ≡ seenBytes)
+invariant-loop t n seen₀ k₀ seen k = (k ≤ n) × (length seen ≡ seen_bytes)
 
 abbrev decreases-loop : tie.decreases-loop
 decreases-loop t n seen₀ k₀ seen k = n - k

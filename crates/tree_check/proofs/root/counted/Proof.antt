@@ -1,4 +1,4 @@
-use Rattle.tree_check.proofs.Opens.{tells-empty, tells-far, tells-top}
+use Rattle.tree_check.proofs.Opens.{tells_empty, tells_far, tells_top}
 use borrow.Author.Rules.{rules}
 use Rattle.tree_check.proofs.root.counted.Statement.{statement}
 use Rattle.tree_check.proofs.root.counted.Tie as tie
@@ -21,7 +21,7 @@ enum-known-c c = search rules
 
 -- src/root.rt:33:17
 returns : tie.Need-returns
-returns c = search tells-far
+returns c = search tells_far
 
 -- src/root.rt:35:17
 hull-of-requires : tie.Need-hull-of-requires
@@ -29,11 +29,11 @@ hull-of-requires c κs = search rules
 
 -- src/root.rt:25:1
 returns-2 : tie.Need-returns-2
-returns-2 c = search tells-empty
+returns-2 c = search tells_empty
 
 -- src/root.rt:25:1
 returns-3 : tie.Need-returns-3
-returns-3 c = search tells-top
+returns-3 c = search tells_top
 
 pub counted_spec : {M : Type 1} → statement M
 counted_spec =

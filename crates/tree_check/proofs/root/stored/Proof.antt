@@ -1,4 +1,4 @@
-use Rattle.tree_check.proofs.Opens.{opens-read}
+use Rattle.tree_check.proofs.Opens.{opens_read}
 use borrow.Author.Rules.{rules}
 use Rattle.tree_check.proofs.root.stored.Statement.{statement}
 use Rattle.tree_check.proofs.root.stored.Tie as tie
@@ -12,7 +12,7 @@ word-requires c κs = search rules
 
 -- src/root.rt:17:1
 returns : tie.Need-returns
-returns c = search opens-read
+returns c = search opens_read
 
 pub stored-spec : {M : Type 1} → statement M
 stored-spec = tie.close (tie.spec word-requires returns)

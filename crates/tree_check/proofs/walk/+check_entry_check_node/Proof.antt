@@ -1,7 +1,7 @@
 use Prim.Native.Nat.{ℕ, ◌+◌, ◌*◌, ◌-◌, ◌<◌}
 use native.Mathlib.Omega.{arith}
 use borrow.Author.Rules.{rules}
-use Rattle.tree_check.proofs.Passing.{Left, left-all, left-none, left-no, left-next, node-leaf, entry-far, entry-met, entry-unfit, entry-told, prepared-one}
+use Rattle.tree_check.proofs.Passing.{Left, left_all, left_none, left_no, left_next, node_leaf, entry_far, entry_met, entry_unfit, entry_told, prepared_one}
 use borrow.Fn.Kinds.{In}
 use borrow.Fn.PlainCycle.{Measures, is, falls, and}
 use Rattle.tree_check.proofs.walk.check_entry.Reads as check-entry
@@ -66,7 +66,7 @@ check-entry-cast-c : (t : ℕ) → check-entry-lts.Need-overflow-cast-c (check-e
 check-entry-cast-c t c = search rules
 
 check-entry-returns : (t : ℕ) → check-entry-lts.Need-returns (check-entry-claims t) (check-entry-at t) check-entry.Post
-check-entry-returns t c = search entry-far
+check-entry-returns t c = search entry_far
 
 check-entry-mark-requires : (t : ℕ) → check-entry-lts.Need-mark-requires (check-entry-claims t) (check-entry-at t) check-entry.Post
 check-entry-mark-requires t c κs = search rules
@@ -78,25 +78,25 @@ check-entry-sub-check-node : (t : ℕ) → check-entry-lts.Need-overflow-sub-che
 check-entry-sub-check-node t c = search rules
 
 check-entry-check-node-requires : (t : ℕ) → check-entry-lts.Need-check-node-requires (check-entry-claims t) (check-entry-at t) check-entry.Post
-check-entry-check-node-requires t c κs = (omega arith, (search prepared-one, search rules))
+check-entry-check-node-requires t c κs = (omega arith, (search prepared_one, search rules))
 
 check-entry-same-length : (t : ℕ) → check-entry-lts.Need-same-length (check-entry-claims t) (check-entry-at t) check-entry.Post
 check-entry-same-length t c = search rules
 
 check-entry-returns-2 : (t : ℕ) → check-entry-lts.Need-returns-2 (check-entry-claims t) (check-entry-at t) check-entry.Post
-check-entry-returns-2 t c = search entry-told
+check-entry-returns-2 t c = search entry_told
 
 check-entry-same-length-2 : (t : ℕ) → check-entry-lts.Need-same-length-2 (check-entry-claims t) (check-entry-at t) check-entry.Post
 check-entry-same-length-2 t c = search rules
 
 check-entry-returns-3 : (t : ℕ) → check-entry-lts.Need-returns-3 (check-entry-claims t) (check-entry-at t) check-entry.Post
-check-entry-returns-3 t c = search entry-unfit
+check-entry-returns-3 t c = search entry_unfit
 
 check-entry-same-length-3 : (t : ℕ) → check-entry-lts.Need-same-length-3 (check-entry-claims t) (check-entry-at t) check-entry.Post
 check-entry-same-length-3 t c = search rules
 
 check-entry-returns-4 : (t : ℕ) → check-entry-lts.Need-returns-4 (check-entry-claims t) (check-entry-at t) check-entry.Post
-check-entry-returns-4 t c = search entry-met
+check-entry-returns-4 t c = search entry_met
 
 abbrev check-node-Inv-loop : check-node-lts.invariant-loop
 check-node-Inv-loop t h c seen₀ m k₀ seen k = Left t h c seen₀ k seen
@@ -111,13 +111,13 @@ check-node-same-length : (t : ℕ) → check-node-lts.Need-same-length (check-no
 check-node-same-length t c = search rules
 
 check-node-returns : (t : ℕ) → check-node-lts.Need-returns (check-node-claims t) (check-node-at t) check-node.Post check-node-Inv-loop check-node-μ-loop
-check-node-returns t c = search node-leaf
+check-node-returns t c = search node_leaf
 
 check-node-count-requires : (t : ℕ) → check-node-lts.Need-count-requires (check-node-claims t) (check-node-at t) check-node.Post check-node-Inv-loop check-node-μ-loop
 check-node-count-requires t c κs = search rules
 
 check-node-loop-holds : (t : ℕ) → check-node-lts.Need-loop-init (check-node-claims t) (check-node-at t) check-node.Post check-node-Inv-loop check-node-μ-loop
-check-node-loop-holds t c = search left-all
+check-node-loop-holds t c = search left_all
 
 check-node-entry-at-requires : (t : ℕ) → check-node-lts.Need-entry-at-requires (check-node-claims t) (check-node-at t) check-node.Post check-node-Inv-loop check-node-μ-loop
 check-node-entry-at-requires t c κs = search rules
@@ -132,19 +132,19 @@ check-node-loop-less : (t : ℕ) → check-node-lts.Need-loop-smaller (check-nod
 check-node-loop-less t c = search rules
 
 check-node-loop-again : (t : ℕ) → check-node-lts.Need-loop-preserved (check-node-claims t) (check-node-at t) check-node.Post check-node-Inv-loop check-node-μ-loop
-check-node-loop-again t c = search left-next
+check-node-loop-again t c = search left_next
 
 check-node-same-length-2 : (t : ℕ) → check-node-lts.Need-same-length-2 (check-node-claims t) (check-node-at t) check-node.Post check-node-Inv-loop check-node-μ-loop
 check-node-same-length-2 t c = search rules
 
 check-node-returns-2 : (t : ℕ) → check-node-lts.Need-returns-2 (check-node-claims t) (check-node-at t) check-node.Post check-node-Inv-loop check-node-μ-loop
-check-node-returns-2 t c = search left-no
+check-node-returns-2 t c = search left_no
 
 check-node-same-length-3 : (t : ℕ) → check-node-lts.Need-same-length-3 (check-node-claims t) (check-node-at t) check-node.Post check-node-Inv-loop check-node-μ-loop
 check-node-same-length-3 t c = search rules
 
 check-node-returns-3 : (t : ℕ) → check-node-lts.Need-returns-3 (check-node-claims t) (check-node-at t) check-node.Post check-node-Inv-loop check-node-μ-loop
-check-node-returns-3 t c = search left-none
+check-node-returns-3 t c = search left_none
 
 pub +check-entry-check-node-spec : {M : Type 1} → statement M
 +check-entry-check-node-spec = close μ-check-entry μ-check-node (λ t. check-entry-lts.spec (check-entry-claims t)

@@ -1,6 +1,6 @@
 use borrow.Author.Rules.{rules}
 use Prim.Native.Nat.{◌-◌}
-use Rattle.tree_check.proofs.Passing.{Left, left-all, left-none, left-no, left-next}
+use Rattle.tree_check.proofs.Passing.{Left, left_all, left_none, left_no, left_next}
 use Rattle.tree_check.proofs.walk.check_leaves.Statement.{statement}
 use Rattle.tree_check.proofs.walk.check_leaves.Tie as tie
 
@@ -14,7 +14,7 @@ count-requires : tie.Need-count-requires invariant-loop decreases-loop
 count-requires c κs = search rules
 
 loop-holds : tie.Need-loop-init invariant-loop decreases-loop
-loop-holds c = search left-all
+loop-holds c = search left_all
 
 entry-at-requires : tie.Need-entry-at-requires invariant-loop decreases-loop
 entry-at-requires c κs = search rules
@@ -29,19 +29,19 @@ loop-less : tie.Need-loop-smaller invariant-loop decreases-loop
 loop-less c = search rules
 
 loop-again : tie.Need-loop-preserved invariant-loop decreases-loop
-loop-again c = search left-next
+loop-again c = search left_next
 
 same_length : tie.Need-same-length invariant-loop decreases-loop
 same_length c = search rules
 
 returns : tie.Need-returns invariant-loop decreases-loop
-returns c = search left-no
+returns c = search left_no
 
 same-length-2 : tie.Need-same-length-2 invariant-loop decreases-loop
 same-length-2 c = search rules
 
 returns-2 : tie.Need-returns-2 invariant-loop decreases-loop
-returns-2 c = search left-none
+returns-2 c = search left_none
 
 pub check-leaves-spec : {M : Type 1} → statement M
 check-leaves-spec =

@@ -1,4 +1,4 @@
-use Rattle.tree_check.proofs.RootPassing.{root_none, root-top}
+use Rattle.tree_check.proofs.RootPassing.{root_none, root_top}
 use borrow.Author.Rules.{rules}
 use Rattle.tree_check.proofs.walk.check_root.Statement.{statement}
 use Rattle.tree_check.proofs.walk.check_root.Tie as tie
@@ -22,7 +22,7 @@ same_length : tie.Need-same-length
 same_length c = search rules
 
 returns-2 : tie.Need-returns-2
-returns-2 c = search root-top
+returns-2 c = search root_top
 
 pub check-root-spec : {M : Type 1} → statement M
 check-root-spec =

@@ -1,4 +1,4 @@
-use Rattle.tree_check.proofs.Passing.{fits-few, fits_told}
+use Rattle.tree_check.proofs.Passing.{fits_few, fits_told}
 use borrow.Author.Rules.{rules}
 use Rattle.tree_check.proofs.walk.fits.Statement.{statement}
 use Rattle.tree_check.proofs.walk.fits.Tie as tie
@@ -10,7 +10,7 @@ count-requires : tie.Need-count-requires
 count-requires c κs = search rules
 
 returns : tie.Need-returns
-returns c = search (rules, fits-few)
+returns c = search (rules, fits_few)
 
 hull-of-requires : tie.Need-hull-of-requires
 hull-of-requires c κs = search rules

@@ -1,5 +1,5 @@
 use Rattle.tree_node.specs.Boxes.{grow}
-use Rattle.tree_node.proofs.Telling.{entry-eq}
+use Rattle.tree_node.proofs.Telling.{entry_eq}
 use borrow.Author.Rules.{rules}
 use Rattle.tree_node.proofs.boxes.grown.Statement.{statement}
 use Rattle.tree_node.proofs.boxes.grown.Tie as tie
@@ -21,7 +21,7 @@ both-requires c κs = search rules
 
 returns : tie.Need-returns
 unfolding grow
-returns c = search entry-eq
+returns c = search entry_eq
 
 pub grown-spec : {M : Type 1} → statement M
 grown-spec =

@@ -4,7 +4,7 @@ use lib.ListN.{length, drop}
 use borrow.Author.Rules.{rules}
 use Rattle.tree_node.specs.Node.{entries}
 use Rattle.tree_node.specs.Boxes.{summed, hull}
-use Rattle.tree_node.proofs.Hulls.{sum_step, sum-end, sum-all}
+use Rattle.tree_node.proofs.Hulls.{sum_step, sum_end, sum_all}
 use Rattle.tree_node.proofs.boxes.hull_of.Statement.{statement}
 use Rattle.tree_node.proofs.boxes.hull_of.Tie as tie
 
@@ -22,7 +22,7 @@ count-requires : tie.Need-count-requires invariant-loop decreases-loop
 count-requires c κs = search rules
 
 loop-holds : tie.Need-loop-init invariant-loop decreases-loop
-loop-holds c = (search rules, search sum-end, search rules)
+loop-holds c = (search rules, search sum_end, search rules)
 
 sub-k : tie.Need-overflow-sub-k invariant-loop decreases-loop
 sub-k c = search rules
@@ -49,7 +49,7 @@ with-sum-requires : tie.Need-with-sum-requires invariant-loop decreases-loop
 with-sum-requires c κs = search rules
 
 returns : tie.Need-returns invariant-loop decreases-loop
-returns c = search (rules, sum-all)
+returns c = search (rules, sum_all)
 
 pub hull-of-spec : {M : Type 1} → statement M
 hull-of-spec =

@@ -1,5 +1,5 @@
 use Rattle.tree_node.specs.Boxes.{widen}
-use Rattle.tree_node.proofs.Telling.{entry-eq}
+use Rattle.tree_node.proofs.Telling.{entry_eq}
 use borrow.Author.Rules.{rules}
 use Rattle.tree_node.proofs.boxes.widened.Statement.{statement}
 use Rattle.tree_node.proofs.boxes.widened.Tie as tie
@@ -18,7 +18,7 @@ larger-requires-2 c κs = search rules
 
 returns : tie.Need-returns
 unfolding widen
-returns c = search (rules, entry-eq)
+returns c = search (rules, entry_eq)
 
 pub widened-spec : {M : Type 1} → statement M
 widened-spec =

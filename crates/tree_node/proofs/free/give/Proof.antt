@@ -1,4 +1,4 @@
-use Rattle.tree_node.proofs.FreeStack.{give-done}
+use Rattle.tree_node.proofs.FreeStack.{give_done}
 use borrow.Author.Rules.{rules}
 use Rattle.tree_node.proofs.free.give.Statement.{statement}
 use Rattle.tree_node.proofs.free.give.Tie as tie
@@ -19,7 +19,7 @@ same_length : tie.Need-same-length
 same_length c = search rules
 
 returns : tie.Need-returns
-returns c = search give-done
+returns c = search give_done
 
 pub give_spec : {M : Type 1} → statement M
 give_spec =

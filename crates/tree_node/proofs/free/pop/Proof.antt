@@ -1,4 +1,4 @@
-use Rattle.tree_node.proofs.FreeStack.{pop-done}
+use Rattle.tree_node.proofs.FreeStack.{pop_done}
 use borrow.Author.Rules.{rules}
 use Rattle.tree_node.proofs.free.pop.Statement.{statement}
 use Rattle.tree_node.proofs.free.pop.Tie as tie
@@ -19,7 +19,7 @@ same_length : tie.Need-same-length
 same_length c = search rules
 
 returns : tie.Need-returns
-returns c = search pop-done
+returns c = search pop_done
 
 pub pop_spec : {M : Type 1} → statement M
 pop_spec =

@@ -1,4 +1,4 @@
-use Rattle.tree_node.proofs.Heading.{empty-told, top-told}
+use Rattle.tree_node.proofs.Heading.{empty_told, top_told}
 use borrow.Author.Rules.{rules}
 use Rattle.tree_node.proofs.header.read_root.Statement.{statement}
 use Rattle.tree_node.proofs.header.read_root.Tie as tie
@@ -10,7 +10,7 @@ cast-levels : tie.Need-overflow-cast-levels
 cast-levels c = search rules
 
 returns : tie.Need-returns
-returns c = search empty-told
+returns c = search empty_told
 
 word-requires-2 : tie.Need-word-requires-2
 word-requires-2 c κs = search rules
@@ -22,7 +22,7 @@ sub-t6 : tie.Need-overflow-sub-t6
 sub-t6 c = search rules
 
 returns-2 : tie.Need-returns-2
-returns-2 c = search top-told
+returns-2 c = search top_told
 
 pub read-root-spec : {M : Type 1} → statement M
 read-root-spec =

@@ -1,5 +1,5 @@
 use native.Mathlib.Omega.{arith}
-use Rattle.tree_node.proofs.Heading.{small-levels, small-root, empty-headed, top-headed}
+use Rattle.tree_node.proofs.Heading.{small_levels, small_root, empty_headed, top_headed}
 use borrow.Author.Rules.{rules}
 use Rattle.tree_node.proofs.header.store_root.Statement.{statement}
 use Rattle.tree_node.proofs.header.store_root.Tie as tie
@@ -14,16 +14,16 @@ enum-known-r : tie.Need-enum-known-r
 enum-known-r c = search rules
 
 add-put-word : tie.Need-overflow-add-put-word
-add-put-word c = omega (arith, small-levels _ _ _ c.before.before.r.given.1 c.before.before.before.before.before.requires.1)
+add-put-word c = omega (arith, small_levels _ _ _ c.before.before.r.given.1 c.before.before.before.before.before.requires.1)
 
 cast-put-word : tie.Need-overflow-cast-put-word
-cast-put-word c = omega (arith, small-levels _ _ _ c.before.before.r.given.1 c.before.before.before.before.before.requires.1)
+cast-put-word c = omega (arith, small_levels _ _ _ c.before.before.r.given.1 c.before.before.before.before.before.requires.1)
 
 put-word-requires-2 : tie.Need-put-word-requires-2
 put-word-requires-2 c κs = search rules
 
 cast-put-word-2 : tie.Need-overflow-cast-put-word-2
-cast-put-word-2 c = search small-root
+cast-put-word-2 c = search small_root
 
 put-word-requires-3 : tie.Need-put-word-requires-3
 put-word-requires-3 c κs = search rules
@@ -32,13 +32,13 @@ same_length : tie.Need-same-length
 same_length c = search rules
 
 returns : tie.Need-returns
-returns c = search empty-headed
+returns c = search empty_headed
 
 same-length-2 : tie.Need-same-length-2
 same-length-2 c = search rules
 
 returns-2 : tie.Need-returns-2
-returns-2 c = search top-headed
+returns-2 c = search top_headed
 
 pub store-root-spec : {M : Type 1} → statement M
 store-root-spec =

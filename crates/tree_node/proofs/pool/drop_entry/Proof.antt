@@ -1,4 +1,4 @@
-use Rattle.tree_node.proofs.Storing.{drop-done}
+use Rattle.tree_node.proofs.Storing.{drop_done}
 use borrow.Author.Rules.{rules}
 use Rattle.tree_node.proofs.pool.drop_entry.Statement.{statement}
 use Rattle.tree_node.proofs.pool.drop_entry.Tie as tie
@@ -28,7 +28,7 @@ same_length : tie.Need-same-length
 same_length c = search rules
 
 returns : tie.Need-returns
-returns c = search drop-done
+returns c = search drop_done
 
 pub drop-entry-spec : {M : Type 1} → statement M
 drop-entry-spec =

@@ -1,5 +1,5 @@
 use Rattle.tree_node.specs.Node.{entry_at}
-use Rattle.tree_node.proofs.Reading.{words-read}
+use Rattle.tree_node.proofs.Reading.{words_read}
 use borrow.Author.Rules.{rules}
 use Rattle.tree_node.proofs.pool.get_entry.Statement.{statement}
 use Rattle.tree_node.proofs.pool.get_entry.Tie as tie
@@ -39,7 +39,7 @@ word-requires-6 c κs = search rules
 
 returns : tie.Need-returns
 unfolding entry_at
-returns c = search words-read
+returns c = search words_read
 
 pub get-entry-spec : {M : Type 1} → statement M
 get-entry-spec =

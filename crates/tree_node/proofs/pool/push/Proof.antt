@@ -1,4 +1,4 @@
-use Rattle.tree_node.proofs.Storing.{push-done}
+use Rattle.tree_node.proofs.Storing.{push_done}
 use borrow.Author.Rules.{rules}
 use Rattle.tree_node.proofs.pool.push.Statement.{statement}
 use Rattle.tree_node.proofs.pool.push.Tie as tie
@@ -28,7 +28,7 @@ same_length : tie.Need-same-length
 same_length c = search rules
 
 returns : tie.Need-returns
-returns c = search push-done
+returns c = search push_done
 
 pub push_spec : {M : Type 1} → statement M
 push_spec =

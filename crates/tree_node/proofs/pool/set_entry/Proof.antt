@@ -1,4 +1,4 @@
-use Rattle.tree_node.specs.Node.{putEntry}
+use Rattle.tree_node.specs.Node.{put_entry}
 use borrow.Author.Rules.{rules}
 use Rattle.tree_node.proofs.pool.set_entry.Statement.{statement}
 use Rattle.tree_node.proofs.pool.set_entry.Tie as tie
@@ -40,7 +40,7 @@ same_length : tie.Need-same-length
 same_length c = search rules
 
 returns : tie.Need-returns
-unfolding putEntry
+unfolding put_entry
 returns c = cc
 
 pub set-entry-spec : {M : Type 1} → statement M

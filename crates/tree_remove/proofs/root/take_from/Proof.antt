@@ -1,5 +1,5 @@
 use borrow.Author.Rules.{rules}
-use Rattle.tree_remove.proofs.Removing.{none-there}
+use Rattle.tree_remove.proofs.Removing.{none_there}
 use Rattle.tree_remove.proofs.root.take_from.Statement.{statement}
 use Rattle.tree_remove.proofs.root.take_from.Tie as tie
 
@@ -13,7 +13,7 @@ take-under-requires : tie.Need-take-under-requires
 take-under-requires c κs = let q = c.before.before.r.given.1 in let p = c.before.before.before.before.before.requires in (rw q at p.0, rw q at p.1)
 
 returns : tie.Need-returns
-returns c = absurd (search none-there)
+returns c = absurd (search none_there)
 
 same_length : tie.Need-same-length
 same_length c = search rules

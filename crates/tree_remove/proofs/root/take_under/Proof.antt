@@ -1,10 +1,10 @@
 use borrow.Author.Rules.{rules}
-use Rattle.tree_remove.proofs.Removing.{root-open, found, cut-ready, cut-some, cut-room, cut-done}
+use Rattle.tree_remove.proofs.Removing.{root_open, found, cut_ready, cut_some, cut_room, cut_done}
 use Rattle.tree_remove.proofs.root.take_under.Statement.{statement}
 use Rattle.tree_remove.proofs.root.take_under.Tie as tie
 
 take-requires : tie.Need-take-requires
-take-requires c κs = (search root-open, search rules)
+take-requires c κs = (search root_open, search rules)
 
 enum_told : tie.Need-enum-told
 enum_told c = search rules
@@ -13,7 +13,7 @@ enum-told-2 : tie.Need-enum-told-2
 enum-told-2 c = search rules
 
 shrink-requires : tie.Need-shrink-requires
-shrink-requires c κs = (search cut-ready, search cut-some, search cut-room)
+shrink-requires c κs = (search cut_ready, search cut_some, search cut_room)
 
 same_length : tie.Need-same-length
 same_length c = search rules
@@ -25,7 +25,7 @@ same-length-2 : tie.Need-same-length-2
 same-length-2 c = search rules
 
 returns-2 : tie.Need-returns-2
-returns-2 c = search cut-done
+returns-2 c = search cut_done
 
 pub take-under-spec : {M : Type 1} → statement M
 take-under-spec =

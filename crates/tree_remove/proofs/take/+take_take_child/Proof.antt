@@ -3,7 +3,7 @@ use native.Mathlib.Omega.{arith}
 use borrow.Author.Rules.{rules}
 use borrow.Fn.Kinds.{In}
 use borrow.Fn.PlainCycle.{Measures, is, falls, and}
-use Rattle.tree_remove.proofs.Taking.{child-down, child-none, child-loose, child-in, child-two, child-gone, leaf-open, leaf-told, next-open, next-in, take_on, take-hit, take_none}
+use Rattle.tree_remove.proofs.Taking.{child_down, child_none, child_loose, child_in, child_two, child_gone, leaf_open, leaf_told, next_open, next_in, take_on, take_hit, take_none}
 use Rattle.tree_remove.proofs.take.take.Reads as take
 use Rattle.tree_remove.proofs.take.take.Kinds as take-kinds
 use Rattle.tree_remove.proofs.take.+take_take_child.Lts-take as take-lts
@@ -64,13 +64,13 @@ take-child-calls t = (
 )
 
 take-take-from-leaf-requires : (t : ℕ) → take-lts.Need-take-from-leaf-requires (take-calls t) (take_at t) take.Post
-take-take-from-leaf-requires t c κs = (search leaf-open, search rules)
+take-take-from-leaf-requires t c κs = (search leaf_open, search rules)
 
 take-same-length : (t : ℕ) → take-lts.Need-same-length (take-calls t) (take_at t) take.Post
 take-same-length t c = search rules
 
 take-returns : (t : ℕ) → take-lts.Need-returns (take-calls t) (take_at t) take.Post
-take-returns t c = search leaf-told
+take-returns t c = search leaf_told
 
 take-next-holding-requires : (t : ℕ) → take-lts.Need-next-holding-requires (take-calls t) (take_at t) take.Post
 take-next-holding-requires t c κs = search rules
@@ -97,7 +97,7 @@ take-take-requires t c κs =
     let op = c.before.before.before.before.before.before.before.before.before.before.before.before.before.before.before.before.requires.1.0 in
     let size = c.before.before.before.before.before.before.before.before.before.before.count.ensures.0 in
     let within = c.before.before.before.before.before.before.before.before.before.if2.true in
-    (omega arith, (next-open _ _ _ _ _ _ _ s told op, next-in _ _ _ _ _ _ _ s _ _ told size within))
+    (omega arith, (next_open _ _ _ _ _ _ _ s told op, next_in _ _ _ _ _ _ _ s _ _ told size within))
 
 take-enum-told-2 : (t : ℕ) → take-lts.Need-enum-told-2 (take-calls t) (take_at t) take.Post
 take-enum-told-2 t c = search rules
@@ -112,7 +112,7 @@ take-same-length-3 : (t : ℕ) → take-lts.Need-same-length-3 (take-calls t) (t
 take-same-length-3 t c = search rules
 
 take-returns-3 : (t : ℕ) → take-lts.Need-returns-3 (take-calls t) (take_at t) take.Post
-take-returns-3 t c = search take-hit
+take-returns-3 t c = search take_hit
 
 take-same-length-4 : (t : ℕ) → take-lts.Need-same-length-4 (take-calls t) (take_at t) take.Post
 take-same-length-4 t c = search rules
@@ -127,7 +127,7 @@ take-child-sub-take : (t : ℕ) → take-child-lts.Need-overflow-sub-take (take-
 take-child-sub-take t c = search rules
 
 take-child-take-requires : (t : ℕ) → take-child-lts.Need-take-requires (take-child-calls t) (take-child-at t) take-child.Post
-take-child-take-requires t c κs = (omega arith, (search child-down, search rules))
+take-child-take-requires t c κs = (omega arith, (search child_down, search rules))
 
 take-child-enum-told : (t : ℕ) → take-child-lts.Need-enum-told (take-child-calls t) (take-child-at t) take-child.Post
 take-child-enum-told t c = search rules
@@ -136,19 +136,19 @@ take-child-enum-told-2 : (t : ℕ) → take-child-lts.Need-enum-told-2 (take-chi
 take-child-enum-told-2 t c = search rules
 
 take-child-repair-requires : (t : ℕ) → take-child-lts.Need-repair-requires (take-child-calls t) (take-child-at t) take-child.Post
-take-child-repair-requires t c κs = (search child-loose, search child-in, search child-two)
+take-child-repair-requires t c κs = (search child_loose, search child_in, search child_two)
 
 take-child-same-length : (t : ℕ) → take-child-lts.Need-same-length (take-child-calls t) (take-child-at t) take-child.Post
 take-child-same-length t c = search rules
 
 take-child-returns : (t : ℕ) → take-child-lts.Need-returns (take-child-calls t) (take-child-at t) take-child.Post
-take-child-returns t c = search child-none
+take-child-returns t c = search child_none
 
 take-child-same-length-2 : (t : ℕ) → take-child-lts.Need-same-length-2 (take-child-calls t) (take-child-at t) take-child.Post
 take-child-same-length-2 t c = search rules
 
 take-child-returns-2 : (t : ℕ) → take-child-lts.Need-returns-2 (take-child-calls t) (take-child-at t) take-child.Post
-take-child-returns-2 t c = search child-gone
+take-child-returns-2 t c = search child_gone
 
 pub +take-take-child-spec : {M : Type 1} → statement M
 +take-take-child-spec = close μ-take μ-take-child (λ t. take-lts.spec (take-calls t)

@@ -4,7 +4,7 @@ use borrow.Author.Rules.{rules}
 use Rattle.tree_node.specs.Boxes.{InBox}
 use Rattle.tree_node.specs.Node.{entries}
 use Rattle.tree_remove.specs.Take.{Passed}
-use Rattle.tree_remove.proofs.Finding.{passed_none, passed-one, first-here, first-none}
+use Rattle.tree_remove.proofs.Finding.{passed_none, passed_one, first_here, first_none}
 use Rattle.tree_remove.proofs.take.next_holding.Statement.{statement}
 use Rattle.tree_remove.proofs.take.next_holding.Tie as tie
 
@@ -27,7 +27,7 @@ holds-requires : tie.Need-holds-requires invariant-loop decreases-loop
 holds-requires c κs = search rules
 
 returns : tie.Need-returns invariant-loop decreases-loop
-returns c = search first-here
+returns c = search first_here
 
 add-i : tie.Need-overflow-add-i invariant-loop decreases-loop
 add-i c = omega arith
@@ -36,10 +36,10 @@ loop-less : tie.Need-loop-smaller invariant-loop decreases-loop
 loop-less c = omega arith
 
 loop-again : tie.Need-loop-preserved invariant-loop decreases-loop
-loop-again c = search passed-one
+loop-again c = search passed_one
 
 returns-2 : tie.Need-returns-2 invariant-loop decreases-loop
-returns-2 c = search first-none
+returns-2 c = search first_none
 
 pub next-holding-spec : {M : Type 1} → statement M
 next-holding-spec =

@@ -1,5 +1,5 @@
 use borrow.Author.Rules.{rules}
-use Rattle.tree_remove.proofs.Taking.{leaf-gone, leaf-none}
+use Rattle.tree_remove.proofs.Taking.{leaf_gone, leaf_none}
 use Rattle.tree_remove.proofs.take.take_from_leaf.Statement.{statement}
 use Rattle.tree_remove.proofs.take.take_from_leaf.Tie as tie
 
@@ -16,13 +16,13 @@ same_length : tie.Need-same-length
 same_length c = search rules
 
 returns : tie.Need-returns
-returns c = search leaf-gone
+returns c = search leaf_gone
 
 same-length-2 : tie.Need-same-length-2
 same-length-2 c = search rules
 
 returns-2 : tie.Need-returns-2
-returns-2 c = search leaf-none
+returns-2 c = search leaf_none
 
 pub take-from-leaf-spec : {M : Type 1} → statement M
 take-from-leaf-spec =

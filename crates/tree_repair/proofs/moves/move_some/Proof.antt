@@ -1,7 +1,7 @@
 use Prim.Native.Nat.{◌-◌, ◌≤◌}
 use borrow.Author.Rules.{rules}
 use Rattle.tree_repair.specs.Moved.{Moved}
-use Rattle.tree_repair.proofs.Moving.{moved_none, moved-next, moved-len, moved-some, moved-room, moved_all}
+use Rattle.tree_repair.proofs.Moving.{moved_none, moved_next, moved_len, moved_some, moved_room, moved_all}
 use Rattle.tree_repair.proofs.moves.move_some.Statement.{statement}
 use Rattle.tree_repair.proofs.moves.move_some.Tie as tie
 
@@ -15,7 +15,7 @@ loop-holds : tie.Need-loop-init invariant-loop decreases-loop
 loop-holds c = (search rules, search moved_none)
 
 move-one-requires : tie.Need-move-one-requires invariant-loop decreases-loop
-move-one-requires c κs = search (rules, moved-len, moved-some, moved-room)
+move-one-requires c κs = search (rules, moved_len, moved_some, moved_room)
 
 add-k : tie.Need-overflow-add-k invariant-loop decreases-loop
 add-k c = search rules
@@ -24,7 +24,7 @@ loop-less : tie.Need-loop-smaller invariant-loop decreases-loop
 loop-less c = search rules
 
 loop-again : tie.Need-loop-preserved invariant-loop decreases-loop
-loop-again c = (search rules, search moved-next)
+loop-again c = (search rules, search moved_next)
 
 same_length : tie.Need-same-length invariant-loop decreases-loop
 same_length c = search rules

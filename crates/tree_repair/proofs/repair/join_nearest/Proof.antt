@@ -1,5 +1,5 @@
 use borrow.Author.Rules.{rules}
-use Rattle.tree_repair.proofs.Repairing.{nearest-pair, nearest-done}
+use Rattle.tree_repair.proofs.Repairing.{nearest_pair, nearest_done}
 use Rattle.tree_repair.proofs.repair.join_nearest.Statement.{statement}
 use Rattle.tree_repair.proofs.repair.join_nearest.Tie as tie
 
@@ -16,13 +16,13 @@ cast-join : tie.Need-overflow-cast-join
 cast-join c = search rules
 
 join-requires : tie.Need-join-requires
-join-requires c κs = search nearest-pair
+join-requires c κs = search nearest_pair
 
 same_length : tie.Need-same-length
 same_length c = search rules
 
 returns : tie.Need-returns
-returns c = search nearest-done
+returns c = search nearest_done
 
 pub join-nearest-spec : {M : Type 1} → statement M
 join-nearest-spec =

@@ -1,5 +1,5 @@
 use borrow.Author.Rules.{rules}
-use Rattle.tree_repair.proofs.Repairing.{lift-done}
+use Rattle.tree_repair.proofs.Repairing.{lift_done}
 use Rattle.tree_repair.proofs.repair.restore.Statement.{statement}
 use Rattle.tree_repair.proofs.repair.restore.Tie as tie
 
@@ -28,7 +28,7 @@ same-length-2 : tie.Need-same-length-2
 same-length-2 c = search rules
 
 returns-2 : tie.Need-returns-2
-returns-2 c = search lift-done
+returns-2 c = search lift_done
 
 pub restore-spec : {M : Type 1} → statement M
 restore-spec =

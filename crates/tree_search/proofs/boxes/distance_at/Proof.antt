@@ -1,4 +1,4 @@
-use Rattle.tree_search.proofs.Corners.{area-placed, seems-open, placed_at}
+use Rattle.tree_search.proofs.Corners.{area_placed, seems_open, placed_at}
 use borrow.Author.Rules.{rules}
 use native.Mathlib.Omega.{arith}
 use Rattle.tree_search.proofs.boxes.distance_at.Statement.{statement}
@@ -11,7 +11,7 @@ area-of-requires : tie.Need-area-of-requires
 area-of-requires c κs = search rules
 
 from-area-requires : tie.Need-from-area-requires
-from-area-requires c κs = (search (area-placed, placed_at), search rules)
+from-area-requires c κs = (search (area_placed, placed_at), search rules)
 
 cast-result : tie.Need-overflow-cast-result
 cast-result c = search rules
@@ -19,7 +19,7 @@ cast-result c = search rules
 returns : tie.Need-returns
 returns c =
     let f = c.from-area.ensures in
-    seems-open _ _ _ c.before.area_of.ensures c.before.before.entry_at.ensures _ f.0 (omega (arith, f.1))
+    seems_open _ _ _ c.before.area_of.ensures c.before.before.entry_at.ensures _ f.0 (omega (arith, f.1))
 
 pub distance-at-spec : {M : Type 1} → statement M
 distance-at-spec =

@@ -6,7 +6,7 @@ use native.Mathlib.Omega.{arith}
 use lib.ListN.{length}
 use Rattle.tree_node.specs.Node.{entries}
 use Rattle.tree_search.specs.Searching.{Measured}
-use Rattle.tree_search.proofs.Corners.{measured-none, measured-next, measured-all}
+use Rattle.tree_search.proofs.Corners.{measured_none, measured_next, measured_all}
 use Rattle.tree_search.proofs.boxes.measure_open.Statement.{statement}
 use Rattle.tree_search.proofs.boxes.measure_open.Tie as tie
 
@@ -20,7 +20,7 @@ count-requires : tie.Need-count-requires invariant-loop decreases-loop
 count-requires c κs = search rules
 
 loop-holds : tie.Need-loop-init invariant-loop decreases-loop
-loop-holds c = (search measured-none, search measured-none, search rules, search rules, search rules, search rules)
+loop-holds c = (search measured_none, search measured_none, search rules, search rules, search rules, search rules)
 
 seeming-at-requires : tie.Need-seeming-at-requires invariant-loop decreases-loop
 seeming-at-requires c κs = search rules
@@ -62,10 +62,10 @@ loop-again c =
     let y = c.before.before.before.seeming-at2.ensures in
     let d : c.if1.best < length (entries c.before.before.before.before.before.before.before.before.before.args.t.now c.before.before.before.before.before.before.before.before.before.args.n) =
     ⊎_elim (λ e. omega arith) (λ e. omega arith) c.if1.branch in
-    (measured-next w.0 (omega arith) x, measured-next w.1 (omega arith) y, omega arith, d, search rules, search rules)
+    (measured_next w.0 (omega arith) x, measured_next w.1 (omega arith) y, omega arith, d, search rules, search rules)
 
 returns : tie.Need-returns invariant-loop decreases-loop
-returns c = (search rules, (search (rules, measured-all), search (rules, measured-all)))
+returns c = (search rules, (search (rules, measured_all), search (rules, measured_all)))
 
 pub measure-open-spec : {M : Type 1} → statement M
 measure-open-spec =

@@ -1,4 +1,4 @@
-use Rattle.tree_search.proofs.Corners.{seems-closed}
+use Rattle.tree_search.proofs.Corners.{seems_closed}
 use borrow.Author.Rules.{rules}
 use Rattle.tree_search.proofs.boxes.seeming_at.Statement.{statement}
 use Rattle.tree_search.proofs.boxes.seeming_at.Tie as tie
@@ -10,7 +10,7 @@ entry-at-requires : tie.Need-entry-at-requires
 entry-at-requires c κs = search rules
 
 returns : tie.Need-returns
-returns c = search (rules, seems-closed)
+returns c = search (rules, seems_closed)
 
 returns-2 : tie.Need-returns-2
 returns-2 c = search rules

@@ -2,9 +2,9 @@ use borrow.Author.Rules.{rules}
 use mathlib.Core.Path.{◌≡◌}
 use Prim.Native.Nat.{ℕ, ◌+◌, ◌*◌, ◌<◌}
 use native.Mathlib.Omega.{arith}
-use Rattle.tree_node.proofs.Reading.{below-eight}
-use Rattle.tree_search.proofs.Corners.{corner-is}
-use Rattle.tree_search.proofs.Reading.{Left, step-on, step-leaf, step-known, step-shut, step-closed, still_open, child-readable, child-some, child-ahead, child-searched, node-placed, left-all, left-first, left-next, left-none}
+use Rattle.tree_node.proofs.Reading.{below_eight}
+use Rattle.tree_search.proofs.Corners.{corner_is}
+use Rattle.tree_search.proofs.Reading.{Left, step_on, step_leaf, step_known, step_shut, step_closed, still_open, child_readable, child_some, child_ahead, child_searched, node_placed, left_all, left_first, left_next, left_none}
 use borrow.Fn.Kinds.{In}
 use borrow.Fn.PlainCycle.{Measures, is, falls, and}
 use Rattle.tree_search.proofs.descent.search_entry.Reads as search-entry
@@ -81,7 +81,7 @@ search-entry-shuts-requires t c κs = (c.before.before.requires.1.1.1.small, c.b
 search-entry-returns : (t : ℕ) → search-entry-lts.Need-returns (search-entry-claims t) (search-entry-at t) search-entry.Post
 search-entry-returns t c =
     let s = c.before.before.before.before in
-    step-known _ _ _ _ s.requires.1.0.0 s.requires.1.0.1 s.requires.1.1.0 s.requires.1.0.2 s.requires.1.1.1 c.before.shuts.result c.if1.true c.before.shuts.ensures
+    step_known _ _ _ _ s.requires.1.0.0 s.requires.1.0.1 s.requires.1.1.0 s.requires.1.0.2 s.requires.1.1.1 c.before.shuts.result c.if1.true c.before.shuts.ensures
 
 search-entry-entry-at-requires : (t : ℕ) → search-entry-lts.Need-entry-at-requires (search-entry-claims t) (search-entry-at t) search-entry.Post
 search-entry-entry-at-requires t c κs = search rules
@@ -89,7 +89,7 @@ search-entry-entry-at-requires t c κs = search rules
 search-entry-returns-2 : (t : ℕ) → search-entry-lts.Need-returns-2 (search-entry-claims t) (search-entry-at t) search-entry.Post
 search-entry-returns-2 t c =
     let s = c.before.before.before.before.before.before.before in
-    step-closed _ _ _ _ s.requires.1.0.0 s.requires.1.0.1 s.requires.1.1.0 _ c.before.before.entry_at.ensures c.if2.true s.requires.1.1.1
+    step_closed _ _ _ _ s.requires.1.0.0 s.requires.1.0.1 s.requires.1.1.0 _ c.before.before.entry_at.ensures c.if2.true s.requires.1.1.1
 
 search-entry-covers-requires : (t : ℕ) → search-entry-lts.Need-covers-requires (search-entry-claims t) (search-entry-at t) search-entry.Post
 search-entry-covers-requires t c κs =
@@ -102,7 +102,7 @@ search-entry-same-length t c = search rules
 search-entry-returns-3 : (t : ℕ) → search-entry-lts.Need-returns-3 (search-entry-claims t) (search-entry-at t) search-entry.Post
 search-entry-returns-3 t c =
     let s = c.before.before.before.before.before.before.before.before.before.before.before in
-    step-shut _ _ _ _ s.requires.1.0.0 s.requires.1.0.1 s.requires.1.1.0 s.requires.1.0.2 _ c.before.before.before.before.before.before.entry_at.ensures c.before.before.before.before.if2.false c.before.before.covers.ensures c.if3.true
+    step_shut _ _ _ _ s.requires.1.0.0 s.requires.1.0.1 s.requires.1.1.0 s.requires.1.0.2 _ c.before.before.before.before.before.before.entry_at.ensures c.before.before.before.before.if2.false c.before.before.covers.ensures c.if3.true
 
 search-entry-search-leaf-requires : (t : ℕ) → search-entry-lts.Need-search-leaf-requires (search-entry-claims t) (search-entry-at t) search-entry.Post
 search-entry-search-leaf-requires t c κs =
@@ -117,7 +117,7 @@ search-entry-same-length-2 t c = search rules
 search-entry-returns-4 : (t : ℕ) → search-entry-lts.Need-returns-4 (search-entry-claims t) (search-entry-at t) search-entry.Post
 search-entry-returns-4 t c =
     let s = c.before.before.before.before.before.before.before.before.before.before.before.before.before.before.before.before in
-    step-leaf _ _ c.before.before.before.before.if4.true s.requires.1.1.0 c.before.before.before.before.before.before.before.covers.ensures.knows c.before.before.search-leaf.ensures
+    step_leaf _ _ c.before.before.before.before.if4.true s.requires.1.1.0 c.before.before.before.before.before.before.before.covers.ensures.knows c.before.before.search-leaf.ensures
 
 search-entry-cast-child : (t : ℕ) → search-entry-lts.Need-overflow-cast-child (search-entry-claims t) (search-entry-at t) search-entry.Post
 search-entry-cast-child t c = search rules
@@ -135,7 +135,7 @@ search-entry-search-node-requires t c κs =
     let lt = s.requires.1.0.1 in
     let qe = c.before.before.before.before.before.before.before.before.before.before.entry_at.ensures in
     let some : 0 < s.args.h = omega (arith, c.before.before.before.if4.false) in
-    (omega (arith, s.requires.0), ((child-readable _ _ _ _ _ rd lt some qe, child-some _ _ _ _ _ rd lt some qe), (child-ahead _ _ _ _ _ rd lt some qe s.requires.1.1.0, c.before.before.before.before.before.before.covers.ensures.knows)))
+    (omega (arith, s.requires.0), ((child_readable _ _ _ _ _ rd lt some qe, child_some _ _ _ _ _ rd lt some qe), (child_ahead _ _ _ _ _ rd lt some qe s.requires.1.1.0, c.before.before.before.before.before.before.covers.ensures.knows)))
 
 search-entry-same-length-3 : (t : ℕ) → search-entry-lts.Need-same-length-3 (search-entry-claims t) (search-entry-at t) search-entry.Post
 search-entry-same-length-3 t c = search rules
@@ -147,7 +147,7 @@ search-entry-returns-5 t c =
     let lt = s.requires.1.0.1 in
     let qe = c.before.before.before.before.before.before.before.before.before.before.before.before.before.entry_at.ensures in
     let some : 0 < s.args.h = omega (arith, c.before.before.before.before.before.before.if4.false) in
-    step-on s.requires.1.1.0 c.before.before.before.before.before.before.before.before.before.covers.ensures.knows (child-searched _ _ _ _ _ rd lt some qe c.before.before.search-node.ensures)
+    step_on s.requires.1.1.0 c.before.before.before.before.before.before.before.before.before.covers.ensures.knows (child_searched _ _ _ _ _ rd lt some qe c.before.before.search-node.ensures)
 
 abbrev search-node-Inv-loop : search-node-lts.invariant-loop
 search-node-Inv-loop t leg h n opens work₀ k near a c all i₀ left₀ kept₀ known₀ work i left kept known =
@@ -164,31 +164,31 @@ search-node-survey-requires t c κs =
     let s = c.before.before.before.before.before in
     let rd = s.requires.1.0.0 in
     let ah = s.requires.1.1.0 in
-    ((rd.len, rd.id, s.requires.1.0.1), (ah.leg, node-placed rd ah, search rules, search rules))
+    ((rd.len, rd.id, s.requires.1.0.1), (ah.leg, node_placed rd ah, search rules, search rules))
 
 search-node-loop-holds : (t : ℕ) → search-node-lts.Need-loop-init (search-node-claims t) (search-node-at t) search-node.Post search-node-Inv-loop search-node-μ-loop
 search-node-loop-holds t c =
     let s = c.before.before.before.before.before.before in
-    left-all _ _ c.survey.ensures.0 c.before.before.before.count.ensures.0 s.requires.1.1.0 s.requires.1.1.1
+    left_all _ _ c.survey.ensures.0 c.before.before.before.count.ensures.0 s.requires.1.1.0 s.requires.1.1.1
 
 search-node-mul-t22 : (t : ℕ) → search-node-lts.Need-overflow-mul-t22 (search-node-claims t) (search-node-at t) search-node.Post search-node-Inv-loop search-node-μ-loop
-search-node-mul-t22 t c = let b = below-eight _ _ _ c.before.loop.invariant.here in search rules
+search-node-mul-t22 t c = let b = below_eight _ _ _ c.before.loop.invariant.here in search rules
 
 search-node-array-read-t25 : (t : ℕ) → search-node-lts.Need-array-read-t25 (search-node-claims t) (search-node-at t) search-node.Post search-node-Inv-loop search-node-μ-loop
-search-node-array-read-t25 t c = below-eight _ _ _ c.before.loop.invariant.here
+search-node-array-read-t25 t c = below_eight _ _ _ c.before.loop.invariant.here
 
 search-node-mul-t26 : (t : ℕ) → search-node-lts.Need-overflow-mul-t26 (search-node-claims t) (search-node-at t) search-node.Post search-node-Inv-loop search-node-μ-loop
-search-node-mul-t26 t c = let b = below-eight _ _ _ c.before.loop.invariant.here in search rules
+search-node-mul-t26 t c = let b = below_eight _ _ _ c.before.loop.invariant.here in search rules
 
 search-node-array-read-t29 : (t : ℕ) → search-node-lts.Need-array-read-t29 (search-node-claims t) (search-node-at t) search-node.Post search-node-Inv-loop search-node-μ-loop
-search-node-array-read-t29 t c = below-eight _ _ _ c.before.loop.invariant.here
+search-node-array-read-t29 t c = below_eight _ _ _ c.before.loop.invariant.here
 
 search-node-search-entry-requires : (t : ℕ) → search-node-lts.Need-search-entry-requires (search-node-claims t) (search-node-at t) search-node.Post search-node-Inv-loop search-node-μ-loop
 search-node-search-entry-requires t c κs =
     let s = c.before.before.before.before.before.before.before.before.before in
     let w = c.before.before.loop.invariant in
     let far = c.before.before.before.survey.ensures.1 in
-    (omega (arith, s.requires.0), ((s.requires.1.0.0, w.here, corner-is {l = s.args.leg} _ far.0 far.1 w.here), (left-first w (omega arith), w.knows)))
+    (omega (arith, s.requires.0), ((s.requires.1.0.0, w.here, corner_is {l = s.args.leg} _ far.0 far.1 w.here), (left_first w (omega arith), w.knows)))
 
 search-node-after-requires : (t : ℕ) → search-node-lts.Need-after-requires (search-node-claims t) (search-node-at t) search-node.Post search-node-Inv-loop search-node-μ-loop
 search-node-after-requires t c κs =
@@ -203,13 +203,13 @@ search-node-loop-less t c = search rules
 
 search-node-loop-again : (t : ℕ) → search-node-lts.Need-loop-preserved (search-node-claims t) (search-node-at t) search-node.Post search-node-Inv-loop search-node-μ-loop
 search-node-loop-again t c =
-    left-next c.before.before.before.before.before.before.before.loop.invariant (omega arith) _ _ _ _ c.before.before.before.before.before.before.before.before.before.before.before.count.ensures.0 c.after.ensures c.before.before.before.before.search-entry.ensures
+    left_next c.before.before.before.before.before.before.before.loop.invariant (omega arith) _ _ _ _ c.before.before.before.before.before.before.before.before.before.before.before.count.ensures.0 c.after.ensures c.before.before.before.before.search-entry.ensures
 
 search-node-same-length : (t : ℕ) → search-node-lts.Need-same-length (search-node-claims t) (search-node-at t) search-node.Post search-node-Inv-loop search-node-μ-loop
-search-node-same-length t c = (left-none c.before.loop.invariant (omega arith)).only.len
+search-node-same-length t c = (left_none c.before.loop.invariant (omega arith)).only.len
 
 search-node-returns : (t : ℕ) → search-node-lts.Need-returns (search-node-claims t) (search-node-at t) search-node.Post search-node-Inv-loop search-node-μ-loop
-search-node-returns t c = left-none c.before.loop.invariant (omega arith)
+search-node-returns t c = left_none c.before.loop.invariant (omega arith)
 
 pub +search-entry-search-node-spec : {M : Type 1} → statement M
 +search-entry-search-node-spec = close μ-search-entry μ-search-node (λ t. search-entry-lts.spec (search-entry-claims t)

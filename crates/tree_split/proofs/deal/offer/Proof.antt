@@ -1,4 +1,4 @@
-use Rattle.tree_split.proofs.Sharing.{offer-gone, offer-kept}
+use Rattle.tree_split.proofs.Sharing.{offer_gone, offer_kept}
 use borrow.Author.Rules.{rules}
 use Rattle.tree_split.proofs.deal.offer.Statement.{statement}
 use Rattle.tree_split.proofs.deal.offer.Tie as tie
@@ -19,13 +19,13 @@ same_length : tie.Need-same-length
 same_length c = search rules
 
 returns : tie.Need-returns
-returns c = search offer-gone
+returns c = search offer_gone
 
 same-length-2 : tie.Need-same-length-2
 same-length-2 c = search rules
 
 returns-2 : tie.Need-returns-2
-returns-2 c = search offer-kept
+returns-2 c = search offer_kept
 
 pub offer-spec : {M : Type 1} → statement M
 offer-spec =

@@ -1,4 +1,4 @@
-use Rattle.tree_split.proofs.Sharing.{ninth-new, ninth-old}
+use Rattle.tree_split.proofs.Sharing.{ninth_new, ninth_old}
 use borrow.Author.Rules.{rules}
 use Rattle.tree_split.proofs.deal.place.Statement.{statement}
 use Rattle.tree_split.proofs.deal.place.Tie as tie
@@ -19,13 +19,13 @@ same_length : tie.Need-same-length
 same_length c = search rules
 
 returns : tie.Need-returns
-returns c = search ninth-new
+returns c = search ninth_new
 
 same-length-2 : tie.Need-same-length-2
 same-length-2 c = search rules
 
 returns-2 : tie.Need-returns-2
-returns-2 c = search ninth-old
+returns-2 c = search ninth_old
 
 pub place-spec : {M : Type 1} → statement M
 place-spec =

@@ -1,11 +1,11 @@
 use borrow.Author.Rules.{rules}
 use Prim.Native.Nat.{◌+◌, ◌≤◌}
-use Rattle.tree_split.specs.Parted.{mostParted}
+use Rattle.tree_split.specs.Parted.{most_parted}
 use Rattle.tree_split.proofs.mask.best_cut.Statement.{statement}
 use Rattle.tree_split.proofs.mask.best_cut.Tie as tie
 
 abbrev invariant-loop : tie.invariant-loop
-invariant-loop before after best₀ cut₀ best cut = cut ≤ mostParted + 1
+invariant-loop before after best₀ cut₀ best cut = cut ≤ most_parted + 1
 
 abbrev decreases-loop : tie.decreases-loop
 decreases-loop before after best₀ cut₀ best cut = cut

@@ -1,14 +1,14 @@
 use borrow.Author.Rules.{rules}
 use Prim.Native.Nat.{◌≤◌, ◌-◌}
-use Rattle.limits.specs.Limits.{maxEntries}
+use Rattle.limits.specs.Limits.{max_entries}
 use Rattle.tree_split.proofs.mask.split_mask.Statement.{statement}
 use Rattle.tree_split.proofs.mask.split_mask.Tie as tie
 
 abbrev invariant-loop : tie.invariant-loop
-invariant-loop table c west₀ south₀ east₀ north₀ k₀ west south east north k = k ≤ maxEntries
+invariant-loop table c west₀ south₀ east₀ north₀ k₀ west south east north k = k ≤ max_entries
 
 abbrev decreases-loop : tie.decreases-loop
-decreases-loop table c west₀ south₀ east₀ north₀ k₀ west south east north k = maxEntries - k
+decreases-loop table c west₀ south₀ east₀ north₀ k₀ west south east north k = max_entries - k
 
 loop-holds : tie.Need-loop-init invariant-loop decreases-loop
 loop-holds c = search rules
