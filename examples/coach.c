@@ -1,5 +1,5 @@
-/* A day of a coach with the stop service: some stops, a standing leg, other legs, a stop that is
-   closed for a while, and one that is taken out. Prints each list in words. With the library installed (make install) build it with
+/* A day of a coach with the stop service: some stops, a standing leg, other legs, and a stop that
+   is taken out. Prints each list in words. With the library installed (make install) build it with
        cc examples/coach.c $(pkg-config --cflags --libs stops) -o coach
    and in a checkout with
        cc -Iinclude examples/coach.c target/staticlib/libhost.a -lm -o coach */
@@ -29,7 +29,7 @@ static const char *const refusals[] = {
     "the number is already held",
     "the number is not held",
     "the table is full",
-    "no stop is open",
+    "no stop is held",
     "no leg is standing",
     "no tour is under way",
     "",
@@ -91,22 +91,6 @@ static void remove_stop(int number)
     say_outcome(serve(command, length));
 }
 
-static void close_stop(int number)
-{
-    uint8_t command[STOPS_LONGEST_COMMAND];
-    size_t length = stops_put_close(command, sizeof command, number);
-    printf("Close stop %d: ", number);
-    say_outcome(serve(command, length));
-}
-
-static void open_stop(int number)
-{
-    uint8_t command[STOPS_LONGEST_COMMAND];
-    size_t length = stops_put_open(command, sizeof command, number);
-    printf("Open stop %d: ", number);
-    say_outcome(serve(command, length));
-}
-
 static void stand(struct position s, struct position e)
 {
     uint8_t command[STOPS_LONGEST_COMMAND];
@@ -149,10 +133,6 @@ int main(void)
     print();
     list(west, east);
     list(east, east);
-    close_stop(1);
-    print();
-    open_stop(1);
-    print();
     remove_stop(2);
     print();
     remove_stop(2);

@@ -3,9 +3,9 @@
 #ifndef STOPS_H
 #define STOPS_H
 
-#define STOPS_VERSION "0.13.0"
+#define STOPS_VERSION "0.12.0"
 /* 10000 times the first number, 100 times the second, and the third. */
-#define STOPS_VERSION_NUMBER 1300
+#define STOPS_VERSION_NUMBER 1200
 
 #include <stddef.h>
 #include <stdint.h>
@@ -53,16 +53,11 @@ enum stops_command {
     STOPS_STAND = 0x53,         /* start and end of the standing leg */
     STOPS_PRINT = 0x50,         /* nothing: prints the standing list */
     STOPS_BEGIN = 0x42,         /* position: begins a tour there, also within another one; an
-                                   accepted addition, removal or move of a site ends it, and so
-                                   does a change of a site's mark */
+                                   accepted addition, removal or move of a site ends it */
     STOPS_CORNER = 0x43,        /* position: lists the leg from the tour's last corner to this one,
                                    which is the last corner then */
     STOPS_ADD_READINGS = 0x61,  /* number, readings: as STOPS_ADD with their steps */
-    STOPS_MOVE_READINGS = 0x6D, /* number, readings: as STOPS_MOVE with their steps */
-    STOPS_CLOSE = 0x58,         /* number: closes the site, which stays held and is in no list until
-                                   it is opened; one that is closed already is left so */
-    STOPS_OPEN = 0x4F           /* number: opens the site; an added site is open, and a moved one
-                                   keeps its mark */
+    STOPS_MOVE_READINGS = 0x6D  /* number, readings: as STOPS_MOVE with their steps */
 };
 
 /* First bytes of the records in a report. */
@@ -87,7 +82,7 @@ enum stops_refusal {
     STOPS_NUMBER_HELD = 3,
     STOPS_NUMBER_NOT_HELD = 4,
     STOPS_TABLE_FULL = 5,
-    STOPS_NO_SITE = 6,    /* no site open: none is held, or all are closed */
+    STOPS_NO_SITE = 6,
     STOPS_NO_STANDING_LEG = 7,
     STOPS_NO_TOUR = 8,    /* STOPS_CORNER, and no tour is under way */
     STOPS_NOT_FINITE = 11 /* a reading is not a finite number; tested after STOPS_NUMBER_ZERO and
@@ -188,15 +183,6 @@ static inline size_t stops_put_leg(uint8_t *to, size_t room, uint8_t mark, int32
     return 9;
 }
 
-static inline size_t stops_put_number(uint8_t *to, size_t room, uint8_t mark, int32_t number)
-{
-    if (room < 3 || !stops_fits_number(number))
-        return 0;
-    to[0] = mark;
-    stops_put_word(to + 1, number);
-    return 3;
-}
-
 static inline size_t stops_put_position(uint8_t *to, size_t room, uint8_t mark, int32_t east,
                                         int32_t north)
 {
@@ -234,17 +220,11 @@ static inline size_t stops_put_move_readings(uint8_t *to, size_t room, int32_t n
 
 static inline size_t stops_put_remove(uint8_t *to, size_t room, int32_t number)
 {
-    return stops_put_number(to, room, STOPS_REMOVE, number);
-}
-
-static inline size_t stops_put_close(uint8_t *to, size_t room, int32_t number)
-{
-    return stops_put_number(to, room, STOPS_CLOSE, number);
-}
-
-static inline size_t stops_put_open(uint8_t *to, size_t room, int32_t number)
-{
-    return stops_put_number(to, room, STOPS_OPEN, number);
+    if (room < 3 || !stops_fits_number(number))
+        return 0;
+    to[0] = STOPS_REMOVE;
+    stops_put_word(to + 1, number);
+    return 3;
 }
 
 static inline size_t stops_put_list(uint8_t *to, size_t room, int32_t s_east, int32_t s_north,

@@ -6,7 +6,7 @@ mod entry;
 mod record;
 
 pub use entry::Entry;
-pub use record::{CLOSED, OPEN, Record};
+pub use record::Record;
 use std::ops::Range;
 
 pub const TABLE_LEN: usize = 32_768;
@@ -15,11 +15,7 @@ pub const WORK_LEN: usize = of_header(env!("STOPS_WORK_BYTES"));
 pub const MOST_SITES: usize = 512;
 
 /// The layout's own number: a table with another one is of another layout.
-pub const LAYOUT_NUMBER: u16 = 3;
-/// The first layout whose coordinates are counted on today's grid; it also has room for a tour.
-pub const WIDE_GRID_LAYOUT: u16 = 2;
-/// The first layout that has marks and numbers of open sites.
-pub const MARKS_LAYOUT: u16 = 3;
+pub const LAYOUT_NUMBER: u16 = 2;
 
 /// The header's words.
 pub const SITES_HELD: usize = 0;
@@ -28,7 +24,7 @@ pub const LEG_FLAG: usize = 2;
 pub const LEG_WORDS: [usize; 4] = [4, 6, 8, 10];
 pub const ENTRIES_LISTED: usize = 12;
 pub const LAYOUT: usize = 14;
-/// The tour's words; all 0 without one, and in every table of layouts 0 and 1.
+/// The tour's words; all 0 without one, and in every table of an earlier release.
 pub const TOUR: Range<usize> = 16..24;
 pub const TOUR_FLAG: usize = 16;
 /// Easting and northing of its last corner.
@@ -47,10 +43,6 @@ pub const ROOT: usize = 5_186;
 pub const FREE_NODES: usize = 5_188;
 pub const STACK: usize = 5_190;
 pub const STACK_END: usize = 5_718;
-/// The number of open sites in the whole tree: the root's own.
-pub const OPEN_SITES: usize = 5_718;
-/// From here to the node pool the bytes are free.
-pub const TREE_END: usize = 5_720;
 
 pub const NODE_POOL: usize = 6_896;
 pub const NODE_LEN: usize = 98;
@@ -146,12 +138,12 @@ pub fn tour_words(table: &[u8]) -> Option<([u16; 2], u16)> {
     (word(table, TOUR_FLAG) == 1).then(words)
 }
 
-/// The header's bytes that are 0 in the table's layout: layouts 0 and 1 know no tour.
+/// The header's bytes that are 0 in the table's layout: the earlier ones know no tour.
 pub fn header_kept(table: &[u8]) -> Range<usize> {
-    if has_wide_grid(table) {
-        HEADER_KEPT
-    } else {
+    if is_earlier(table) {
         TOUR.start..HEADER_KEPT.end
+    } else {
+        HEADER_KEPT
     }
 }
 
@@ -172,22 +164,12 @@ pub fn is_earlier(table: &[u8]) -> bool {
     word(table, LAYOUT) < LAYOUT_NUMBER
 }
 
-/// Whether the table's layout has today's grid, and tours.
-pub fn has_wide_grid(table: &[u8]) -> bool {
-    word(table, LAYOUT) >= WIDE_GRID_LAYOUT
-}
-
-/// Whether the table's layout has marks, and numbers of open sites.
-pub fn has_marks(table: &[u8]) -> bool {
-    word(table, LAYOUT) >= MARKS_LAYOUT
-}
-
 /// The half-width of the grid from whose corner the table's coordinates are counted.
 pub fn half_width(table: &[u8]) -> u16 {
-    if has_wide_grid(table) {
-        HALF_WIDTH
-    } else {
+    if is_earlier(table) {
         EARLIER_HALF_WIDTH
+    } else {
+        HALF_WIDTH
     }
 }
 
@@ -214,7 +196,6 @@ const _: () = {
     assert!(STANDING_LIST == SITE_ARRAY + RECORD_LEN * MOST_SITES);
     assert!(LEVELS == STANDING_LIST + 2 * MOST_SITES);
     assert!(STACK_END == STACK + 2 * MOST_NODES);
-    assert!(OPEN_SITES == STACK_END && TREE_END == OPEN_SITES + 2);
     assert!(NODE_LEN == 2 + ENTRY_LEN * MOST_ENTRIES);
     assert!(NODE_POOL + NODE_LEN * MOST_NODES == TABLE_LEN);
 };

@@ -14,9 +14,7 @@ const BEGIN: u8 = 0x42;
 const CORNER: u8 = 0x43;
 const ADD_READINGS: u8 = 0x61;
 const MOVE_READINGS: u8 = 0x6D;
-const CLOSE: u8 = 0x58;
-const OPEN: u8 = 0x4F;
-const MARKS: [u8; 12] = [
+const MARKS: [u8; 10] = [
     ADD,
     REMOVE,
     MOVE,
@@ -27,8 +25,6 @@ const MARKS: [u8; 12] = [
     CORNER,
     ADD_READINGS,
     MOVE_READINGS,
-    CLOSE,
-    OPEN,
 ];
 
 /// Where a site is put: the position of a command.
@@ -50,20 +46,11 @@ pub enum Command {
     Begin(Position),
     /// The tour's next corner.
     Corner(Position),
-    /// Closes a site: no list has it until it is opened.
-    Close(u16),
-    Open(u16),
 }
 
 impl Command {
     pub fn add(site: Site) -> Self {
         Command::Add(site.number, Place::Steps(site.at))
-    }
-
-    /// What brings a site into a table, with its mark.
-    pub fn adding(site: Site) -> impl Iterator<Item = Self> {
-        let close = site.is_closed.then_some(Command::Close(site.number));
-        [Command::add(site)].into_iter().chain(close)
     }
 
     /// Those among its operands.
@@ -79,15 +66,16 @@ impl Command {
     pub fn write(&self, bytes: &mut Vec<u8>) {
         match *self {
             Command::Add(number, place) => put_site(bytes, [ADD, ADD_READINGS], number, place),
-            Command::Remove(number) => put_number(bytes, REMOVE, number),
+            Command::Remove(number) => {
+                bytes.push(REMOVE);
+                bytes.extend(number.to_le_bytes());
+            }
             Command::Move(number, place) => put_site(bytes, [MOVE, MOVE_READINGS], number, place),
             Command::List(leg) => put_leg(bytes, LIST, leg),
             Command::Stand(leg) => put_leg(bytes, STAND, leg),
             Command::Print => bytes.push(PRINT),
             Command::Begin(at) => put_corner(bytes, BEGIN, at),
             Command::Corner(at) => put_corner(bytes, CORNER, at),
-            Command::Close(number) => put_number(bytes, CLOSE, number),
-            Command::Open(number) => put_number(bytes, OPEN, number),
         }
     }
 
@@ -110,8 +98,6 @@ impl Command {
             CORNER => (Command::Corner(position(operands, 0)?), 5),
             ADD_READINGS => (Command::Add(word(operands, 0)?, readings(operands)?), 11),
             MOVE_READINGS => (Command::Move(word(operands, 0)?, readings(operands)?), 11),
-            CLOSE => (Command::Close(word(operands, 0)?), 3),
-            OPEN => (Command::Open(word(operands, 0)?), 3),
             _ => return None,
         };
         Some(command)
@@ -131,8 +117,6 @@ impl fmt::Display for Command {
             Command::Print => write!(f, "print"),
             Command::Begin(at) => write!(f, "tour {} {}", at.east, at.north),
             Command::Corner(at) => write!(f, "corner {} {}", at.east, at.north),
-            Command::Close(number) => write!(f, "close {number}"),
-            Command::Open(number) => write!(f, "open {number}"),
         }
     }
 }
@@ -144,11 +128,6 @@ impl fmt::Display for Place {
             Place::Readings(readings) => write!(f, "{readings}"),
         }
     }
-}
-
-fn put_number(bytes: &mut Vec<u8>, mark: u8, number: u16) {
-    bytes.push(mark);
-    bytes.extend(number.to_le_bytes());
 }
 
 /// The first mark is that for steps, the second that for readings.
@@ -291,22 +270,6 @@ mod tests {
             assert_eq!(written, bytes);
             assert_eq!(Command::read(&bytes), Some((command, 11)));
             assert!((0..11).all(|length| Command::read(&bytes[..length]).is_none()));
-            assert_eq!(command.to_string(), words);
-        }
-    }
-
-    #[test]
-    fn changes_of_a_sites_mark_come_back_byte_for_byte() {
-        for (command, mark, words) in [
-            (Command::Close(258), 0x58, "close 258"),
-            (Command::Open(258), 0x4F, "open 258"),
-        ] {
-            let bytes = [mark, 2, 1];
-            let mut written = Vec::new();
-            command.write(&mut written);
-            assert_eq!(written, bytes);
-            assert_eq!(Command::read(&bytes), Some((command, 3)));
-            assert!((0..3).all(|length| Command::read(&bytes[..length]).is_none()));
             assert_eq!(command.to_string(), words);
         }
     }

@@ -1,7 +1,7 @@
 //! A table as lines that make it anew, in any table.
 //!
-//! Document 01: the lists follow from the held sites, their marks and the standing leg alone, so these
-//! are all that has to be carried over; the tree's shape is not. A tour goes on from its last corner. No
+//! Document 01: the lists follow from the held sites and the standing leg alone, so these are all
+//! that has to be carried over; the tree's shape is not. A tour goes on from its last corner. No
 //! command brings back the site that it remembers, so its next record is a whole list, which is as
 //! right for whoever follows the tour.
 //!
@@ -11,11 +11,12 @@
 
 use crate::command::Command;
 use crate::desk::Desk;
+use crate::earlier::renewed;
 use crate::lists::RIGHT_FIRST;
 use crate::service::BROKEN_STANDING;
 use crate::status::{Failure, Met, unsound};
-use crate::{check, earlier, store, table};
-use binding::layout::{LAYOUT, word};
+use crate::{check, store, table};
+use binding::layout::{LAYOUT, is_earlier, word};
 use std::ffi::OsStr;
 use std::io::Write;
 
@@ -33,7 +34,7 @@ pub fn dump<W: Write, E: Write>(
     table: Vec<u8>,
     desk: &mut Desk<W, E>,
 ) -> Result<Met, Failure> {
-    let renewed = earlier::renewed(&table)?;
+    let renewed = renewed(&table)?;
     let doubtful = match store::table_of(file, renewed.clone()) {
         Err(Failure::NoTable(_, BROKEN_STANDING)) => true,
         taken => taken.map(|_| false)?,
@@ -43,9 +44,6 @@ pub fn dump<W: Write, E: Write>(
         desk.console
             .say(format_args!("{name} {}", how_read(&table)));
     }
-    if earlier::is_by_number_alone(&table)? {
-        desk.console.say(format_args!("{name} {}", by_number()));
-    }
     if doubtful {
         let reason = unsound(&name, BROKEN_STANDING);
         desk.console.say(format_args!("{reason}; {NO_LEG}"));
@@ -54,8 +52,8 @@ pub fn dump<W: Write, E: Write>(
     if tour.is_some_and(|tour| tour.remembered.is_some()) {
         desk.console.say(format_args!("{name} {ANEW}"));
     }
-    for line in table::sites(&renewed).into_iter().flat_map(Command::adding) {
-        desk.say(line)?;
+    for site in table::sites(&renewed) {
+        desk.say(Command::add(site))?;
     }
     if doubtful {
         desk.say(doubtful_leg(&renewed))?;
@@ -85,16 +83,15 @@ fn doubtful_leg(table: &[u8]) -> String {
     }
 }
 
-/// Of a table that is not read as one of this release.
-fn how_read(table: &[u8]) -> String {
-    format!("is of layout {}, and read as such", word(table, LAYOUT))
-}
-
-/// Of one whose list says that it is older than its layout. A fault in the leg of a later table can make
+/// Of a table that is not read as one of this release. A fault in the leg of a later table can make
 /// the list the earlier rule's, which nothing tells from a table of then.
-fn by_number() -> String {
-    format!(
-        "has a standing list of a release before {RIGHT_FIRST}, and is read as such; \
-         if it is of a later one, its leg or list is damaged"
-    )
+fn how_read(table: &[u8]) -> String {
+    if is_earlier(table) {
+        format!("is of layout {}, and read as such", word(table, LAYOUT))
+    } else {
+        format!(
+            "has a standing list of a release before {RIGHT_FIRST}, and is read as such; \
+             if it is of a later one, its leg or list is damaged"
+        )
+    }
 }

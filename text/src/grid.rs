@@ -16,8 +16,6 @@ pub struct Position {
 pub struct Site {
     pub number: u16,
     pub at: Position,
-    /// For the day: it is held, and no list has it.
-    pub is_closed: bool,
 }
 
 /// From `s` to `e`; the two may be equal.

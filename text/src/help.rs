@@ -18,7 +18,7 @@ mod tests {
         assert!(super::lines().starts_with("    add NUMBER"));
         assert!(!super::lines().contains("ANSWERS"));
         for word in [
-            "remove", "close", "open", "leg", "tour", "corner", "sites", "touring", "save", "quit",
+            "remove", "leg", "tour", "corner", "sites", "touring", "save", "quit",
         ] {
             assert!(super::lines().contains(word), "{word}");
         }

@@ -34,7 +34,7 @@ pub enum Said {
     Act(Act),
 }
 
-const KNOWN: &str = "add, remove, move, close, open, leg, stand, print, tour, corner; \
+const KNOWN: &str = "add, remove, move, leg, stand, print, tour, corner; \
                      sites, standing, touring, tree, save, draw, help, quit";
 const SITE: &str = "site number, easting, northing";
 const LEG: &str = "easting and northing of the start, then of the end";
@@ -94,9 +94,10 @@ fn command(first: &[u8], operands: &[&[u8]]) -> Result<Command, Complaint> {
         b"stand" => leg("stand", operands).map(Command::Stand),
         b"tour" => corner("tour", operands).map(Command::Begin),
         b"corner" => corner("corner", operands).map(Command::Corner),
-        b"remove" => held("remove", operands).map(Command::Remove),
-        b"close" => held("close", operands).map(Command::Close),
-        b"open" => held("open", operands).map(Command::Open),
+        b"remove" => {
+            let [number] = counted("remove", "site number", operands)?;
+            site_number(number).map(Command::Remove)
+        }
         b"print" => {
             let [] = counted("print", "nothing", operands)?;
             Ok(Command::Print)
@@ -117,12 +118,6 @@ fn counted<'a, const N: usize>(
 fn site(name: &'static str, operands: &[&[u8]]) -> Result<(u16, Place), Complaint> {
     let [number, east, north] = counted(name, SITE, operands)?;
     Ok((site_number(number)?, place(east, north)?))
-}
-
-/// The number of a site that the command finds there.
-fn held(name: &'static str, operands: &[&[u8]]) -> Result<u16, Complaint> {
-    let [number] = counted(name, "site number", operands)?;
-    site_number(number)
 }
 
 /// Steps, or readings where both words have an m behind them.
@@ -261,8 +256,6 @@ mod tests {
         assert_eq!(good("add 7 120 -35"), Some(Command::Add(7, place)));
         assert_eq!(good("move 7 120 -35"), Some(Command::Move(7, place)));
         assert_eq!(good("remove 7"), Some(Command::Remove(7)));
-        assert_eq!(good("close 7"), Some(Command::Close(7)));
-        assert_eq!(good("open 7"), Some(Command::Open(7)));
         assert_eq!(good("leg 0 -1 10 2"), Some(Command::List(leg)));
         assert_eq!(good("stand 0 -1 10 2"), Some(Command::Stand(leg)));
         assert_eq!(good("print"), Some(Command::Print));
@@ -390,10 +383,7 @@ mod tests {
                 "{line}"
             );
         }
-        for word in ["remove", "close", "open"] {
-            let line = format!("{word} 7m");
-            assert_eq!(bad(line.as_bytes()), "\"7m\" is not a whole number");
-        }
+        assert_eq!(bad(b"remove 7m"), "\"7m\" is not a whole number");
         assert_eq!(bad(b"add 7m 1m 1m"), "\"7m\" is not a whole number");
     }
 
@@ -422,11 +412,6 @@ mod tests {
                 "remove",
                 "remove takes 1 number (site number), not 0".into(),
             ),
-            ("close", "close takes 1 number (site number), not 0".into()),
-            (
-                "open 1 2",
-                "open takes 1 number (site number), not 2".into(),
-            ),
             ("print 1", "print takes 0 numbers (nothing), not 1".into()),
             ("leg 0 0 10", format!("leg takes 4 numbers ({ends}), not 3")),
             ("tour", format!("tour takes 2 numbers ({CORNER}), not 0")),
@@ -448,11 +433,6 @@ mod tests {
                 "remove 65536",
                 "site number \"65536\" is not within 1 to 65,535",
             ),
-            (
-                "close 65536",
-                "site number \"65536\" is not within 1 to 65,535",
-            ),
-            ("open -1", "site number \"-1\" is not within 1 to 65,535"),
             ("remove -1", "site number \"-1\" is not within 1 to 65,535"),
             (
                 "stand 0 0 -32769 0",

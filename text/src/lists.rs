@@ -23,15 +23,14 @@ impl Lists {
         let Some(leg) = table::leg(table) else {
             return Ok(Lists::default());
         };
-        let mut sites = table::sites(table);
-        sites.retain(|site| !site.is_closed);
+        let sites = table::sites(table);
         let today = today(leg, &sites)?;
         let earlier = earlier(leg, &sites, &today);
         Ok(Lists { today, earlier })
     }
 }
 
-/// What the service lists, over the open sites in a fresh table.
+/// What the service lists, over the sites in a fresh table.
 fn today(leg: Leg, sites: &[Site]) -> Result<Vec<u16>, Failure> {
     let mut service = Service::new()?;
     let mut commands = Vec::new();
@@ -89,7 +88,6 @@ mod tests {
         let site = |site: &second::Site| Site {
             number: site.number,
             at: position(site.position),
-            is_closed: false,
         };
         let sites: Vec<Site> = sites.iter().map(site).collect();
         let today = today(leg, &sites).unwrap();

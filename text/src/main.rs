@@ -17,7 +17,6 @@ mod input;
 mod line;
 mod lines;
 mod lists;
-mod marks;
 mod options;
 mod output;
 mod picture;

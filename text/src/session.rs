@@ -1,6 +1,5 @@
 //! A run's state: the service, what was told by now, and what lines may do besides.
 
-use crate::marks::Marks;
 use crate::picture::{self, Look};
 use crate::service::Service;
 use crate::status::{Failure, Met};
@@ -28,12 +27,8 @@ impl Session {
     pub fn new(service: Service) -> Self {
         let tour = |tour: UnderWay| Tour::under_way(tour.corner, tour.remembered);
         let table = service.table();
-        let closed = table::sites(table)
-            .into_iter()
-            .filter(|site| site.is_closed);
-        let marks = Marks::new(closed.map(|site| site.number));
         Session {
-            teller: Teller::new(table::leg(table), table::tour(table).map(tour), marks),
+            teller: Teller::new(table::leg(table), table::tour(table).map(tour)),
             service,
             met: Met::default(),
             plain: false,

@@ -15,11 +15,8 @@ pub fn sites<W: Write, E: Write>(
     desk: &mut Desk<W, E>,
 ) -> Result<(), Failure> {
     let sites = table::sites(service.table());
-    desk.say(format_args!("{name}{}", held(&sites)))?;
-    let say = |site: &Site| {
-        let mark = if site.is_closed { ", closed" } else { "" };
-        desk.say(format_args!("site {} at {}{mark}", site.number, site.at))
-    };
+    desk.say(format_args!("{name}{}", plural(sites.len(), "site")))?;
+    let say = |site: &Site| desk.say(format_args!("site {} at {}", site.number, site.at));
     sites.iter().try_for_each(say)
 }
 
@@ -82,8 +79,8 @@ pub fn counts<W: Write, E: Write>(
     desk: &mut Desk<W, E>,
 ) -> Result<(), Failure> {
     let table = service.table();
-    let sites = held(&table::sites(table));
-    let levels = plural(table::levels(table), "level");
+    let (sites, levels) = (table::sites(table).len(), table::levels(table));
+    let (sites, levels) = (plural(sites, "site"), plural(levels, "level"));
     let nodes = plural(table::nodes(table).len(), "node");
     desk.say(format_args!("{sites}, tree of {levels}, {nodes}"))?;
     let tour = table::tour(table);
@@ -95,15 +92,6 @@ pub fn counts<W: Write, E: Write>(
         }
     }
     tour.map_or(Ok(()), |tour| desk.say(tour_in_words(&tour)))
-}
-
-/// `2 sites`; `2 sites, 1 closed`.
-pub fn held(sites: &[Site]) -> String {
-    let held = plural(sites.len(), "site");
-    match sites.iter().filter(|site| site.is_closed).count() {
-        0 => held,
-        closed => format!("{held}, {closed} closed"),
-    }
 }
 
 fn plural(count: usize, noun: &str) -> String {

@@ -2,8 +2,7 @@
 
 use crate::grid::{Leg, Position, Site};
 use binding::layout::{
-    self, CLOSED, Entry, LEVELS, MOST_LEVELS, MOST_NODES, ROOT, Record, half_width, has_marks,
-    number,
+    self, Entry, LEVELS, MOST_LEVELS, MOST_NODES, ROOT, Record, half_width, number,
 };
 
 /// A box of an entry above the leaves; its corners are positions.
@@ -29,7 +28,6 @@ pub fn sites(table: &[u8]) -> Vec<Site> {
     let site = |record: Record| Site {
         number: record.number,
         at: position(table, record.east, record.north),
-        is_closed: record.mark == CLOSED && has_marks(table),
     };
     layout::records(table).map(site).collect()
 }
@@ -125,7 +123,7 @@ fn collect(table: &[u8], node: usize, depth: usize, areas: &mut Vec<Area>) {
 mod tests {
     use super::*;
     use crate::service::Service;
-    use reference::command::{add, close};
+    use reference::command::add;
     use reference::grid::HALF_WIDTH;
     use reference::random::Random;
 
@@ -142,15 +140,7 @@ mod tests {
                 east: east as i16,
                 north: north as i16,
             };
-            let is_closed = random.once_in(3);
-            if is_closed {
-                service.serve(&close(number), |_| Ok(())).unwrap();
-            }
-            held.push(Site {
-                number,
-                at,
-                is_closed,
-            });
+            held.push(Site { number, at });
         }
         (service.table().to_vec(), held)
     }

@@ -1,9 +1,8 @@
-//! Puts each record in words beside its command, and remembers what it needs for that: legs, where
-//! a tour is, and which sites are closed. Behind the words for readings it tells their steps.
+//! Puts each record in words beside its command, and remembers what it needs for that: legs, and
+//! where a tour is. Behind the words for readings it tells their steps.
 
 use crate::command::Command;
 use crate::grid::{Leg, Route};
-use crate::marks::Marks;
 use crate::record::Record;
 use crate::tour::Tour;
 use crate::words::{self, Known, Name};
@@ -16,7 +15,6 @@ pub struct Teller {
     /// Of the last accepted `stand`.
     standing: Option<Leg>,
     tour: Tour,
-    marks: Marks,
     asked: Option<Asked>,
     pub refused: bool,
 }
@@ -30,12 +28,11 @@ enum Asked {
 }
 
 impl Teller {
-    /// Of a table with this standing leg, tour and closed sites.
-    pub fn new(standing: Option<Leg>, tour: Option<Tour>, marks: Marks) -> Self {
+    /// Of a table with this standing leg and tour.
+    pub fn new(standing: Option<Leg>, tour: Option<Tour>) -> Self {
         Teller {
             standing,
             tour: tour.unwrap_or_default(),
-            marks,
             ..Teller::default()
         }
     }
@@ -78,9 +75,6 @@ impl Teller {
 
     fn hear(&mut self, command: &Command, record: &Record) {
         self.tour.hear(command, record);
-        if self.marks.hear(command, record) {
-            self.tour.end();
-        }
         match (command, record) {
             (Command::Stand(leg), Record::Accepted) => self.standing = Some(*leg),
             (Command::List(_), Record::Refused(OFF_GRID)) => {}

@@ -41,11 +41,6 @@ impl Tour {
         &self.driven
     }
 
-    /// A site's mark changed.
-    pub fn end(&mut self) {
-        self.renew(None);
-    }
-
     pub fn hear(&mut self, command: &Command, record: &Record) {
         match (command, record) {
             (Command::Begin(at), Record::Accepted) => self.renew(Some(*at)),
@@ -163,15 +158,9 @@ mod tests {
             (Command::Print, list(&[2])),
             (Command::Begin(C), Record::Refused(2)),
             (Command::Corner(C), Record::Refused(6)),
-            // Whether a mark changed the record does not say.
-            (Command::Close(7), Record::Accepted),
-            (Command::Open(7), Record::Accepted),
         ] {
             assert_eq!(known(&heard(begun(), &[other])), (Some(B), Some(6)));
         }
-        let mut ended = begun();
-        ended.end();
-        assert_eq!((known(&ended), ended.driven()), ((None, None), &[A, B][..]));
         let anew = heard(begun(), &[(Command::Begin(C), Record::Accepted)]);
         assert_eq!(known(&anew), (Some(C), None));
     }

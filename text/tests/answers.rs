@@ -35,16 +35,8 @@ fn every_refusal() {
         ("remove 7\n", "refused 4: number not held"),
         ("move 7 0 0\n", "refused 4: number not held"),
         (&format!("{full}add 513 0 0\n"), "refused 5: 512 sites held"),
-        ("leg 0 0 10 0\n", "refused 6: no site open"),
-        ("stand 0 0 10 0\nprint\n", "refused 6: no site open"),
-        (
-            "add 7 0 0\nclose 7\nleg 0 0 10 0\n",
-            "refused 6: no site open",
-        ),
-        ("close 0\n", "refused 1: site number 0"),
-        ("open 0\n", "refused 1: site number 0"),
-        ("close 7\n", "refused 4: number not held"),
-        ("open 7\n", "refused 4: number not held"),
+        ("leg 0 0 10 0\n", "refused 6: no site held"),
+        ("stand 0 0 10 0\nprint\n", "refused 6: no site held"),
         ("print\n", "refused 7: no standing leg"),
     ];
     for (lines, last) in cases {

@@ -1,5 +1,5 @@
-//! Tables that releases left, of layouts before this one: refused by the service with 65, told by
-//! --check, and carried over by --dump. Their sites are all open.
+//! Tables that releases left: taken as they are where they are sound today, and otherwise refused by
+//! the service, told by --check, and carried over by --dump.
 
 mod common;
 
@@ -9,7 +9,7 @@ use reference::command::Command;
 use reference::grid::Position;
 use reference::record::Record;
 use reference::ties::{number_alone, renamed};
-use service::bytes::{self, LEG_WORDS, listed, put_word, word};
+use service::bytes::{self, LEG_WORDS, TOUR, listed, put_word, word};
 use service::damage::aged;
 use std::path::Path;
 
@@ -32,10 +32,6 @@ const UNCHANGED: &str = "release-0.8.0-unchanged";
 const OF_0_9_0: &str = "release-0.9.0";
 /// The same, with a tour of three legs under way; tour and corner lines are asked, too.
 const TOURING: &str = "release-0.10.0-touring";
-/// Many of its sites came by readings.
-const OF_0_12_0: &str = "release-0.12.0";
-/// The same, with a tour of three legs under way.
-const TOURING_LAST: &str = "release-0.12.0-touring";
 
 /// Writes the kept table; its bytes.
 fn put(file: &Path, table: &str) -> Vec<u8> {
@@ -99,9 +95,13 @@ fn a_table_of_release_0_7_0_is_carried_over() {
     let (old, new) = (table("of 0.7.0"), table("carried over"));
     let bytes = put(&old, OF_0_7_0);
     assert_eq!(bytes[14..16], [1, 0]);
-    assert_refused(&old);
+    assert_refused(&old, 65);
     let dump = file_mode("--dump", &old);
-    assert_eq!((dump.code, &dump.err), (0, &read_as(&old, 1)));
+    let told = format!(
+        "stops-text: {} is of layout 1, and read as such\n",
+        old.display()
+    );
+    assert_eq!((dump.code, &dump.err), (0, &told));
     assert_eq!(dump.out, kept(OF_0_7_0, "dump"));
     assert!(std::fs::read(&old).unwrap() == bytes);
     assert_eq!(on(&new, &["--create"], dump.text()).code, 0);
@@ -110,38 +110,22 @@ fn a_table_of_release_0_7_0_is_carried_over() {
 }
 
 /// Where --dump helps.
-fn assert_refused(file: &Path) {
+fn assert_refused(file: &Path, reason: u32) {
     let served = on(file, &[], "print\n");
     let told = format!(
-        "stops-text: {0} is a table of an earlier release, refused with reason 65; --dump {0} carries it over\n",
+        "stops-text: {0} is a table of an earlier release, refused with reason {reason}; --dump {0} carries it over\n",
         file.display()
     );
     assert_eq!((served.code, served.text()), (5, ""));
     assert_eq!(served.err, told);
 }
 
-/// What --dump says of a table of an earlier layout.
-fn read_as(file: &Path, layout: u8) -> String {
-    let file = file.display();
-    format!("stops-text: {file} is of layout {layout}, and read as such\n")
-}
-
-/// What it says of one of layout 2 whose list is right by the earlier rule alone.
+/// What --dump says of a list that is right by the earlier rule alone.
 fn read_by_number(file: &Path) -> String {
     format!(
-        "{}stops-text: {} has a standing list of a release before 0.9.0, and is read as such; \
+        "stops-text: {} has a standing list of a release before 0.9.0, and is read as such; \
          if it is of a later one, its leg or list is damaged\n",
-        read_as(file, 2),
         file.display()
-    )
-}
-
-/// What --check says of a sound one, before its sites.
-fn told_sound(layout: u8) -> String {
-    format!(
-        "broken: the service refuses it with reason 65
-header: the number of an earlier layout: --dump reads such, byte 14: {layout} stands there, 3 belongs there
-"
     )
 }
 
@@ -151,7 +135,7 @@ fn a_table_whose_list_the_right_hand_rule_changes_is_carried_over() {
     let (old, new) = (table("by number"), table("right first"));
     let bytes = put(&old, CHANGED);
     assert_eq!(bytes[14..16], [2, 0]);
-    assert_refused(&old);
+    assert_refused(&old, 69);
     let dump = file_mode("--dump", &old);
     assert_eq!((dump.code, &dump.err), (0, &read_by_number(&old)));
     assert_eq!(dump.out, kept(CHANGED, "dump"));
@@ -163,7 +147,7 @@ fn a_table_whose_list_the_right_hand_rule_changes_is_carried_over() {
 }
 
 /// The leg turns round, and with it the side on which the site of the list stands. So the list is
-/// the earlier rule's, and nothing tells the table from one of then; but in this layout there are none.
+/// the earlier rule's, and nothing tells the table from one of then.
 #[test]
 fn a_hit_leg_whose_list_is_that_of_an_earlier_release_is_told() {
     let file = table("hit leg");
@@ -175,35 +159,11 @@ fn a_hit_leg_whose_list_is_that_of_an_earlier_release_is_told() {
     let easting = word(&bytes, LEG_WORDS[0]);
     put_word(&mut bytes, LEG_WORDS[0], easting ^ 0x400);
     std::fs::write(&file, &bytes).unwrap();
-    let dump = file_mode("--dump", &file);
-    assert!(
-        dump.code == 5 && !dump.err.contains("0.9.0"),
-        "{}",
-        dump.err
-    );
-    let comment = format!("{adds}{MAYBE}# stand -944 0 0 0\n");
-    assert_eq!(dump.text(), comment);
-    let bytes = aged(&bytes, 2);
-    std::fs::write(&file, &bytes).unwrap();
-    assert_refused(&file);
+    assert_refused(&file, 69);
     let dump = file_mode("--dump", &file);
     assert_eq!((dump.code, &dump.err), (0, &read_by_number(&file)));
     assert_eq!(dump.text(), format!("{adds}stand -944 0 0 0\n"));
     assert!(std::fs::read(&file).unwrap() == bytes);
-}
-
-/// Before a stand that may be the leg.
-const MAYBE: &str =
-    "# The standing list was wrong, so the leg may be. If this is the leg, take the # away:\n";
-
-/// What --dump says of one of layout 2 whose leg or list is wrong.
-fn read_doubtful(file: &Path) -> String {
-    format!(
-        "{}stops-text: {} is no sound table: reason 69, the standing leg or list in the table is wrong, \
-         its sites can be read; the lines add them all and set no standing leg\n",
-        read_as(file, 2),
-        file.display()
-    )
 }
 
 /// Neither release took it: the list is a wrong one, and the leg may be.
@@ -216,213 +176,147 @@ fn a_list_of_an_earlier_release_and_a_tour_do_not_go_together() {
     let dump = file_mode("--dump", &old);
     let lines = String::from_utf8(kept(CHANGED, "dump")).unwrap();
     let (adds, stand) = lines.split_once("stand").unwrap();
-    let doubtful = format!("{adds}{MAYBE}# stand{stand}tour -12000 -12000\n");
+    let comment =
+        "# The standing list was wrong, so the leg may be. If this is the leg, take the # away:";
+    let doubtful = format!("{adds}{comment}\n# stand{stand}tour -12000 -12000\n");
     assert_eq!((dump.code, dump.text()), (5, doubtful.as_str()));
-    assert_eq!(dump.err, read_doubtful(&old));
     let served = on(&old, &[], "print\n");
     assert_eq!((served.code, served.text()), (5, ""));
-    assert!(served.err.contains("is no sound table: reason 65, "));
+    assert!(served.err.contains("is no sound table: reason 69, "));
     let told = file_mode("--check", &old);
-    assert!(told.text().contains(READABLE), "{}", told.text());
     assert!(!told.text().contains("0.9.0"), "{}", told.text());
 }
 
-/// What --check says where nothing but the leg or the list is wrong.
-const READABLE: &str = "\nthe sites, the tour and the tree keep their rules, so all sites can be read, \
-                        whichever of leg and list is damaged: --dump writes the lines that lay the table out anew\n";
-
-/// What releases 0.11.0 and 0.12.0 refuse with 69 has the same lines, the leg as a comment.
-#[test]
-fn a_wrong_leg_or_list_in_layout_2_leaves_the_sites() {
-    let old = table("wrong list of then");
-    let whole = kept(OF_0_9_0, "stops");
-    let lines = String::from_utf8(kept(OF_0_9_0, "dump")).unwrap();
-    let (adds, stand) = lines.split_once("stand").unwrap();
-    let maybe = format!("{MAYBE}# stand{stand}");
-    let off = "# The standing leg was off the grid: (12001, -7000) to (8600, 6200)\n";
-    for (at, wrong, comment) in [
-        (4_160, 0, maybe.as_str()),
-        (4_162, 65_535, maybe.as_str()),
-        (12, 0, maybe.as_str()),
-        (12, 513, maybe.as_str()),
-        (LEG_WORDS[0], 24_001, off),
-    ] {
-        let mut bytes = whole.clone();
-        put_word(&mut bytes, at, wrong);
-        std::fs::write(&old, &bytes).unwrap();
-        let dump = file_mode("--dump", &old);
-        assert_eq!((dump.code, &dump.err), (5, &read_doubtful(&old)));
-        assert_eq!(dump.text(), format!("{adds}{comment}"));
-        let told = file_mode("--check", &old);
-        assert!(told.text().starts_with(&told_sound(2)), "{}", told.text());
-        assert!(told.text().contains("\nstanding l"), "{}", told.text());
-        assert!(told.text().contains(READABLE), "{}", told.text());
-        assert!(told.text().ends_with(adds), "{}", told.text());
-        assert!(std::fs::read(&old).unwrap() == bytes);
+/// `4,160`
+fn grouped(number: usize) -> String {
+    match (number / 1_000, number % 1_000) {
+        (0, _) => number.to_string(),
+        (thousands, rest) => format!("{thousands},{rest:03}"),
     }
 }
 
 #[test]
 fn a_list_of_an_earlier_release_is_told() {
-    let old = table("by number");
-    put(&old, CHANGED);
+    let (old, new) = (table("by number"), table("right first"));
+    let bytes = put(&old, CHANGED);
     let dump = String::from_utf8(kept(CHANGED, "dump")).unwrap();
-    let mut expected = told_sound(2);
+    assert_eq!(on(&new, &["--create"], &dump).code, 0);
+    let mut expected = "broken: the service refuses it with reason 69\n".to_string();
+    let (then, now) = (listed(&bytes), listed(&std::fs::read(&new).unwrap()));
+    assert_eq!(then.len(), now.len());
+    for (i, (then, now)) in then.iter().zip(&now).enumerate() {
+        if then != now {
+            let at = grouped(4_160 + 2 * i);
+            let (then, now) = (grouped((*then).into()), grouped((*now).into()));
+            expected += &format!(
+                "standing list, entry {i}: not the site of the leg's list, byte {at}: {then} stands there, {now} belongs there\n"
+            );
+        }
+    }
     expected +=
         "the standing list is that of a release before 0.9.0: --dump carries the table over\n";
-    expected += &read(&dump);
+    expected += "the sites, the tour and the tree keep their rules, so all sites can be read, \
+                 whichever of leg and list is damaged: \
+                 --dump writes the lines that lay the table out anew\n";
+    let adds: Vec<&str> = dump
+        .lines()
+        .filter(|line| line.starts_with("add"))
+        .collect();
+    expected += &format!("sites that can still be read: {}\n", adds.len());
+    expected += &(adds.join("\n") + "\n");
     let told = file_mode("--check", &old);
     assert_eq!((told.code, told.text()), (5, expected.as_str()));
     assert_eq!(told.err, "");
 }
 
-/// What --check says of the sites that these lines add.
-fn read(dump: &str) -> String {
-    let adds = dump.lines().filter(|line| line.starts_with("add"));
-    let adds: Vec<&str> = adds.collect();
-    let count = adds.len();
-    format!(
-        "sites that can still be read: {count}\n{}\n",
-        adds.join("\n")
-    )
-}
-
 /// Many of its sites tie, and along other legs the right-hand rule names other ones.
 #[test]
-fn a_table_whose_list_the_right_hand_rule_leaves_is_carried_over() {
-    let (old, new) = (table("by either"), table("by either anew"));
-    let bytes = put(&old, UNCHANGED);
+fn a_table_whose_list_the_right_hand_rule_leaves_is_taken_as_it_is() {
+    let file = table("as it is");
+    let bytes = put(&file, UNCHANGED);
+    let written = || std::fs::metadata(&file).unwrap().modified().unwrap();
+    let before = written();
     assert_eq!(bytes[14..16], [2, 0]);
-    let dump = carried_over(&old, &new, UNCHANGED);
-    assert_eq!(dump, read_as(&old, 2));
-    let printed = on(&new, &["--plain"], "print\n");
+    let told = file_mode("--check", &file);
+    assert!(told.text().starts_with("sound: no rule is broken\n"));
+    assert_eq!((told.code, told.err.as_str()), (0, ""));
+    let printed = on(&file, &["--plain"], "print\n");
     let (list, _) = printed.text().split_once("end 0").unwrap();
     assert!(kept(UNCHANGED, "answers").starts_with(list.as_bytes()));
-    assert!(assert_answers(&new, UNCHANGED));
+    assert!(assert_answers(&file, UNCHANGED));
+    assert!(std::fs::read(&file).unwrap() == bytes && written() == before);
+    let dump = file_mode("--dump", &file);
+    assert_eq!((dump.code, dump.err.as_str()), (0, ""));
+    assert_eq!(dump.out, kept(UNCHANGED, "dump"));
 }
 
-/// A sound table of layout 2 and none but that: refused, told, dumped as its own release did, and laid
-/// out anew. What --dump says.
-fn carried_over(old: &Path, new: &Path, kept_table: &str) -> String {
-    let bytes = std::fs::read(old).unwrap();
-    assert_refused(old);
-    let lines = String::from_utf8(kept(kept_table, "dump")).unwrap();
-    let told = file_mode("--check", old);
-    let expected = told_sound(2) + &read(&lines);
-    assert_eq!((told.code, told.text()), (5, expected.as_str()));
-    let dump = file_mode("--dump", old);
-    assert_eq!((dump.code, dump.text()), (0, lines.as_str()));
-    assert!(std::fs::read(old).unwrap() == bytes);
-    assert_eq!(on(new, &["--create"], &lines).code, 0);
-    let told = file_mode("--check", new);
-    assert!(told.text().starts_with("sound: no rule is broken\n"));
-    assert_eq!(file_mode("--dump", new).text(), lines);
-    dump.err
-}
-
-/// Asks a table that was laid out anew what was asked of the kept one, for the same answers. It has
-/// the book that the second program has in the end.
+/// Asks a kept table of today's rules what was asked of it then, for the same answers. It has the
+/// book that the second program has in the end.
 fn assert_same_answers(file: &Path, table: &str) {
-    let mut book = bytes::book(&std::fs::read(file).unwrap());
+    let mut book = bytes::book(&kept(table, "stops"));
+    let last = book.tour.and_then(|tour| tour.remembered);
     let commands = asked(table);
-    let second = answers_from(None, &commands, &book.records(&commands)) + END;
+    let second = answers_from(last, &commands, &book.records(&commands)) + END;
     let lines = String::from_utf8(kept(table, "asked")).unwrap();
     let answered = on(file, &["--plain"], &lines);
-    assert_eq!(without_points(answered.text()), second);
     assert!(answered.out == kept(table, "answers"));
+    assert_eq!(without_points(answered.text()), second);
     assert!(bytes::book(&std::fs::read(file).unwrap()) == book);
 }
 
-/// Its list is by the rule of today, and before 0.9.0 it would have been another.
-fn assert_right_first(table: &[u8]) {
-    let book = bytes::book(table);
+/// The bytes of a tour were kept for later, and 0.
+#[test]
+fn a_table_of_release_0_9_0_is_taken_as_it_is() {
+    let file = table("of 0.9.0");
+    let bytes = put(&file, OF_0_9_0);
+    let written = || std::fs::metadata(&file).unwrap().modified().unwrap();
+    let before = written();
+    assert_eq!(bytes[14..16], [2, 0]);
+    assert!(bytes[16..64].iter().all(|byte| *byte == 0));
+    let book = bytes::book(&bytes);
     let list = book.split_list(&book.leg.unwrap());
     let by_number = renamed(&book.leg.unwrap(), &book.sites(), &list, number_alone);
     assert!(by_number != list, "another list before 0.9.0");
+    let told = file_mode("--check", &file);
+    assert!(told.text().starts_with("sound: no rule is broken\n"));
+    assert_eq!((told.code, told.err.as_str()), (0, ""));
+    assert_same_answers(&file, OF_0_9_0);
+    let dump = file_mode("--dump", &file);
+    assert_eq!((dump.code, dump.err.as_str()), (0, ""));
+    assert_eq!(dump.out, kept(OF_0_9_0, "dump"));
+    let refused = on(&file, &["--plain"], "corner 0 0\n");
+    assert_eq!(
+        refused.text(),
+        format!("refused 8: no tour under way\n{END}")
+    );
+    assert!(std::fs::read(&file).unwrap() == bytes && written() == before);
+    // The standing leg as a tour's has the same list.
+    let lines = "print\ntour -9000 -7000\ncorner 8600 6200\n";
+    let answers = on(&file, &["--plain"], lines);
+    let (printed, driven) = answers.text().split_once("accepted\n").unwrap();
+    assert_eq!(format!("{printed}{END}"), driven);
+    let toured = std::fs::read(&file).unwrap();
+    assert!(toured[..TOUR.start] == bytes[..TOUR.start] && toured[TOUR.end..] == bytes[TOUR.end..]);
+    assert_ne!(toured[TOUR], bytes[TOUR]);
 }
 
-#[test]
-fn a_table_of_release_0_9_0_is_carried_over() {
-    let (old, new) = (table("of 0.9.0"), table("of 0.9.0 anew"));
-    let bytes = put(&old, OF_0_9_0);
-    assert_eq!(bytes[14..16], [2, 0]);
-    assert!(bytes[16..64].iter().all(|byte| *byte == 0));
-    assert_right_first(&bytes);
-    assert_eq!(carried_over(&old, &new, OF_0_9_0), read_as(&old, 2));
-    assert_same_answers(&new, OF_0_9_0);
-}
-
-/// From its last corner on; the first leg is listed whole, since no line says what it remembers.
 #[test]
 fn a_tour_of_release_0_10_0_goes_on() {
-    let (old, new) = (table("touring"), table("touring anew"));
-    let bytes = put(&old, TOURING);
+    let file = table("touring");
+    let bytes = put(&file, TOURING);
     let tour = Tour {
         corner: Position::new(3_400, 2_300),
         remembered: Some(283),
     };
     assert_eq!(bytes::tour(&bytes), Some(tour));
-    assert_begun_anew(&old, &new, TOURING);
-}
-
-/// What --dump says of the tour stands behind what it says of the layout; then the tour is driven on.
-fn assert_begun_anew(old: &Path, new: &Path, table: &str) {
-    let anew = "has a tour under way: the lines begin it anew at its last corner, so its next list is a whole one";
-    let said = format!("{}stops-text: {} {anew}\n", read_as(old, 2), old.display());
-    assert_eq!(carried_over(old, new, table), said);
-    let mut book = bytes::book(&std::fs::read(old).unwrap());
-    let corner = book.tour.unwrap().corner;
-    assert!(book.tour.take().unwrap().remembered.is_some());
-    book.tour = Some(Tour::begun(corner));
-    assert!(bytes::book(&std::fs::read(new).unwrap()) == book);
-    let commands = asked(table);
-    let records = book.records(&commands);
-    let second = answers_from(None, &commands, &records) + END;
-    let lines = String::from_utf8(kept(table, "asked")).unwrap();
-    let answered = on(new, &["--plain"], &lines);
-    assert_eq!(without_points(answered.text()), second);
-    assert!(bytes::book(&std::fs::read(new).unwrap()) == book);
-    assert_same_but_first(answered.text(), table);
-}
-
-/// Then the first leg was listed without its first entry, where that is the remembered site.
-fn assert_same_but_first(answers: &str, table: &str) {
-    let then = String::from_utf8(kept(table, "answers")).unwrap();
-    let of = |answers: &str| -> Vec<String> {
-        let lists = answers.split("list of ").map(String::from);
-        lists.collect()
-    };
-    let (then, now) = (of(&then), of(answers));
-    assert_eq!(then.len(), now.len());
-    let other = then.iter().zip(&now).filter(|(then, now)| then != now);
-    let other: Vec<(&String, &String)> = other.collect();
-    let [(then, now)] = other[..] else {
-        panic!("{other:?}");
-    };
-    let (_, still) = then.split_once("\nstill site ").unwrap();
-    let (site, entries) = still.split_once('\n').unwrap();
-    let (_, whole) = now.split_once('\n').unwrap();
-    let (first, rest) = whole.split_once('\n').unwrap();
-    assert!(first.starts_with("from 0/1 ") && first.ends_with(&format!(" site {site}")));
-    assert_eq!(rest, entries);
-}
-
-/// The steps that its readings went to are what it holds.
-#[test]
-fn a_table_of_release_0_12_0_is_carried_over() {
-    let (old, new) = (table("of 0.12.0"), table("of 0.12.0 anew"));
-    let bytes = put(&old, OF_0_12_0);
-    assert_eq!(bytes[14..16], [2, 0]);
-    assert_right_first(&bytes);
-    assert_eq!(carried_over(&old, &new, OF_0_12_0), read_as(&old, 2));
-    assert_same_answers(&new, OF_0_12_0);
-}
-
-#[test]
-fn a_tour_of_release_0_12_0_goes_on() {
-    let (old, new) = (table("touring last"), table("touring last anew"));
-    put(&old, TOURING_LAST);
-    assert_begun_anew(&old, &new, TOURING_LAST);
+    let told = file_mode("--check", &file);
+    assert!(told.text().starts_with("sound: no rule is broken\n"));
+    assert_eq!((told.code, told.err.as_str()), (0, ""));
+    let dump = file_mode("--dump", &file);
+    assert_eq!((dump.code, dump.out), (0, kept(TOURING, "dump")));
+    assert!(dump.err.contains("has a tour under way"), "{}", dump.err);
+    assert!(std::fs::read(&file).unwrap() == bytes);
+    assert_same_answers(&file, TOURING);
 }
 
 /// By number, as their releases listed.
@@ -442,10 +336,14 @@ fn lists_in_earlier_layouts_are_by_number() {
         assert!(told.text().contains(what), "{}", told.text());
         bytes[4_160] = 2;
         std::fs::write(&old, &bytes).unwrap();
-        assert_refused(&old);
+        assert_refused(&old, 65);
         let dump = file_mode("--dump", &old);
         assert_eq!((dump.code, dump.text()), (0, lines));
-        assert_eq!(dump.err, read_as(&old, number as u8));
+        let layout = format!(
+            "{} is of layout {number}, and read as such\n",
+            old.display()
+        );
+        assert_eq!(dump.err, format!("stops-text: {layout}"));
         let told = file_mode("--check", &old);
         assert!(!told.text().contains("standing list"), "{}", told.text());
     }
@@ -461,15 +359,25 @@ fn tables_of_earlier_layouts_are_told_and_dumped() {
         bytes[14] = number;
         std::fs::write(&old, &bytes).unwrap();
         let told = file_mode("--check", &old);
-        let dump = String::from_utf8(kept(OF_0_7_0, "dump")).unwrap();
-        let expected = told_sound(number) + &read(&dump);
+        let adds = String::from_utf8(kept(OF_0_7_0, "dump")).unwrap();
+        let adds: String = adds
+            .lines()
+            .filter(|line| line.starts_with("add"))
+            .fold(String::new(), |all, line| all + line + "\n");
+        let expected = format!(
+            "broken: the service refuses it with reason 65
+header: the number of an earlier layout: --dump reads such, byte 14: {number} stands there, 2 belongs there
+sites that can still be read: {}
+{adds}",
+            adds.lines().count()
+        );
         assert_eq!((told.code, told.text()), (5, expected.as_str()));
         let dump = file_mode("--dump", &old);
         assert_eq!((dump.code, dump.out), (0, kept(OF_0_7_0, "dump")));
     }
 }
 
-/// With a site on the edge of the earlier grid, without a leg, and empty.
+/// With a site on the edge of the earlier grid, without a leg, and empty; layouts 0 and 1.
 #[test]
 fn tables_of_every_kind_are_carried_over() {
     let many: String = (1..=60)
@@ -487,7 +395,7 @@ fn tables_of_every_kind_are_carried_over() {
         let (new, old) = (table("new kind"), table("old kind"));
         assert_eq!(on(&new, &["--create"], lines).code, 0);
         let bytes = std::fs::read(&new).unwrap();
-        for number in [0, 1, 2] {
+        for number in [0, 1] {
             std::fs::write(&old, aged(&bytes, number)).unwrap();
             assert_eq!(on(&old, &[], "").code, 5);
             let dump = file_mode("--dump", &old);
@@ -530,7 +438,7 @@ fn a_table_that_its_own_release_refused_is_not_dumped() {
     let whole = kept(OF_0_7_0, "stops");
     let root = 6_896 + 98 * usize::from(u16::from_le_bytes([whole[5_186], whole[5_187]]));
     let broken = [
-        ("an unknown layout", 14, word(4)),
+        ("an unknown layout", 14, word(3)),
         ("a kept word", 20, word(1)),
         ("a tour, before there were any", 16, word(1)),
         (
@@ -548,8 +456,6 @@ fn a_table_that_its_own_release_refused_is_not_dumped() {
         ("one entry of it less", 12, word(23)),
         ("a box that is too wide", root + 4, word(65_535)),
         ("a number that falls", FIRST_RECORD, word(65_535)),
-        ("the mark of a closed site", FIRST_RECORD + 6, word(1)),
-        ("a number of open sites", root + 12, word(1)),
     ];
     for (what, at, bytes) in broken {
         let mut table = whole.clone();
@@ -561,13 +467,17 @@ fn a_table_that_its_own_release_refused_is_not_dumped() {
         assert!(dump.err.contains("reason 65"), "{}", dump.err);
         // What is told is more than that the layout is an earlier one, or another.
         let told = file_mode("--check", &old).text().lines().count();
-        assert!(told > 3 + usize::from(whole[0]), "{what}");
+        assert_eq!(
+            what == "an unknown layout",
+            told == 3 + usize::from(whole[0]),
+            "{what}"
+        );
     }
     let mut table = whole.clone();
-    table[14] = 4;
+    table[14] = 3;
     std::fs::write(&old, &table).unwrap();
     let told = file_mode("--check", &old);
-    let read = "sites that can still be read, if they stand as in layout 3: 181\n";
+    let read = "sites that can still be read, if they stand as in layout 2: 181\n";
     assert!(told.text().contains(read), "{}", told.text());
     // Its easting is told as off the grid that it has, not this one's.
     let mut table = whole.clone();

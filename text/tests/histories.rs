@@ -125,9 +125,6 @@ fn every_layout_of_sites() {
             }));
             commands.push(command::remove(random.pick(&case.sites).number));
             commands.push(command::print());
-            let number = random.pick(&case.sites).number;
-            commands.push(random::mark(&mut random, number));
-            commands.push(command::print());
         }
         assert_answered(&commands);
     }

@@ -197,7 +197,7 @@ fn feed_slowly(mut input: impl Write) {
     input.write_all(b"print\n").unwrap();
 }
 
-const KNOWN: &str = "(known: add, remove, move, close, open, leg, stand, print, tour, corner; \
+const KNOWN: &str = "(known: add, remove, move, leg, stand, print, tour, corner; \
                      sites, standing, touring, tree, save, draw, help, quit)";
 const PROGRESS: &str = "read 0.0 MB";
 const CLEAR: &str = "\r\u{1b}[K";

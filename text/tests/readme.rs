@@ -36,7 +36,7 @@ fn shell(command: &str) -> String {
 fn each_example_prints_what_is_shown() {
     let readme = readme();
     let examples: Vec<&str> = readme.split("    $ ").skip(1).collect();
-    assert_eq!(examples.len(), 4);
+    assert_eq!(examples.len(), 3);
     for example in examples {
         let (command, rest) = example.split_once('\n').unwrap();
         let shown = rest.lines().map_while(|line| line.strip_prefix("    "));

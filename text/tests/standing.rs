@@ -60,7 +60,7 @@ fn add(number: i64, east: i64, north: i64) -> String {
 /// The right list of the standing leg in these bytes, by the second program.
 fn right_list(table: &[u8]) -> Vec<u16> {
     let leg = bytes::leg(table).unwrap();
-    let list = hull::split_list(&leg, &bytes::open_sites(table));
+    let list = hull::split_list(&leg, &bytes::sites(table));
     list.into_iter().map(|entry| entry.site).collect()
 }
 
@@ -180,7 +180,7 @@ fn broken(table: &[u8]) -> Vec<Put> {
     assert!(root != leaf);
     vec![
         (LEG_FLAG, 2),
-        (bytes::LAYOUT, 4),
+        (bytes::LAYOUT, 3),
         (bytes::HEADER_KEPT.start, 1),
         (bytes::SITES_HELD, 59),
         (bytes::SITES_HELD, 513),
@@ -189,7 +189,6 @@ fn broken(table: &[u8]) -> Vec<Put> {
         (record_at(5) + 2, FAR_EDGE + 1),
         (record_at(5) + 4, 0),
         (record_at(5) + 6, 1),
-        (record_at(5) + 6, 2),
         (TOUR_FLAG, 2),
         (bytes::CORNER_WORDS[0], 1),
         (bytes::REMEMBERED, 1),
@@ -197,14 +196,12 @@ fn broken(table: &[u8]) -> Vec<Put> {
         (bytes::ROOT, 264),
         (bytes::FREE_NODES, 264),
         (bytes::free_at(0), 264),
-        (bytes::OPEN_SITES, 59),
         (node_at(root), 1),
         (node_at(leaf), 9),
         (entry_at(root, 0) + 2, 0),
         (entry_at(root, 0) + 10, 1),
         (entry_at(leaf, 0), UNHELD),
         (entry_at(leaf, 0) + 6, 0),
-        (entry_at(leaf, 0) + 10, 0),
     ]
 }
 

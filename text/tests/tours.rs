@@ -128,7 +128,7 @@ fn refusal_6_leaves_the_corner() {
     let lines = "tour 5 5\ncorner 1 1\ntouring\nadd 1 0 0\ntour 5 5\ncorner 5 6\ntouring\n";
     let ran = run(&[], lines);
     let expected = "accepted
-line 2: refused 6: no site open
+line 2: refused 6: no site held
 line 3: tour under way, last corner (5, 5), no site remembered
 accepted
 accepted

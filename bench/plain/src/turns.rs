@@ -61,9 +61,3 @@ pub fn mean<const N: usize>(times: &[[f64; N]]) -> [f64; N] {
         sum / times.len() as f64
     })
 }
-
-/// The same over the tasks in one of several ways, where those of a table in all ways follow each other.
-pub fn mean_of_way<const N: usize>(times: &[[f64; N]], way: usize, ways: usize) -> [f64; N] {
-    let times: Vec<_> = times.iter().skip(way).step_by(ways).copied().collect();
-    mean(&times)
-}

@@ -2,7 +2,6 @@
 //! takes turns with legs on a table of the same kind, since it is counted in those.
 
 use crate::caller::{Calls, Singly, Together};
-use crate::closed::Closed;
 use crate::contenders::Hull;
 use crate::lists::{self, Plain};
 use plain::legs::Length;
@@ -19,7 +18,6 @@ const LEGS: usize = 200;
 
 pub struct Fixed {
     pub sites: usize,
-    pub closed: Closed,
     pub standing: Option<Length>,
     /// Those that are counted in.
     pub legs: Length,
@@ -39,8 +37,7 @@ pub struct Times {
 
 impl Fixed {
     fn table(&self, random: &mut Random) -> Vec<u8> {
-        let fresh = Kind::fresh(self.sites).table(&Proved, random);
-        let mut table = self.closed.table(&fresh);
+        let mut table = Kind::fresh(self.sites).table(&Proved, random);
         if let Some(length) = self.standing {
             let leg = length.leg(random);
             change(&Proved, &mut table, &command::stand(leg));

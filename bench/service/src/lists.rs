@@ -2,14 +2,13 @@
 //! Rust.
 
 use crate::caller::{Calls, LONGEST_RECORD, Singly, Together};
-use crate::closed::Closed;
 use crate::contenders::{Hull, Kept, Lister, Wrap};
-use crate::sites::{open, words};
+use crate::sites::{held, words};
 use crate::times::Times;
 use plain::legs::{Length, all_listed};
 use plain::tables::{Kind, filled};
 use plain::ties;
-use plain::turns::{Program, mean_of_way, medians};
+use plain::turns::{Program, take};
 use plain::vertex::{Leg, Site};
 use reference::command;
 use reference::grid::{self, MOST_SITES};
@@ -18,7 +17,7 @@ use reference::record::ENTRY_LEN;
 use service::Proved;
 use std::hint::black_box;
 
-/// A table, its open sites as a plain array, and legs to be listed.
+/// A table, its sites as a plain array, and legs to be listed.
 pub struct Task {
     pub calls: Calls,
     pub sites: Vec<Site>,
@@ -35,7 +34,7 @@ impl Task {
     pub fn new(table: Vec<u8>, legs: Vec<grid::Leg>) -> Self {
         let commands = legs.iter().copied().map(command::list).collect();
         Task {
-            sites: open(&table),
+            sites: held(&table),
             calls: Calls::new(table, commands),
             legs: legs.into_iter().map(words).collect(),
         }
@@ -46,17 +45,6 @@ impl Task {
         let table = Kind::fresh(sites).table(&Proved, random);
         let legs = (0..legs).map(|_| length.leg(random)).collect();
         Task::new(table, legs)
-    }
-
-    /// 512 sites anywhere with some of them closed in each way, and the same random legs.
-    pub fn past_closed(
-        random: &mut Random,
-        length: Length,
-        legs: usize,
-    ) -> [Self; Closed::EACH.len()] {
-        let table = Kind::fresh(MOST_SITES).table(&Proved, random);
-        let legs: Vec<_> = (0..legs).map(|_| length.leg(random)).collect();
-        Closed::EACH.map(|closed| Task::new(closed.table(&table), legs.clone()))
     }
 
     /// A leg whose list has 512 entries, so many times; the sites added in any order.
@@ -137,29 +125,21 @@ impl Programs {
     }
 }
 
-/// Fails if the programs differ where sites tie along the whole leg, all open or some closed.
+/// Fails if the programs differ where sites tie along the whole leg.
 pub fn compare_at_ties() {
     let mut programs = Programs::new(1);
     for case in ties::cases() {
         let additions: Vec<_> = case.sites.into_iter().map(command::add).collect();
         let table = filled(&Proved, &additions.concat());
-        for closed in [Closed::None, Closed::Half] {
-            programs.compare(&Task::new(closed.table(&table), vec![case.leg]));
-        }
+        programs.compare(&Task::new(table, vec![case.leg]));
     }
 }
 
-/// Microseconds for a leg, and the entries of a list, in each way of the tables. Fails if not all write
-/// the same records.
-pub fn measure<const WAYS: usize>(tasks: &[[Task; WAYS]], repeats: usize) -> [(Times, f64); WAYS] {
-    let legs = tasks[0][0].legs.len();
+/// Microseconds for a leg, and the entries of a list. Fails if not all write the same records.
+pub fn measure(tasks: &[Task], repeats: usize) -> (Times, f64) {
+    let legs = tasks[0].legs.len();
     let mut programs = Programs::new(legs);
-    let mut written = [0; WAYS];
-    for table in tasks {
-        for (task, written) in table.iter().zip(&mut written) {
-            *written += programs.compare(task);
-        }
-    }
+    let written: usize = tasks.iter().map(|task| programs.compare(task)).sum();
     let Programs {
         together,
         singly,
@@ -167,15 +147,9 @@ pub fn measure<const WAYS: usize>(tasks: &[[Task; WAYS]], repeats: usize) -> [(T
         kept,
         hull,
     } = &mut programs;
-    let times = medians(
-        repeats,
-        tasks.as_flattened(),
-        [together, singly, wrap, kept, hull],
-    );
-    std::array::from_fn(|way| {
-        let times = mean_of_way(&times, way, WAYS).map(|time| time / legs as f64);
-        (Times::of(times), entries(written[way], tasks.len() * legs))
-    })
+    let entries = entries(written, tasks.len() * legs);
+    let times = take(repeats, tasks, [together, singly, wrap, kept, hull]);
+    (Times::of(times.map(|time| time / legs as f64)), entries)
 }
 
 /// The mean number of entries in so many records of so many bytes.

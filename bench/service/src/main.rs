@@ -6,12 +6,8 @@
 //! The programs take turns at each table; a time is the mean over the tables of the medians over
 //! the repeats. Only the ratios say something: the times are the machine's.
 
-mod arrays;
 mod caller;
-mod change;
-mod change_rows;
 mod changes;
-mod closed;
 mod contenders;
 mod fixed;
 mod lists;
@@ -21,9 +17,10 @@ mod targets;
 mod times;
 mod tours;
 
-use closed::Closed;
+use changes::Change;
 use fixed::Fixed;
 use plain::legs::Length;
+use plain::tables::Numbering;
 use plain::verdict::Bound;
 use reference::grid::{HALF_WIDTH, MOST_SITES};
 use reference::random::Random;
@@ -39,6 +36,12 @@ const WORST_LEGS: usize = 10;
 const CHANGES: usize = 100;
 /// Numbers with gaps: the 512th is the last that 16 bits hold.
 const FAR_APART: u16 = 127;
+/// How the sites are numbered in a row of changes, and what the row says of it.
+const NUMBERINGS: [(Numbering, &str); 3] = [
+    (Numbering::FOLLOWING, ""),
+    (Numbering::Apart(FAR_APART), ", gaps"),
+    (Numbering::Scattered, ", scattered"),
+];
 /// As long as the grid is wide.
 const ACROSS: i64 = 2 * HALF_WIDTH;
 /// Up to here a leg is short.
@@ -78,10 +81,6 @@ fn print_head() {
         "  gaps    the sites' numbers are {FAR_APART} apart; scattered: any; else they follow each other from 1"
     );
     println!("  by 61   the same additions by readings of a receiver; by 6D: the same moves");
-    println!("  58      of open sites, and 4F of closed ones; the mark left: the other way round");
-    println!(
-        "  closed  half: every other number; west: all in the grid's western half; one open: all but it"
-    );
     println!("Then how many times faster the service is: many a call, and one a call.");
 }
 
@@ -101,45 +100,13 @@ fn legs(random: &mut Random, targets: &mut Targets) {
     Times::print_head("a leg, its record written", LEGS);
     for sites in [64, MOST_SITES] {
         for length in LENGTHS {
-            let task = |_| [lists::Task::anywhere(random, sites, length, LEGS)];
+            let task = |_| lists::Task::anywhere(random, sites, length, LEGS);
             let tasks: Vec<_> = (0..TABLES).map(task).collect();
-            let [(times, entries)] = lists::measure(&tasks, REPEATS);
+            let (times, entries) = lists::measure(&tasks, REPEATS);
             let name = length.name();
             times.print(&format!("{sites} sites, {name} ({entries:.1} entries)"));
             if let Some((wrap, hull)) = leg_target(sites, length) {
                 targets.faster(&format!("{sites} sites, a leg {name}"), &times, wrap, hull);
-            }
-        }
-    }
-}
-
-/// What the targets of a leg past closed sites are, in the time that it takes with all of them open: with
-/// half of them closed no more than that, and 0.03 for the noise of measuring.
-fn past_closed_target(length: Length, closed: Closed) -> Option<Bound> {
-    match (length, closed) {
-        (Length::UpTo(SHORT), Closed::AllButOne) => Some(Bound::AtMost(0.6)),
-        (Length::UpTo(SHORT), Closed::Half) => Some(Bound::AtMost(1.03)),
-        _ => None,
-    }
-}
-
-/// Their own random numbers, so that the other rows have the same as without these.
-fn legs_past_closed(targets: &mut Targets) {
-    println!();
-    Times::print_head("a leg, 512 held, its record written", LEGS);
-    let mut random = Random::new(71);
-    for length in [Length::UpTo(SHORT), Length::Of(8_000)] {
-        let task = |_| lists::Task::past_closed(&mut random, length, LEGS);
-        let tasks: Vec<_> = (0..TABLES).map(task).collect();
-        let rows = lists::measure(&tasks, REPEATS);
-        let (all_open, _) = rows[0];
-        for (closed, (times, entries)) in Closed::EACH.into_iter().zip(rows) {
-            let (state, name) = (closed.name(), length.name());
-            times.print(&format!("{state}, {name} ({entries:.1} entries)"));
-            if closed != Closed::None {
-                let what = format!("{MOST_SITES} held, {state}, a leg {name}");
-                let ratio = times.together / all_open.together;
-                targets.times_all_open(&what, ratio, past_closed_target(length, closed));
             }
         }
     }
@@ -178,48 +145,81 @@ fn standing(leg: Option<Length>) -> String {
 fn worst(random: &mut Random, targets: &mut Targets) {
     println!();
     Times::print_head("the worst list", WORST_LEGS);
-    let task = |_| [lists::Task::all_listed(random, WORST_LEGS)];
+    let task = |_| lists::Task::all_listed(random, WORST_LEGS);
     let tasks: Vec<_> = (0..TABLES).map(task).collect();
-    let [(times, entries)] = lists::measure(&tasks, REPEATS);
+    let (times, entries) = lists::measure(&tasks, REPEATS);
     let what = format!("{MOST_SITES} sites, a list of {entries} entries");
     times.print(&what);
     targets.faster_than_wrapping(&what, &times, 8.0);
     targets.within(&what, &times, 6.0);
 }
 
-/// Prints a row; what it is about, and its times.
-fn fixed_row(random: &mut Random, fixed: &Fixed) -> (String, fixed::Times) {
-    let sites = match fixed.closed {
-        Closed::None => format!("{} sites", fixed.sites),
-        closed => format!("{} held, {}", fixed.sites, closed.name()),
-    };
-    let what = format!("{sites}, {}", standing(fixed.standing));
-    let times = fixed.measure(random, TABLES, REPEATS);
-    print!("{what:40} {:>10.2}", times.call);
-    match fixed.sites {
-        // Without a site a leg is refused.
-        0 => println!(" {:>8} {:>8}", "-", "-"),
-        _ => println!(" {:>8.2} {:>8.2}", times.leg, times.hull),
+/// Readings have their own random numbers, so that the other rows have the same as without these.
+fn changes(random: &mut Random, targets: &mut Targets) {
+    println!();
+    Times::print_head("a change, no record of the list", CHANGES);
+    let leg = Some(Length::Of(SHORT));
+    let mut of_readings = Random::new(61);
+    for kind in [Change::Add, Change::Remove, Change::Move] {
+        let mut rows = |leg, numbered| change_rows(random, &mut of_readings, kind, leg, numbered);
+        rows(None, NUMBERINGS[0]);
+        for numbered in NUMBERINGS {
+            let rows = rows(leg, numbered);
+            for (way, (what, times)) in rows.iter().enumerate() {
+                match (numbered.0, way) {
+                    (Numbering::Scattered, _) => targets.beside(what, times),
+                    (Numbering::Apart(_), 0) => targets.faster(what, times, 8.0, 25.0),
+                    (Numbering::Apart(_), _) => targets.faster_by_readings(what, times, 8.0),
+                }
+            }
+            if let [(_, by_steps), (what, by_readings)] = &rows[..] {
+                let ratio = by_steps.together / by_readings.together;
+                targets.show(what, "the same by steps", ratio);
+            }
+        }
     }
-    (what, times)
 }
 
-/// Tables with closed sites have their own random numbers, so that the other rows have the same as without
-/// these.
+/// Prints a row for each way, in turns on the same tables; what each is about, and its times.
+fn change_rows(
+    random: &mut Random,
+    of_readings: &mut Random,
+    kind: Change,
+    leg: Option<Length>,
+    (numbering, told): (Numbering, &str),
+) -> Vec<(String, Times)> {
+    let task = |_| changes::Task::new(random, kind, leg, numbering, CHANGES);
+    let in_each_way = |task: changes::Task| task.in_each_way(of_readings);
+    let tasks: Vec<_> = (0..TABLES).map(task).flat_map(in_each_way).collect();
+    let ways = kind.ways();
+    let times = changes::measure(&tasks, ways.len(), REPEATS);
+    let row = |(way, times): (&&str, Times)| {
+        let what = format!("{way}, {}{told}", standing(leg));
+        times.print(&what);
+        (format!("512 sites, {what}"), times)
+    };
+    ways.iter().zip(times).map(row).collect()
+}
+
 fn fixed(random: &mut Random, targets: &mut Targets) {
     println!();
-    print!("{:40} {:>10}", "a call without commands", "call");
+    print!("{:36} {:>10}", "a call without commands", "call");
     println!(" {:>8} {:>8}", "leg", "by hull");
-    let standing = [None, Some(Length::Of(SHORT))];
-    let fixed = |sites, closed, standing| Fixed {
-        sites,
-        closed,
-        standing,
-        legs: Length::UpTo(SHORT),
-    };
     for sites in [0, 64, MOST_SITES] {
-        for leg in standing {
-            let (what, times) = fixed_row(random, &fixed(sites, Closed::None, leg));
+        for leg in [None, Some(Length::Of(SHORT))] {
+            let fixed = Fixed {
+                sites,
+                standing: leg,
+                legs: Length::UpTo(SHORT),
+            };
+            let times = fixed.measure(random, TABLES, REPEATS);
+            let what = format!("{sites} sites, {}", standing(leg));
+            print!("{what:36} {:>10.2}", times.call);
+            match sites {
+                // Without a site a leg is refused.
+                0 => println!(" {:>8} {:>8}", "-", "-"),
+                _ => println!(" {:>8.2} {:>8.2}", times.leg, times.hull),
+            }
             if sites == MOST_SITES {
                 let (what, most) = (format!("{what}, a call, in legs"), Bound::AtMost(1.2));
                 targets.show(&what, "by the service", times.call / times.leg);
@@ -232,10 +232,6 @@ fn fixed(random: &mut Random, targets: &mut Targets) {
             }
         }
     }
-    let mut random = Random::new(79);
-    for leg in standing {
-        fixed_row(&mut random, &fixed(MOST_SITES, Closed::Half, leg));
-    }
 }
 
 fn main() {
@@ -246,11 +242,9 @@ fn main() {
     let mut targets = Targets::default();
     legs(&mut random, &mut targets);
     worst(&mut random, &mut targets);
-    change_rows::by_number_and_place(&mut random, &mut targets);
-    change_rows::of_marks(&mut targets);
+    changes(&mut random, &mut targets);
     fixed(&mut random, &mut targets);
     tours(&mut targets);
-    legs_past_closed(&mut targets);
     println!();
     println!("Targets, many a call; a leg in which a call is counted is one up to {SHORT} steps.");
     targets.print();

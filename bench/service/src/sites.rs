@@ -4,7 +4,7 @@ use plain::reading;
 use plain::vertex::{Leg, Site};
 use reference::grid;
 use reference::reading::Readings;
-use service::bytes::{self, steps};
+use service::bytes::{sites, steps};
 
 pub fn words(leg: grid::Leg) -> Leg {
     let ((s_east, s_north), (e_east, e_north)) = (steps(leg.s), steps(leg.e));
@@ -29,17 +29,7 @@ pub fn rounded(number: u16, readings: Readings) -> Site {
     }
 }
 
-/// The open sites of a table, their numbers rising.
-pub fn open(table: &[u8]) -> Vec<Site> {
-    bytes::open_sites(table).into_iter().map(plain).collect()
-}
-
-/// The closed ones, likewise.
-pub fn closed(table: &[u8]) -> Vec<Site> {
-    let closed = bytes::closed(table);
-    let sites = bytes::sites(table).into_iter();
-    sites
-        .filter(|site| closed.contains(&site.number))
-        .map(plain)
-        .collect()
+/// The sites that a table holds, their numbers rising.
+pub fn held(table: &[u8]) -> Vec<Site> {
+    sites(table).into_iter().map(plain).collect()
 }

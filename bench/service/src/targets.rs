@@ -9,8 +9,6 @@ struct Target {
     ratio: f64,
     /// None where the ratio is only to be seen.
     bound: Option<Bound>,
-    /// Behind the point.
-    digits: usize,
 }
 
 #[derive(Default)]
@@ -28,7 +26,6 @@ impl Targets {
             against,
             ratio,
             bound,
-            digits: 2,
         });
     }
 
@@ -55,8 +52,9 @@ impl Targets {
         self.hold(what, HULL, ratio, Bound::AtLeast(hull));
     }
 
-    /// How many times faster than wrapping; than the hull only to be seen.
-    pub fn faster_beside_hull(&mut self, what: &str, times: &Times, wrap: f64) {
+    /// Of readings: than the hull only to be seen. Their remainders are the C library's, and what these
+    /// take differs from one to the next.
+    pub fn faster_by_readings(&mut self, what: &str, times: &Times, wrap: f64) {
         self.faster_than_wrapping(what, times, wrap);
         self.show(what, HULL, times.hull / times.together);
     }
@@ -79,29 +77,13 @@ impl Targets {
         );
     }
 
-    /// How many times the same legs with all sites open it may take, with one digit more: a bound may be
-    /// near.
-    pub fn times_all_open(&mut self, what: &str, ratio: f64, bound: Option<Bound>) {
-        self.0.push(Target {
-            what: what.to_string(),
-            against: "times the same, all open",
-            ratio,
-            bound,
-            digits: 3,
-        });
-    }
-
     pub fn print(&self) {
         for target in &self.0 {
             let verdict = target
                 .bound
                 .map_or("no target".to_string(), |bound| bound.verdict(target.ratio));
-            let (digits, width) = (target.digits, 4 + target.digits);
-            let ratio = format!("{:>width$.digits$}", target.ratio);
-            println!(
-                "{:45} {:30} {ratio:8}{verdict}",
-                target.what, target.against
-            );
+            print!("{:45} {:26} ", target.what, target.against);
+            println!("{:>6.2}  {verdict}", target.ratio);
         }
     }
 }

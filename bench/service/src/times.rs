@@ -25,7 +25,7 @@ impl Times {
 
     pub fn print_head(first: &str, many: usize) {
         print!(
-            "{first:40} {:>10} {:>8} ",
+            "{first:36} {:>10} {:>8} ",
             format!("{many} a call"),
             "1 a call"
         );
@@ -36,7 +36,7 @@ impl Times {
 
     /// The times, then the ratios to the service with many a call and with one.
     pub fn print(&self, first: &str) {
-        print!("{first:40} {:>10.2} {:>8.2} ", self.together, self.singly);
+        print!("{first:36} {:>10.2} {:>8.2} ", self.together, self.singly);
         print!(
             "{:>8.2} {:>8.2} {:>8.2}   ",
             self.wrap, self.kept, self.hull

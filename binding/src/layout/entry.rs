@@ -2,8 +2,7 @@
 
 use super::{entry_at, put_word, word};
 
-/// At a leaf a site number and its point twice, above the leaves a node and its box. Then the number of open
-/// sites beneath: at a leaf 1 where the site is open, else 0.
+/// At a leaf a site number and its point twice, above the leaves a node and its box.
 #[derive(Clone, Copy, Debug, PartialEq, Eq)]
 pub struct Entry {
     pub reference: u16,
@@ -11,19 +10,19 @@ pub struct Entry {
     pub south: u16,
     pub east: u16,
     pub north: u16,
-    pub open: u16,
+    pub kept: u16,
 }
 
 impl Entry {
     /// A site's, at a leaf.
-    pub fn of_site(number: u16, east: u16, north: u16, is_open: bool) -> Self {
+    pub fn of_site(number: u16, east: u16, north: u16) -> Self {
         Entry {
             reference: number,
             west: east,
             south: north,
             east,
             north,
-            open: u16::from(is_open),
+            kept: 0,
         }
     }
 
@@ -35,7 +34,7 @@ impl Entry {
             south: word(4),
             east: word(6),
             north: word(8),
-            open: word(10),
+            kept: word(10),
         }
     }
 
@@ -46,7 +45,7 @@ impl Entry {
             self.south,
             self.east,
             self.north,
-            self.open,
+            self.kept,
         ];
         for (k, word) in words.into_iter().enumerate() {
             put_word(table, entry_at(node, i) + 2 * k, word);

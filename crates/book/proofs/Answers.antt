@@ -20,11 +20,11 @@ use Rattle.readings.specs.Location.{finite_in, placed}
 use Rattle.split.specs.SplitList.{Entry}
 use Rattle.split.specs.SplitOf.{split_of}
 use Rattle.book.specs.declared.Command.{Command}
-use Rattle.book.specs.declared.Command.TheVariants.{Add, Remove, Move, List as ListOf, Stand, Print, Begin, Corner, Close, Open}
+use Rattle.book.specs.declared.Command.TheVariants.{Add, Remove, Move, List as ListOf, Stand, Print, Begin, Corner}
 use Rattle.book.specs.declared.Cause.{Cause}
 use Rattle.book.specs.declared.Cause.TheVariants.{NumberZero, OffGrid, Held, NotHeld, Full, NoSite, NoLeg, NoTour, NotFinite}
 use Rattle.book.specs.Tour.{Tour, leg_to, tour_leg, remembered, left_out}
-use Rattle.book.specs.Book.{Book, with_lines, is_closed, close_number, open_number, sites_of, list_of, holds, change}
+use Rattle.book.specs.Book.{Book, sites_of, list_of, holds, change}
 use Rattle.book.specs.Reply.{Reply, done, refused, listed}
 use Rattle.book.specs.Answer.{Test, off_grid, leg_off_grid, legless, tourless, tests, first_cause, accepted, answer}
 
@@ -150,53 +150,6 @@ module _ (b : Book) (n : ℕ) (l : Location) where
         pub answer-move-done : holds n b.lines ≡ true → answer b (Move n l) ≡ done
         unfolding answer
         answer-move-done h = rw (ne_eqb n 0 z, f, on_grid_lem (placed l) g, h) refl
-
--- ---- 58 and 4F: a site is closed and opened
-
-module _ (b : Book) (n : ℕ) where
-  -- cause 1: the number is 0
-  pub answer-close-zero : n ≡ 0 → answer b (Close n) ≡ refused NumberZero
-  unfolding answer
-  answer-close-zero z = rw (eq-eqb n 0 z) refl
-
-  pub answer-open-zero : n ≡ 0 → answer b (Open n) ≡ refused NumberZero
-  unfolding answer
-  answer-open-zero z = rw (eq-eqb n 0 z) refl
-
-  -- cause 4: the number is not held
-  pub answer-close-absent : n ≢ 0 → holds n b.lines ≡ false → answer b (Close n) ≡ refused NotHeld
-  unfolding answer
-  answer-close-absent z h = rw (ne_eqb n 0 z, h) refl
-
-  pub answer-open-absent : n ≢ 0 → holds n b.lines ≡ false → answer b (Open n) ≡ refused NotHeld
-  unfolding answer
-  answer-open-absent z h = rw (ne_eqb n 0 z, h) refl
-
-  -- no cause
-  pub answer-close-done : n ≢ 0 → holds n b.lines ≡ true → answer b (Close n) ≡ done
-  unfolding answer
-  answer-close-done z h = rw (ne_eqb n 0 z, h) refl
-
-  pub answer-open-done : n ≢ 0 → holds n b.lines ≡ true → answer b (Open n) ≡ done
-  unfolding answer
-  answer-open-done z h = rw (ne_eqb n 0 z, h) refl
-
-  -- WHAT THEY DO: a mark that stays changes nothing
-  pub close-stays : is_closed n b.closed ≡ true → change (Close n) b ≡ b
-  unfolding change
-  close-stays h = rw h refl
-
-  pub close-does : is_closed n b.closed ≡ false → change (Close n) b ≡ with_lines b.lines (close_number n b.closed) b
-  unfolding change
-  close-does h = rw h refl
-
-  pub open-does : is_closed n b.closed ≡ true → change (Open n) b ≡ with_lines b.lines (open_number n b.closed) b
-  unfolding change
-  open-does h = rw h refl
-
-  pub open_stays : is_closed n b.closed ≡ false → change (Open n) b ≡ b
-  unfolding change
-  open_stays h = rw h refl
 
 -- ---- FINITE READINGS ARE ANSWERED AS THEIR STEPS
 
@@ -347,24 +300,6 @@ accepted-listed b c es h = (none_listed b c es h).1
 pub record RemoveFits (b : Book) (n : ℕ) : Type 0 where
   pub positive : n ≢ 0
   pub held : holds n b.lines ≡ true
-
--- every accepted addition is of a number that is not held
-pub add-accepted : (b : Book) (n : ℕ) (l : Location) → answer b (Add n l) ≡ done → holds n b.lines ≡ false
-unfolding answer
-add-accepted b n l h = (none-met (tests b (Add n l)) done done done-not-refused h).0.1.1.1.0
-
--- so do every accepted closing and opening
-pub close-accepted : (b : Book) (n : ℕ) → answer b (Close n) ≡ done → RemoveFits b n
-unfolding answer
-close-accepted b n h =
-    let m = (none-met (tests b (Close n)) done done done-not-refused h).0 in
-    record { positive = eqb-false n 0 m.0; held = not-false _ m.1.0 }
-
-pub open-accepted : (b : Book) (n : ℕ) → answer b (Open n) ≡ done → RemoveFits b n
-unfolding answer
-open-accepted b n h =
-    let m = (none-met (tests b (Open n)) done done done-not-refused h).0 in
-    record { positive = eqb-false n 0 m.0; held = not-false _ m.1.0 }
 
 -- every accepted removal fits
 pub remove-accepted : (b : Book) (n : ℕ) → answer b (Remove n) ≡ done → RemoveFits b n

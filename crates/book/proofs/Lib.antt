@@ -1,7 +1,5 @@
 pub mod Lines
-pub mod Marks
 pub mod Answers
-pub mod Struck
 pub mod ProperBooks
 pub mod LegRecords
 pub mod Lists

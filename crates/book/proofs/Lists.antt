@@ -23,7 +23,7 @@ use Rattle.records.specs.ListRecord.{list_size, record_bytes}
 use Rattle.records.proofs.Length.{record_length}
 use Rattle.records.proofs.ReadBack.{EntrySmall, read_front, read_record_lem}
 use Rattle.book.specs.declared.Command.{Command}
-use Rattle.book.specs.declared.Command.TheVariants.{Add, Remove, Move, List as ListOf, Stand, Print, Begin, Corner, Close, Open}
+use Rattle.book.specs.declared.Command.TheVariants.{Add, Remove, Move, List as ListOf, Stand, Print, Begin, Corner}
 use Rattle.book.specs.Tour.{Tour, leg_to, tour_leg, remembered, left_out, last_number}
 use Rattle.book.specs.Book.{Book, sites_of}
 use Rattle.book.specs.Proper.{LegOk, LastHeld, TourOk, Proper}
@@ -32,7 +32,7 @@ use Rattle.book.specs.Answer.{answer, leg_asked, shown_by}
 use Rattle.book.proofs.Lines.{member_holds}
 use Rattle.book.proofs.Answers.{done-not-listed, accepted-listed, ListFits, list-accepted, PrintFits, print-accepted, CornerFits, corner-accepted}
 use Rattle.book.proofs.LegRecords.{EndOf, left_ends, end_member, end_length}
-use Rattle.book.proofs.ProperBooks.{proper_numbered, proper_numbers, proper_grid, proper_few}
+use Rattle.book.proofs.ProperBooks.{proper_numbered}
 
 -- a listed site is held
 pub listed_held : (l : Leg) (s : List Site) (es : List Entry) → Stretches l s es → (f : Entry) → Memᴰ f es → Memᴰ f.site s
@@ -73,8 +73,6 @@ shown_ends b (Stand l) es = left_ends none es
 shown_ends b Print es = left_ends none es
 shown_ends b (Begin p) es = left_ends none es
 shown_ends b (Corner p) es = left_ends (remembered b.tour) es
-shown_ends b (Close n) es = left_ends none es
-shown_ends b (Open n) es = left_ends none es
 
 module _ (b : Book) (ok : Proper b) where
   leg_ok_lem : (l : Leg) → b.leg ≡ some l → LegOnGrid l
@@ -87,7 +85,7 @@ module _ (b : Book) (ok : Proper b) where
   pub first_held : (l : Leg) (e : Entry) (es : List Entry) → split_of l (sites_of b) ≡ e ∷ es → 1 ≤ e.site.number
   first_held l e es h =
       let r = subst (λ (x : List Entry). IsSplitList l (sites_of b) x) h (split_list l) in
-      (proper_numbers b ok e.site (listed_held l (sites_of b) (e ∷ es) r.rules e (Memᴰ.head refl))).least
+      (ok.numbers e.site (listed_held l (sites_of b) (e ∷ es) r.rules e (Memᴰ.head refl))).least
 
   -- A LISTED ANSWER is what the command shows of document 01's split list of its leg over the book's sites
   pub answer_list : (c : Command) (es : List Entry) → answer b c ≡ listed es → BookList b c es
@@ -110,22 +108,20 @@ module _ (b : Book) (ok : Proper b) where
         is = f.is ∙ ap (λ (o : Option Tour). left_out (remembered o) (split_of (leg_to f.tour p) (sites_of b))) (sym f.runs);
         on_grid = record { s = (subst (λ (o : Option Tour). TourOk o (sites_of b)) f.runs ok.tour_ok).on_grid; e = f.on_grid };
       }
-  answer_list (Close n) es h = absurd (done-not-listed es (accepted-listed b (Close n) es h))
-  answer_list (Open n) es h = absurd (done-not-listed es (accepted-listed b (Open n) es h))
 
   module _ (l : Leg) (on : LegOnGrid l) (es : List Entry) (h : IsSplitList l (sites_of b) es) where
     -- at most 512 entries
     pub list_few : length es ≤ max_sites
-    list_few = omega (arith, proper_few b ok, few l (sites_of b) (proper_numbered b ok) es h)
+    list_few = omega (arith, ok.few, few l (sites_of b) (proper_numbered b ok) es h)
 
     -- the record's fields hold every entry
     list_small : (e : Entry) → Memᴰ e es → EntrySmall e
     list_small e m =
         let d : e.start.den ≤ max_denominator =
-        bounded l (sites_of b) (proper_numbered b ok) on (proper_grid b ok) es h e m in
+        bounded l (sites_of b) (proper_numbered b ok) on ok.on_grid es h e m in
         let n : e.start.num < e.start.den = start_below l (sites_of b) es h.rules e m in
         record {
-          number = omega (arith, (proper_numbers b ok e.site (listed_held l (sites_of b) es h.rules e m)).most);
+          number = omega (arith, (ok.numbers e.site (listed_held l (sites_of b) es h.rules e m)).most);
           num = omega arith;
           den = omega arith;
         }

@@ -1,19 +1,16 @@
--- Lines written in any order make the same book, and so do numbers that are closed in any order.
+-- Lines written in any order make the same book.
 -- Assumes nothing.
 use mathlib.Core.Path.{◌≡◌, refl, sym, ap, ◌∙◌}
 use mathlib.Core.Logic.{◌≢◌, ◌⊎◌, inl, inr}
 use mathlib.Core.List.Memᴰ
 use mathlib.Core.List.{List, [], ◌∷◌, ◌++◌, append_assoc, append-nil, Memᴰ}
 use native.Mathlib.Omega.{arith}
-use Prim.Native.Nat.{ℕ, ◌≤◌, ◌<◌}
-use native.Mathlib.Decide.{dec_lt}
-use borrow.Author.Tests.{lt-ltb, le-ltb}
 use Rattle.grid.specs.declared.Site.{Site}
-use Rattle.book.specs.Book.{write_line, close_number}
-use Rattle.book.specs.Proper.{Rising, RisingNumbers}
+use Rattle.book.specs.Book.{write_line}
+use Rattle.book.specs.Proper.{Rising}
 use Rattle.permutation.specs.Perm.{Perm, same, next, swap, trans}
 use Rattle.permutation.proofs.Perms.{perm_member}
-use Rattle.book.proofs.Lines.{site_as, rising_tail, rising_head, rising_below, write_before, write_past, write_between, write_comm}
+use Rattle.book.proofs.Lines.{rising_tail, rising_head, rising_below, write_between, write_comm}
 
 -- the lines of `order` written one after the other, its first one first
 abbrev pub write_all : List Site → List Site → List Site
@@ -65,63 +62,3 @@ write_behind (p ∷ s) a r =
 -- RISING LINES IN ANY ORDER, written into an empty book, are those lines
 pub write_order : {order : List Site} (s : List Site) → Rising s → Perm order s → write_all order [] ≡ s
 write_order s r h = perm_write h (rising_apart s r) [] ∙ write_behind s [] r
-
--- ---- closed numbers
-
--- the numbers of `order` closed one after the other, its first one first
-abbrev pub close_all : List ℕ → List ℕ → List ℕ
-close_all [] c = c
-close_all (n ∷ order) c = close_all order (close_number n c)
-
--- numbers as lines, all at one place, so that what is known of lines serves them
-abbrev line_of : ℕ → Site
-line_of n = site_as n (record { east = 0; north = 0 })
-
-abbrev pub as_lines : List ℕ → List Site
-as_lines [] = []
-as_lines (n ∷ c) = line_of n ∷ as_lines c
-
-abbrev numbers_in : List Site → List ℕ
-numbers_in [] = []
-numbers_in (p ∷ s) = p.number ∷ numbers_in s
-
-lines_numbers : (c : List ℕ) → numbers_in (as_lines c) ≡ c
-lines_numbers [] = refl
-lines_numbers (n ∷ c) = ap (λ (y : List ℕ). n ∷ y) (lines_numbers c)
-
-lines_rising : (c : List ℕ) → RisingNumbers c → Rising (as_lines c)
-lines_rising [] r = tt
-lines_rising (m ∷ []) r = tt
-lines_rising (m ∷ n ∷ c) r = (r.0, lines_rising (n ∷ c) r.1)
-
-lines_perm : {s t : List ℕ} → Perm s t → Perm (as_lines s) (as_lines t)
-lines_perm same = same
-lines_perm (next h) = next (lines_perm h)
-lines_perm swap = swap
-lines_perm (trans h k) = trans (lines_perm h) (lines_perm k)
-
--- closed is written
-close_written : (n : ℕ) (c : List ℕ) → as_lines (close_number n c) ≡ write_line (line_of n) (as_lines c)
-unfolding close_number write_line
-close_written n [] = refl
-close_written n (m ∷ c) = go (dec_lt n m) (close_written n c)
-  where
-    go : Dec (n < m) → as_lines (close_number n c) ≡ write_line (line_of n) (as_lines c)
-        → as_lines (close_number n (m ∷ c)) ≡ write_line (line_of n) (as_lines (m ∷ c))
-    go (yes l) ih = rw (lt-ltb n m l) refl
-    go (no l) ih = rw (le-ltb n m (omega arith)) (ap (λ (y : List Site). line_of m ∷ y) ih)
-
-all_written : (o c : List ℕ) → as_lines (close_all o c) ≡ write_all (as_lines o) (as_lines c)
-all_written [] c = refl
-all_written (n ∷ o) c = all_written o (close_number n c) ∙ ap (write_all (as_lines o)) (close_written n c)
-
--- RISING NUMBERS IN ANY ORDER, closed where none was, are those numbers
-pub close_order : {order : List ℕ} (c : List ℕ) → RisingNumbers c → Perm order c → close_all order [] ≡ c
-close_order {order} c r h =
-    sym (lines_numbers (close_all order []))
-    ∙ ap numbers_in (all_written order [] ∙ write_order (as_lines c) (lines_rising c r) (lines_perm h))
-    ∙ lines_numbers c
-
--- no number twice
-pub close_apart : {order : List ℕ} (c : List ℕ) → RisingNumbers c → Perm order c → Apart (as_lines order)
-close_apart c r h = perm_apart (lines_perm h) (rising_apart (as_lines c) (lines_rising c r))

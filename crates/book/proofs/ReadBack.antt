@@ -27,7 +27,7 @@ use Rattle.readings.proofs.Patterns.{finite_pattern, number_finite, number_not}
 use Rattle.records.specs.Bytes.{bytes2}
 use Rattle.records.proofs.ReadBack.{bytes2_hold, bytes4_hold}
 use Rattle.book.specs.declared.Command.{Command}
-use Rattle.book.specs.declared.Command.TheVariants.{Add, Remove, Move, List as ListOf, Stand, Print, Begin, Corner, Close, Open}
+use Rattle.book.specs.declared.Command.TheVariants.{Add, Remove, Move, List as ListOf, Stand, Print, Begin, Corner}
 use Rattle.book.specs.declared.Parsed.TheVariants.{End, Whole}
 use Rattle.book.specs.declared.Reason.TheVariants.{AllUsed, NoRoom}
 use Rattle.book.specs.declared.Shape.{Shape}
@@ -68,8 +68,6 @@ Encodable (Stand l) = PositionSmall l.s × PositionSmall l.e
 Encodable Print = Unit {0}
 Encodable (Begin p) = PositionSmall p
 Encodable (Corner p) = PositionSmall p
-Encodable (Close n) = n < 65536
-Encodable (Open n) = n < 65536
 
 -- ---- numbers, positions and legs behind other bytes
 
@@ -218,8 +216,6 @@ module _ (pre : List ℕ) (t : List ℕ) where
   read_back Print h = behind 0x50 [] (form 0x50 Nothing Print) refl refl Print refl
   read_back (Begin p) h = one_position_behind 0x42 Begin refl p h
   read_back (Corner p) h = one_position_behind 0x43 Corner refl p h
-  read_back (Close n) h = number_behind 0x58 Close refl n h
-  read_back (Open n) h = number_behind 0x4F Open refl n h
 
 -- what 61 and 6D are in bytes: site 1 at 150 m and negative zero, site 258 moved to what is no number and -250 m
 pub surveyed_bytes : command_bytes (add_surveyed 1 (record { easting = number_of 0x43160000; northing = number_of 0x80000000 }))

@@ -3,7 +3,6 @@
 use mathlib.Core.Path.{◌≡◌, refl, sym, ap, ◌∙◌, subst}
 use mathlib.Core.Logic.{◌≢◌}
 use mathlib.Core.Option.{Option, none, some}
-use mathlib.Core.Bool.{Bool, true, false, cond}
 use mathlib.Core.List.{List, [], ◌∷◌, ◌++◌, map}
 use Prim.Native.Nat.{ℕ}
 use native.Mathlib.Omega.{arith}
@@ -14,9 +13,9 @@ use Rattle.split.specs.SplitOf.{split_of}
 use Rattle.split.proofs.Exists.{split_is}
 use Rattle.records.specs.Decode.{Listed, listed_of}
 use Rattle.book.specs.declared.Command.{Command}
-use Rattle.book.specs.declared.Command.TheVariants.{Add, Remove, Move, List as ListOf, Stand, Print, Begin, Corner, Close, Open}
+use Rattle.book.specs.declared.Command.TheVariants.{Add, Remove, Move, List as ListOf, Stand, Print, Begin, Corner}
 use Rattle.book.specs.Tour.{Tour, leg_to, tour_leg, last_number, left_out, goes_on}
-use Rattle.book.specs.Book.{Book, with_lines, is_closed, close_number, open_number, sites_of, list_of, change}
+use Rattle.book.specs.Book.{Book, sites_of, list_of, change}
 use Rattle.book.specs.Proper.{TourFits, TourOk, Proper}
 use Rattle.book.specs.Reply.{Reply, done, refused, listed}
 use Rattle.book.specs.Answer.{answer, after}
@@ -62,16 +61,7 @@ module _ (b : Book) (ok : Proper b) where
             (sym (last_append none k.entries (map listed_of es) ∙ last_read (last_heard k) es
             ∙ ap (λ (x : List Entry). last_number (last_heard k) x) shown ∙ last))
 
-    -- whether a mark changes decides for the book and for the listener
-    kept_heard : (t : Bool) (d : Book) → d.tour ≡ none → (cond t b d).tour ≡ as_tour (cond t h none)
-    kept_heard true d k = e
-    kept_heard false d k = k
-
-    ended_heard : (t : Bool) (d : Book) → d.tour ≡ none → (cond t d b).tour ≡ as_tour (cond t none h)
-    ended_heard true d k = k
-    ended_heard false d k = e
-
-    done_heard : (c : Command) → answer b c ≡ done → (change c b).tour ≡ as_tour (hear b h c (told_of done))
+    done_heard : (c : Command) → answer b c ≡ done → (change c b).tour ≡ as_tour (hear h c (told_of done))
     unfolding change
     done_heard (Add n l) a = refl
     done_heard (Remove n) a = refl
@@ -81,10 +71,8 @@ module _ (b : Book) (ok : Proper b) where
     done_heard Print a = e
     done_heard (Begin p) a = refl
     done_heard (Corner p) a = absurd (corner-not-done b p a)
-    done_heard (Close n) a = kept_heard (is_closed n b.closed) (with_lines b.lines (close_number n b.closed) b) refl
-    done_heard (Open n) a = ended_heard (is_closed n b.closed) (with_lines b.lines (open_number n b.closed) b) refl
 
-    listed_heard : (c : Command) (es : List Entry) → answer b c ≡ listed es → (change c b).tour ≡ as_tour (hear b h c (told_of (listed es)))
+    listed_heard : (c : Command) (es : List Entry) → answer b c ≡ listed es → (change c b).tour ≡ as_tour (hear h c (told_of (listed es)))
     unfolding change
     listed_heard (Add n l) es a = absurd (done-not-listed es (accepted-listed b (Add n l) es a))
     listed_heard (Remove n) es a = absurd (done-not-listed es (accepted-listed b (Remove n) es a))
@@ -94,11 +82,9 @@ module _ (b : Book) (ok : Proper b) where
     listed_heard Print es a = e
     listed_heard (Begin p) es a = absurd (done-not-listed es (accepted-listed b (Begin p) es a))
     listed_heard (Corner p) es a = corner_heard p es (corner-accepted b p es a)
-    listed_heard (Close n) es a = absurd (done-not-listed es (accepted-listed b (Close n) es a))
-    listed_heard (Open n) es a = absurd (done-not-listed es (accepted-listed b (Open n) es a))
 
     -- WHAT THE BOOK REMEMBERS IS WHAT IS HEARD
-    turn_heard : (c : Command) (y : Reply) → y ≡ answer b c → (after b c y).tour ≡ as_tour (hear b h c (told_of y))
+    turn_heard : (c : Command) (y : Reply) → y ≡ answer b c → (after b c y).tour ≡ as_tour (hear h c (told_of y))
     turn_heard c done a = done_heard c (sym a)
     turn_heard c (refused x) a = e
     turn_heard c (listed es) a = listed_heard c es (sym a)
@@ -154,26 +140,23 @@ along_end b [] [] h = h
 along_end b [] (u ∷ us) h = h.0
 along_end b (t ∷ ts) us h = along_end (after b t.command t.reply) ts us h.1
 
--- the book after what was heard of a turn is the book after it
-told_book : (b : Book) (c : Command) (y : Reply) → after_told b c (told_of y) ≡ after b c y
-told_book b c done = refl
-told_book b c (refused x) = refl
-told_book b c (listed es) = refl
-
--- and so with several
+-- the book after what was heard of turns is the book after them
 pub heard_book : (b : Book) (ts : List Turn) → after_heard b (map heard_of ts) ≡ after_all b ts
 heard_book b [] = refl
-heard_book b (t ∷ ts) =
-    ap (λ (x : Book). after_heard x (map heard_of ts)) (told_book b t.command t.reply) ∙ heard_book (after b t.command t.reply) ts
+heard_book b (t ∷ ts) = ap (λ (x : Book). after_heard x (map heard_of ts)) (same t.reply) ∙ heard_book (after b t.command t.reply) ts
+  where
+    same : (y : Reply) → after_told b t.command (told_of y) ≡ after b t.command y
+    same done = refl
+    same (refused x) = refl
+    same (listed es) = refl
 
 -- ALONG TURNS THE LISTENER KEEPS UP
 pub along_heard : (b : Book) (h : Option Trip) → b.tour ≡ as_tour h → (ts us : List Turn) → Answered b (ts ++ us) → Along b (ts ++ us)
-    → (after_all b ts).tour ≡ as_tour (hear_all b h (map heard_of ts))
+    → (after_all b ts).tour ≡ as_tour (hear_all h (map heard_of ts))
 along_heard b h e [] us a k = e
 along_heard b h e (t ∷ ts) us a k =
-    along_heard (after b t.command t.reply) (hear b h t.command (told_of t.reply))
+    along_heard (after b t.command t.reply) (hear h t.command (told_of t.reply))
     (turn_heard b (along_end b [] (t ∷ (ts ++ us)) k) h e t.command t.reply a.0) ts us a.1 k.1
-    ∙ ap (λ (x : Book). as_tour (hear_all x (hear b h t.command (told_of t.reply)) (map heard_of ts))) (sym (told_book b t.command t.reply))
 
 -- ---- what was heard, and turns
 
@@ -220,7 +203,7 @@ recast e f g r = rw (e, f, g) r
 -- A 43 THAT WAS HEARD TELLS ITS LEG
 pub heard_told : (b : Book) → b.tour ≡ none → (us : List Turn) → Answered b us → Along b us
     → (past later : List Exchange) (p : Position) (fs : List Listed) → map heard_of us ≡ past ++ (heard_leg p fs ∷ later)
-    → LegTold (after_heard b past) (hear_all b none past) p fs
+    → LegTold (after_heard b past) (hear_all none past) p fs
 heard_told b n us a k past later p fs e =
     let r = parted us past (heard_leg p fs) later e in
     let all = r.before ++ (r.here ∷ r.behind) in
@@ -231,7 +214,7 @@ heard_told b n us a k past later p fs e =
     let (es, q) = list_told r.here.reply fs told in
     let said : answer (after_all b r.before) (Corner p) ≡ listed es =
     ap (answer (after_all b r.before)) (sym command) ∙ sym (answered_at b r.before r.here r.behind a') ∙ q.0 in
-    let one : LegTold (after_all b r.before) (hear_all b none (map heard_of r.before)) p (map listed_of es) =
-    corner_told (after_all b r.before) (along_end b r.before (r.here ∷ r.behind) k') (hear_all b none (map heard_of r.before))
+    let one : LegTold (after_all b r.before) (hear_all none (map heard_of r.before)) p (map listed_of es) =
+    corner_told (after_all b r.before) (along_end b r.before (r.here ∷ r.behind) k') (hear_all none (map heard_of r.before))
     (along_heard b none n r.before (r.here ∷ r.behind) a' k') p es said in
-    recast (ap (after_heard b) r.heard_before ∙ heard_book b r.before) (ap (hear_all b none) r.heard_before) q.1 one
+    recast (ap (after_heard b) r.heard_before ∙ heard_book b r.before) (ap (hear_all none) r.heard_before) q.1 one

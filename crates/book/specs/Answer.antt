@@ -12,7 +12,7 @@ use Rattle.split.specs.SplitList.{Entry}
 use Rattle.split.specs.SplitOf.{split_of}
 use Rattle.book.specs.declared.Command.{Command}
 use Rattle.book.specs.declared.Command.TheVariants.{Add, Remove, Move, List as ListOf, Stand, Print}
-use Rattle.book.specs.declared.Command.TheVariants.{Begin, Corner, Close, Open}
+use Rattle.book.specs.declared.Command.TheVariants.{Begin, Corner}
 use Rattle.book.specs.declared.Cause.{Cause}
 use Rattle.book.specs.declared.Cause.TheVariants.{NumberZero, OffGrid, Held, NotHeld, Full}
 use Rattle.book.specs.declared.Cause.TheVariants.{NoSite, NoLeg, NoTour, NotFinite}
@@ -51,7 +51,7 @@ abbrev pub tourless : Option Tour → Bool
 tourless none = true
 tourless (some k) = false
 
--- document 02, C-19: "Refusal 6 reads \"no site open\""
+-- "no site held"
 abbrev pub siteless : Book → Bool
 siteless b = eqb (length (sites_of b)) 0
 
@@ -61,8 +61,7 @@ abbrev pub placing : ℕ → Location → List Test → List Test
 placing n l ts =
     test (eqb n 0) NumberZero ∷ test (not_finite l) NotFinite ∷ test (off_grid (placed l)) OffGrid ∷ ts
 
--- "Tests in order"; document 02, C-13: "tests in 42: 2; in 43: 8, 2, 6"; C-19: "Tests in 58 and 4F: 1, 4", and "Closed
--- sites count for refusals 3, 4 and 5"
+-- "Tests in order"; document 02, C-13: "tests in 42: 2; in 43: 8, 2, 6"
 abbrev pub tests : Book → Command → List Test
 tests b (Add n l) = placing n l (test (holds n b.lines) Held ∷ test (eqb (length b.lines) max_sites) Full ∷ [])
 tests b (Remove n) = test (eqb n 0) NumberZero ∷ test (not (holds n b.lines)) NotHeld ∷ []
@@ -72,8 +71,6 @@ tests b (Stand l) = test (leg_off_grid l) OffGrid ∷ []
 tests b Print = test (legless b.leg) NoLeg ∷ test (siteless b) NoSite ∷ []
 tests b (Begin p) = test (off_grid p) OffGrid ∷ []
 tests b (Corner p) = test (tourless b.tour) NoTour ∷ test (off_grid p) OffGrid ∷ test (siteless b) NoSite ∷ []
-tests b (Close n) = test (eqb n 0) NumberZero ∷ test (not (holds n b.lines)) NotHeld ∷ []
-tests b (Open n) = test (eqb n 0) NumberZero ∷ test (not (holds n b.lines)) NotHeld ∷ []
 
 -- "the first cause met gives 21 and its number"; the reply where none is met
 abbrev pub first_cause : List Test → Reply → Reply
@@ -91,8 +88,6 @@ leg_asked b (Stand l) = none
 leg_asked b Print = b.leg
 leg_asked b (Begin p) = none
 leg_asked b (Corner p) = tour_leg b.tour p
-leg_asked b (Close n) = none
-leg_asked b (Open n) = none
 
 -- what of that list the record has: all of it, but "The record leaves out the list's first entry if that names the site
 -- that ended the previous leg's whole list in this tour" (43)
@@ -105,11 +100,8 @@ shown_by b (Stand l) es = es
 shown_by b Print es = es
 shown_by b (Begin p) es = es
 shown_by b (Corner p) es = left_out (remembered b.tour) es
-shown_by b (Close n) es = es
-shown_by b (Open n) es = es
 
--- what an accepted command is answered: "2B each", or the list that it asks for. "Command 42 .. gets 2B"; 58 and 4F:
--- "each gets 2B"
+-- what an accepted command is answered: "2B each", or the list that it asks for. "Command 42 .. gets 2B"
 abbrev pub accepted : Book → Command → Reply
 accepted b (Add n l) = done
 accepted b (Remove n) = done
@@ -119,8 +111,6 @@ accepted b (Stand l) = done
 accepted b Print = listed (standing_list b)
 accepted b (Begin p) = done
 accepted b (Corner p) = listed (shown_by b (Corner p) (list_of (leg_asked b (Corner p)) (sites_of b)))
-accepted b (Close n) = done
-accepted b (Open n) = done
 
 -- the book's answer
 unfoldable pub answer : Book → Command → Reply
@@ -136,8 +126,6 @@ reads (Stand l) = false
 reads Print = true
 reads (Begin p) = false
 reads (Corner p) = false
-reads (Close n) = false
-reads (Open n) = false
 
 -- "With 21, 66, 67 or 68 the command changes neither lines nor leg." Document 02, C-13: "A refused command leaves corner
 -- and tour."

@@ -13,7 +13,7 @@ use Rattle.readings.specs.declared.Location.TheVariants.{InSteps, InMetres}
 use Rattle.readings.specs.Location.{reading_at}
 use Rattle.book.specs.declared.Command.{Command}
 use Rattle.book.specs.declared.Command.TheVariants.{Add, Remove, Move, List as ListOf, Stand, Print}
-use Rattle.book.specs.declared.Command.TheVariants.{Begin, Corner, Close, Open}
+use Rattle.book.specs.declared.Command.TheVariants.{Begin, Corner}
 use Rattle.book.specs.declared.Shape.{Shape}
 use Rattle.book.specs.declared.Shape.TheVariants.{Nothing, Number, OnePosition, NumberPosition, TwoPositions}
 use Rattle.book.specs.declared.Shape.TheVariants.{NumberReadings}
@@ -83,8 +83,8 @@ add_surveyed n r = Add n (InMetres r)
 abbrev pub move_surveyed : ℕ → Reading → Command
 move_surveyed n r = Move n (InMetres r)
 
--- document 01's table: "Command", "Operands", "Meaning"; behind it the commands of document 02: C-13's 42 and 43,
--- C-15's 61 and 6D, and C-19's 58 and 4F
+-- document 01's table: "Command", "Operands", "Meaning"; behind it the commands of document 02: C-13's 42 and 43, and
+-- C-15's 61 and 6D
 abbrev pub command_table : List Form
 command_table =
     form 0x41 NumberPosition add_at
@@ -97,8 +97,6 @@ command_table =
     ∷ form 0x43 OnePosition Corner
     ∷ form 0x61 NumberReadings add_surveyed
     ∷ form 0x6D NumberReadings move_surveyed
-    ∷ form 0x58 Number Close
-    ∷ form 0x4F Number Open
     ∷ []
 
 -- the bytes of a command of this form: its mark and its operands

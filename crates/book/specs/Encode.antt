@@ -2,6 +2,7 @@
 -- Assumes nothing.
 use Rattle.std.specs.Prelude.{List, [], ◌∷◌, ◌++◌, ℕ}
 use Rattle.grid.specs.declared.Position.{Position}
+use Rattle.grid.specs.declared.Site.{Site}
 use Rattle.grid.specs.declared.Leg.{Leg}
 use Rattle.grid.specs.Coordinate.{to_word}
 use Rattle.std.specs.Float.{binary32}
@@ -11,7 +12,7 @@ use Rattle.readings.specs.declared.Location.TheVariants.{InSteps, InMetres}
 use Rattle.records.specs.Bytes.{bytes2, bytes4}
 use Rattle.book.specs.declared.Command.{Command}
 use Rattle.book.specs.declared.Command.TheVariants.{Add, Remove, Move, List as ListOf, Stand, Print}
-use Rattle.book.specs.declared.Command.TheVariants.{Begin, Corner, Close, Open}
+use Rattle.book.specs.declared.Command.TheVariants.{Begin, Corner}
 
 -- a position, as two signed 16-bit numbers
 abbrev pub position_bytes : Position → List ℕ
@@ -37,5 +38,8 @@ command_bytes (Stand l) = 0x53 ∷ leg_bytes l
 command_bytes Print = 0x50 ∷ []
 command_bytes (Begin p) = 0x42 ∷ position_bytes p
 command_bytes (Corner p) = 0x43 ∷ position_bytes p
-command_bytes (Close n) = 0x58 ∷ bytes2 n
-command_bytes (Open n) = 0x4F ∷ bytes2 n
+
+-- an addition for each site
+abbrev pub additions : List Site → List ℕ
+additions [] = []
+additions (p ∷ s) = command_bytes (Add p.number (InSteps p.position)) ++ additions s

@@ -3,7 +3,6 @@ pub mod Command
 pub mod Encode
 pub mod Tour
 pub mod Book
-pub mod Filling
 pub mod Proper
 pub mod Reply
 pub mod Answer

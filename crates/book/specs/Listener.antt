@@ -17,12 +17,12 @@ use Rattle.records.specs.ListRecord.{list_size}
 use Rattle.records.specs.Decode.{Listed, listed_of, read2, read_record}
 use Rattle.book.specs.declared.Command.{Command}
 use Rattle.book.specs.declared.Command.TheVariants.{Add, Remove, Move, List as ListOf, Stand, Print}
-use Rattle.book.specs.declared.Command.TheVariants.{Begin, Corner, Close, Open}
+use Rattle.book.specs.declared.Command.TheVariants.{Begin, Corner}
 use Rattle.book.specs.declared.Parsed.{Parsed}
 use Rattle.book.specs.declared.Parsed.TheVariants.{End, Unknown, Cut, Whole}
 use Rattle.book.specs.Command.{parse_at}
 use Rattle.book.specs.Tour.{left_out}
-use Rattle.book.specs.Book.{Book, empty_book, is_closed, change}
+use Rattle.book.specs.Book.{Book, empty_book, change}
 use Rattle.book.specs.Reply.{listed}
 use Rattle.book.specs.Answer.{answer}
 
@@ -85,19 +85,16 @@ onward none p es = none
 onward (some k) p es = some (record { corner = p; entries = k.entries ++ es })
 
 -- after a command that got 2B: "Command 42 .. begins a tour"; "An accepted 41, 44 or 4D ends the tour.", and so do 61
--- and 6D; C-19: "A change of mark ends a tour". Whether a 58 or a 4F changes a mark is known from what was heard
--- before: b is the site book then
-abbrev pub hear_done : Book → Option Trip → Command → Option Trip
-hear_done b o (Add n l) = none
-hear_done b o (Remove n) = none
-hear_done b o (Move n l) = none
-hear_done b o (ListOf l) = o
-hear_done b o (Stand l) = o
-hear_done b o Print = o
-hear_done b o (Begin p) = some (record { corner = p; entries = [] })
-hear_done b o (Corner p) = o
-hear_done b o (Close n) = cond (is_closed n b.closed) o none
-hear_done b o (Open n) = cond (is_closed n b.closed) none o
+-- and 6D
+abbrev pub hear_done : Option Trip → Command → Option Trip
+hear_done o (Add n l) = none
+hear_done o (Remove n) = none
+hear_done o (Move n l) = none
+hear_done o (ListOf l) = o
+hear_done o (Stand l) = o
+hear_done o Print = o
+hear_done o (Begin p) = some (record { corner = p; entries = [] })
+hear_done o (Corner p) = o
 
 -- after one that got a list: that of a 43 is the next leg's. (No command but 4C, 50 and 43 gets a list, and a 43 no 2B;
 -- what these cases say is never asked.)
@@ -110,14 +107,21 @@ hear_list o (Stand l) es = o
 hear_list o Print es = o
 hear_list o (Begin p) es = o
 hear_list o (Corner p) es = onward o p es
-hear_list o (Close n) es = o
-hear_list o (Open n) es = o
 
 -- after a command and its record: "A refused command leaves corner and tour."
-abbrev pub hear : Book → Option Trip → Command → Told → Option Trip
-hear b o c said_done = hear_done b o c
-hear b o c (said_refused n) = o
-hear b o c (said_list es) = hear_list o c es
+abbrev pub hear : Option Trip → Command → Told → Option Trip
+hear o c said_done = hear_done o c
+hear o c (said_refused n) = o
+hear o c (said_list es) = hear_list o c es
+
+-- after several
+abbrev pub hear_all : Option Trip → List Exchange → Option Trip
+hear_all o [] = o
+hear_all o (u ∷ us) = hear_all (hear o u.command u.told) us
+
+-- the tour that is under way, or none, from laying out on
+abbrev pub tour_heard : List Exchange → Option Trip
+tour_heard us = hear_all none us
 
 -- the site book after a command and its record
 abbrev pub after_told : Book → Command → Told → Book
@@ -125,16 +129,7 @@ after_told b c said_done = change c b
 after_told b c (said_refused n) = b
 after_told b c (said_list es) = change c b
 
--- the tour after several
-abbrev pub hear_all : Book → Option Trip → List Exchange → Option Trip
-hear_all b o [] = o
-hear_all b o (u ∷ us) = hear_all (after_told b u.command u.told) (hear b o u.command u.told) us
-
--- the tour that is under way, or none, from laying out on
-abbrev pub tour_heard : List Exchange → Option Trip
-tour_heard us = hear_all empty_book none us
-
--- the site book after several
+-- after several
 abbrev pub after_heard : Book → List Exchange → Book
 after_heard b [] = b
 after_heard b (u ∷ us) = after_heard (after_told b u.command u.told) us

@@ -10,7 +10,7 @@ use Rattle.grid.specs.declared.Leg.{Leg}
 use Rattle.grid.specs.Position.{OnGrid, LegOnGrid}
 use Rattle.split.specs.SplitList.{SitesOnGrid}
 use Rattle.book.specs.Tour.{Tour}
-use Rattle.book.specs.Book.{Book, sites_of, holds, is_closed}
+use Rattle.book.specs.Book.{Book, sites_of, holds}
 
 -- numbers rise strictly, so that none is held twice
 abbrev pub Rising : List Site → Type 0
@@ -28,24 +28,12 @@ abbrev pub LegOk : Option Leg → Type 0
 LegOk none = Unit {0}
 LegOk (some l) = LegOnGrid l
 
--- numbers rise strictly
-abbrev pub RisingNumbers : List ℕ → Type 0
-RisingNumbers [] = Unit {0}
-RisingNumbers (m ∷ []) = Unit {0}
-RisingNumbers (m ∷ n ∷ c) = (m < n) × RisingNumbers (n ∷ c)
-
--- the closed numbers are those of lines
-pub record MarksOk (c : List ℕ) (s : List Site) : Type 0 where
-  pub rising : RisingNumbers c
-  pub held : (n : ℕ) → is_closed n c ≡ true → holds n s ≡ true
-
--- the remembered site is one of these
+-- the remembered site is held
 abbrev pub LastHeld : Option ℕ → List Site → Type 0
 LastHeld none s = Unit {0}
 LastHeld (some n) s = holds n s ≡ true
 
--- "a stored corner off the grid or a remembered site that isn't held counts under 65"; C-19: "a remembered site that is
--- closed counts under 65", so s are the open sites
+-- "a stored corner off the grid or a remembered site that isn't held counts under 65"
 pub record TourFits (k : Tour) (s : List Site) : Type 0 where
   pub on_grid : OnGrid k.corner
   pub held : LastHeld k.last s
@@ -61,7 +49,6 @@ pub record Proper (b : Book) : Type 0 where
   pub rising : Rising b.lines
   pub numbers : (p : Site) → Memᴰ p b.lines → NumberOk p
   pub on_grid : SitesOnGrid b.lines
-  pub marks : MarksOk b.closed b.lines
   pub few : length b.lines ≤ max_sites
   pub leg_ok : LegOk b.leg
   pub tour_ok : TourOk b.tour (sites_of b)

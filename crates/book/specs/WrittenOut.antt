@@ -8,7 +8,7 @@ use Rattle.readings.specs.Location.{placed, long_at}
 use Rattle.records.specs.Bytes.{bytes2}
 use Rattle.book.specs.declared.Command.{Command}
 use Rattle.book.specs.declared.Command.TheVariants.{Add, Remove, Move, List as ListOf, Stand, Print}
-use Rattle.book.specs.declared.Command.TheVariants.{Begin, Corner, Close, Open}
+use Rattle.book.specs.declared.Command.TheVariants.{Begin, Corner}
 use Rattle.book.specs.declared.Parsed.{Parsed}
 use Rattle.book.specs.declared.Parsed.TheVariants.{End, Unknown, Cut, Whole}
 use Rattle.book.specs.Command.{parse_at}
@@ -23,8 +23,6 @@ written_out (Stand l) = Stand l
 written_out Print = Print
 written_out (Begin p) = Begin p
 written_out (Corner p) = Corner p
-written_out (Close n) = Close n
-written_out (Open n) = Open n
 
 -- ---- in bytes, one command
 

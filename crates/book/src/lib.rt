@@ -3,9 +3,8 @@
 use grid::{Leg, Position};
 use readings::Location;
 
-// A command with its operands. Document 01, "Buffers and batches"; the last four are those of document 02, C-13 and
-// C-19. Added and moved is to steps or to receiver readings: document 02, C-15, "Commands 61 and 6D do what 41 and 4D
-// do".
+// A command with its operands. Document 01, "Buffers and batches"; the last two are those of document 02, C-13. Added
+// and moved is to steps or to receiver readings: document 02, C-15, "Commands 61 and 6D do what 41 and 4D do".
 #[derive(Drop)]
 pub enum Command {
     Add(u16, Location),
@@ -16,8 +15,6 @@ pub enum Command {
     Print,
     Begin(Position),
     Corner(Position),
-    Close(u16),
-    Open(u16),
 }
 
 // The operands of a command. Document 01, the column "Operands": none; number; position; number,

@@ -3,11 +3,10 @@
 use mathlib.Core.Path.{◌≡◌, refl, sym, ap, subst, subst⁻¹, ◌∙◌}
 use mathlib.Core.Logic.{◌≢◌}
 use mathlib.Core.Bool.{Bool, true, false, cond}
-use mathlib.Core.List.{List, [], ◌∷◌}
+use mathlib.Core.List.{List}
 use mathlib.Core.Option.{some}
-use Prim.Native.Nat.{ℕ, suc, ◌<◌, ◌≤◌}
+use Prim.Native.Nat.{ℕ, ◌<◌, ◌≤◌}
 use native.Mathlib.Omega.{arith}
-use lib.ListN.{length}
 use Rattle.limits.specs.Limits.{max_sites}
 use Rattle.grid.specs.declared.Position.{Position}
 use Rattle.grid.specs.declared.Site.{Site}
@@ -22,19 +21,13 @@ use Rattle.readings.specs.Location.{finite_in, placed, located_at}
 use Rattle.book.specs.declared.Cause.{Cause}
 use Rattle.book.specs.declared.Cause.TheVariants.{NumberZero, OffGrid, Held, NotHeld, Full, NoSite, NoLeg, NoTour, NotFinite}
 use Rattle.book.specs.declared.Command.{Command}
-use Rattle.book.specs.declared.Command.TheVariants.{Add, Remove, Move, List as ListOf, Stand, Print, Close, Open}
+use Rattle.book.specs.declared.Command.TheVariants.{Add, Remove, Move, List as ListOf, Stand, Print}
 use Rattle.book.specs.Book.{sites_of}
 use Rattle.book.specs.Proper.{LegOk, NumberOk}
 use Rattle.book.specs.Reply.{refused, listed}
 use Rattle.book.specs.Answer.{answer}
-use Rattle.book.proofs.Answers.{answer-add-zero, answer-add-not-finite, answer-add-off, answer-add-held, answer-add-full, answer-add-done, answer-remove-zero, answer-remove-absent, answer-remove-done, answer-close-zero, answer-close-absent, answer-close-done, answer-open-zero, answer-open-absent, answer-open-done, answer-move-zero, answer-move-not-finite, answer-move-off, answer-move-absent, answer-move-done, answer-list-off, answer-list-empty, answer-list-done, answer-stand-off, answer-stand-done, answer-print-legless, answer-print-empty, answer-print-done, same_add, same_move}
+use Rattle.book.proofs.Answers.{answer-add-zero, answer-add-not-finite, answer-add-off, answer-add-held, answer-add-full, answer-add-done, answer-remove-zero, answer-remove-absent, answer-remove-done, answer-move-zero, answer-move-not-finite, answer-move-off, answer-move-absent, answer-move-done, answer-list-off, answer-list-empty, answer-list-done, answer-stand-off, answer-stand-done, answer-print-legless, answer-print-empty, answer-print-done, same_add, same_move}
 use Rattle.split.specs.SplitOf.{split_of}
-use Rattle.split.proofs.Exists.{split_is}
-use Rattle.split.proofs.Dealing.{no_site_lem}
-use Rattle.list_row.proofs.Entries.{entries_length}
-use Rattle.book.proofs.ProperBooks.{proper_numbered}
-use Rattle.book.proofs.LegRecords.{opens_some}
-use Rattle.table_rules.proofs.Books.{sound_proper}
 use Rattle.table_header.specs.declared.Standing.{Standing}
 use Rattle.table_header.specs.Header.{count_in, leg_in, as_option}
 use Rattle.table_sites.specs.declared.Found.{Found}
@@ -47,11 +40,6 @@ use Rattle.call_judge.specs.declared.Answer.{Answer}
 use Rattle.call_judge.specs.declared.Verdict.{Verdict}
 use Rattle.call_judge.specs.declared.change.Tested.{Tested}
 use Rattle.call_judge.specs.Verdict.{answer_of, IsOn, Decided, Settled, BadFor, GoodFor, TestedAs}
-
--- a list without a length has no entry
-length_none : {A : Type 0} (xs : List A) → length xs ≡ 0 → xs ≡ []
-length_none [] e = refl
-length_none (x ∷ xs) e = absurd (omega arith)
 
 -- ---- a refusal
 
@@ -111,8 +99,6 @@ module _ (n : ℕ) (l : Location) (f : finite_in l ≡ true) (b : List ℕ) wher
   on_add (Verdict.Stand m) h = absurd (let y : ◌≡◌ {A = ℕ} 0 1 = cc in omega arith)
   on_add (Verdict.Begin p) h = absurd (let y : ◌≡◌ {A = ℕ} 0 1 = cc in omega arith)
   on_add (Verdict.Follow m j k i) h = absurd (let y : ◌≡◌ {A = ℕ} 0 1 = cc in omega arith)
-  on_add (Verdict.Close k m) h = absurd (let y : ◌≡◌ {A = ℕ} 0 1 = cc in omega arith)
-  on_add (Verdict.Open k m) h = absurd (let y : ◌≡◌ {A = ℕ} 0 1 = cc in omega arith)
 
   on_move : (v : Verdict) → IsOn v (Move n (InSteps (placed l))) → IsOn v (Move n l)
   on_move (Verdict.Refuse x) h = tt
@@ -123,8 +109,6 @@ module _ (n : ℕ) (l : Location) (f : finite_in l ≡ true) (b : List ℕ) wher
   on_move (Verdict.Stand m) h = absurd (let y : ◌≡◌ {A = ℕ} 0 1 = cc in omega arith)
   on_move (Verdict.Begin p) h = absurd (let y : ◌≡◌ {A = ℕ} 0 1 = cc in omega arith)
   on_move (Verdict.Follow m j k i) h = absurd (let y : ◌≡◌ {A = ℕ} 0 1 = cc in omega arith)
-  on_move (Verdict.Close k m) h = absurd (let y : ◌≡◌ {A = ℕ} 0 1 = cc in omega arith)
-  on_move (Verdict.Open k m) h = absurd (let y : ◌≡◌ {A = ℕ} 0 1 = cc in omega arith)
 
   settled_add : (v : Verdict) → Settled v (Add n (InSteps (placed l))) b → Settled v (Add n l) b
   settled_add v h =
@@ -224,44 +208,6 @@ module _ (b : List ℕ) (n : ℕ) where
           };
         })
 
-module _ (b : List ℕ) (n : ℕ) where
-  pub close_zero : n ≡ 0 → Settled (Verdict.Refuse NumberZero) (Close n) b
-  close_zero z = refused_so_lem b (Close n) NumberZero (answer-close-zero (book_of b) n z)
-
-  module _ (f : Found) (k : ℕ) (z : n ≢ 0) (a : FoundAs f n (lines_in b)) where
-    pub close_absent : f ≡ Found.Absent k → Settled (Verdict.Refuse NotHeld) (Close n) b
-    close_absent e = refused_so_lem b (Close n) NotHeld (answer-close-absent (book_of b) n z (absent_held (found_absent e a)))
-
-    pub close_done : (r : ℕ) → f ≡ Found.At k → r ≡ k → Settled (Verdict.Close r n) (Close n) b
-    close_done r e q =
-        subst⁻¹ (λ (x : ℕ). Settled (Verdict.Close x n) (Close n) b) q
-        (record {
-          decided = λ w. record {
-            judged = record { said = sym (answer-close-done (book_of b) n z (at_held (found_at e a))); row = tt };
-            found = found_at e a;
-            command = refl;
-          };
-        })
-
-module _ (b : List ℕ) (n : ℕ) where
-  pub open_zero : n ≡ 0 → Settled (Verdict.Refuse NumberZero) (Open n) b
-  open_zero z = refused_so_lem b (Open n) NumberZero (answer-open-zero (book_of b) n z)
-
-  module _ (f : Found) (k : ℕ) (z : n ≢ 0) (a : FoundAs f n (lines_in b)) where
-    pub open_absent : f ≡ Found.Absent k → Settled (Verdict.Refuse NotHeld) (Open n) b
-    open_absent e = refused_so_lem b (Open n) NotHeld (answer-open-absent (book_of b) n z (absent_held (found_absent e a)))
-
-    pub open_done : (r : ℕ) → f ≡ Found.At k → r ≡ k → Settled (Verdict.Open r n) (Open n) b
-    open_done r e q =
-        subst⁻¹ (λ (x : ℕ). Settled (Verdict.Open x n) (Open n) b) q
-        (record {
-          decided = λ w. record {
-            judged = record { said = sym (answer-open-done (book_of b) n z (at_held (found_at e a))); row = tt };
-            found = found_at e a;
-            command = refl;
-          };
-        })
-
 module _ (b : List ℕ) (s : Site) (ok : NumberOk s) (on : OnGrid s.position) (f : Found) (k : ℕ) (a : FoundAs f s.number (lines_in b)) where
   positive : s.number ≢ 0
   positive z = omega (arith, ok.least)
@@ -311,28 +257,6 @@ shown : (b w : List ℕ) (c : Command) (l : Leg) (k : ℕ) → LegOnGrid l → L
     → Decided (Verdict.Show l k) c b w
 shown b w c l k on f e r = record { judged = record { said = ap listed f.list ∙ sym e; row = (on, f.held, omega arith) }; found = tt; command = r }
 
--- a list has an entry exactly where a site is open
-module _ (b w : List ℕ) (l : Leg) (k : ℕ) (f : ListsTable l b w k) where
-  entries_are : length (split_of l (sites_of (book_of b))) ≡ k
-  entries_are = ap length (sym f.list) ∙ entries_length l b w k
-
-  pub none_open : Sound b → k ≡ 0 → length (sites_of (book_of b)) ≡ 0
-  none_open s z = go (sites_of (book_of b)) refl
-    where
-      go : (ss : List Site) → sites_of (book_of b) ≡ ss → length ss ≡ 0
-      go [] e = refl
-      go (x ∷ ss) e =
-          absurd
-          (opens_some l (sites_of (book_of b)) (split_of l (sites_of (book_of b))) (split_is l (sites_of (book_of b)) (proper_numbered (book_of b) (sound_proper b s)))
-          (λ y. let j : ◌≡◌ {A = ℕ} (suc (length ss)) 0 = sym (ap length e) ∙ y in omega (arith, j)) (length_none (split_of l (sites_of (book_of b))) (entries_are ∙ z)))
-
-  pub some_open : k ≢ 0 → length (sites_of (book_of b)) ≢ 0
-  some_open z e = z (sym entries_are ∙ none_listed (sites_of (book_of b)) e)
-    where
-      none_listed : (ss : List Site) → length ss ≡ 0 → length (split_of l ss) ≡ 0
-      none_listed [] j = ap length (no_site_lem l)
-      none_listed (x ∷ ss) j = absurd (omega arith)
-
 module _ (b : List ℕ) (l : Leg) (q : Bool) (s : Says q (LegOnGrid l)) where
   pub leg_yes : q ≡ true → LegOnGrid l
   leg_yes y = says_yes q s y
@@ -340,11 +264,11 @@ module _ (b : List ℕ) (l : Leg) (q : Bool) (s : Says q (LegOnGrid l)) where
   pub list_off : (w : List ℕ) → q ≡ false → Decided (Verdict.Refuse OffGrid) (ListOf l) b w
   list_off w e = refusal b (ListOf l) OffGrid (answer-list-off (book_of b) l (says_no q s e)) w
 
-  pub list_none : (w : List ℕ) (k : ℕ) → Sound b → q ≡ true → ListsTable l b w k → k ≡ 0 → Decided (Verdict.Refuse NoSite) (ListOf l) b w
-  list_none w k t y f z = refusal b (ListOf l) NoSite (answer-list-empty (book_of b) l (says_yes q s y) (none_open b w l k f t z)) w
+  pub list_none : (w : List ℕ) (m : ℕ) → q ≡ true → m ≡ count_in b → m ≡ 0 → Decided (Verdict.Refuse NoSite) (ListOf l) b w
+  list_none w m y c z = refusal b (ListOf l) NoSite (answer-list-empty (book_of b) l (says_yes q s y) (lines_length b ∙ sym c ∙ z)) w
 
-  pub list_done : (w : List ℕ) (k : ℕ) → q ≡ true → ListsTable l b w k → k ≢ 0 → Decided (Verdict.Show l k) (ListOf l) b w
-  list_done w k y f z = shown b w (ListOf l) l k (says_yes q s y) f (answer-list-done (book_of b) l (says_yes q s y) (some_open b w l k f z)) refl
+  pub list_done : (w : List ℕ) (m k : ℕ) → q ≡ true → m ≡ count_in b → m ≢ 0 → ListsTable l b w k → Decided (Verdict.Show l k) (ListOf l) b w
+  list_done w m k y c z f = shown b w (ListOf l) l k (says_yes q s y) f (answer-list-done (book_of b) l (says_yes q s y) (λ x. z (c ∙ sym (lines_length b) ∙ x))) refl
 
   pub stand_off : q ≡ false → Settled (Verdict.Refuse OffGrid) (Stand l) b
   stand_off e = refused_so_lem b (Stand l) OffGrid (answer-stand-off (book_of b) l (says_no q s e))
@@ -358,11 +282,11 @@ module _ (b : List ℕ) (l : Leg) (q : Bool) (s : Says q (LegOnGrid l)) where
 -- ---- the standing list
 
 module _ (b : List ℕ) (l : Leg) (e : leg_in b ≡ some l) where
-  pub stored_none : (w : List ℕ) (k : ℕ) → Sound b → ListsTable l b w k → k ≡ 0 → Decided (Verdict.Refuse NoSite) Print b w
-  stored_none w k t f z = refusal b Print NoSite (answer-print-empty (book_of b) l e (none_open b w l k f t z)) w
+  pub stored_none : (w : List ℕ) (m : ℕ) → m ≡ count_in b → m ≡ 0 → Decided (Verdict.Refuse NoSite) Print b w
+  stored_none w m c z = refusal b Print NoSite (answer-print-empty (book_of b) l e (lines_length b ∙ sym c ∙ z)) w
 
-  pub stored_done : (w : List ℕ) (k : ℕ) → Sound b → ListsTable l b w k → k ≢ 0 → Decided (Verdict.Show l k) Print b w
-  stored_done w k t f z = shown b w Print l k (subst LegOk e t.standing.leg) f (answer-print-done (book_of b) l e (some_open b w l k f z)) refl
+  pub stored_done : (w : List ℕ) (m k : ℕ) → Sound b → m ≡ count_in b → m ≢ 0 → ListsTable l b w k → Decided (Verdict.Show l k) Print b w
+  stored_done w m k t c z f = shown b w Print l k (subst LegOk e t.standing.leg) f (answer-print-done (book_of b) l e (λ x. z (c ∙ sym (lines_length b) ∙ x))) refl
 
 module _ (b : List ℕ) (s : Standing) (q : as_option s ≡ leg_in b) where
   pub print_unset : (w : List ℕ) → s ≡ Standing.Unset → Decided (Verdict.Refuse NoLeg) Print b w

@@ -36,13 +36,15 @@ use Rattle.book.proofs.ProperBooks.{proper_numbered}
 use Rattle.book.proofs.LegRecords.{opens_some}
 use Rattle.book.proofs.Lists.{first_held}
 use Rattle.table_header.specs.declared.Touring.{Touring}
-use Rattle.table_header.specs.Header.{site_number, tour_at, tour_in, touring_as}
+use Rattle.table_header.specs.Header.{count_in, site_number, tour_at, tour_in, touring_as}
+use Rattle.table_sites.specs.Lines.{lines_in}
+use Rattle.table_sites.proofs.Reading.{lines_length}
 use Rattle.table_rules.specs.Table.{book_of, Sound}
 use Rattle.table_rules.specs.Listing.{ListsTable}
 use Rattle.table_rules.proofs.Books.{sound_proper}
 use Rattle.call_judge.specs.declared.Verdict.{Verdict}
 use Rattle.call_judge.specs.Verdict.{Decided, Settled, passed_by}
-use Rattle.call_judge.proofs.Deciding.{refusal, refused_so_lem, none_open, some_open}
+use Rattle.call_judge.proofs.Deciding.{refusal, refused_so_lem}
 
 -- ---- 42
 
@@ -110,21 +112,29 @@ last_place l t r k i h g e = h.sites i (omega arith)
 module _ (b w : List ℕ) (l : Leg) (last k : ℕ) (s : Sound b) (runs : tour_in b ≡ some (tour_at l.s last)) (on : OnGrid l.e) (f : ListsTable l b w k) where
   -- the tour's corner is on the grid
   from_grid : OnGrid l.s
-  from_grid = (subst (λ (o : Option Tour). TourOk o (sites_of (book_of b))) runs s.whole.tour).on_grid
+  from_grid = (subst (λ (o : Option Tour). TourOk o (lines_in b)) runs s.whole.tour).on_grid
+
+  -- a list over no site has no entry
+  site_held : 0 < k → length (lines_in b) ≢ 0
+  site_held h z = omega (arith, h, entries_length l b w k, ap length f.list, none_listed (lines_in b) z)
+    where
+      none_listed : (ss : List Site) → length ss ≡ 0 → length (split_of l ss) ≡ 0
+      none_listed [] e = ap length (no_site_lem l)
+      none_listed (x ∷ ss) e = absurd (omega arith)
 
   module _ (first ending j : ℕ) (hf : first ≡ (site_at b (place_at w 0)).number) (he : ending ≡ (site_at b (place_at w (k - 1))).number) (hj : j ≡ passed_by first last) where
-    shown_as : (m : ℕ) → k ≡ suc m → entries_from l b w j k ≡ left_out (site_number last) (split_of l (sites_of (book_of b)))
+    shown_as : (m : ℕ) → k ≡ suc m → entries_from l b w j k ≡ left_out (site_number last) (split_of l (lines_in b))
     shown_as m e =
         let (es, q) = first_in l b w m in
         let all : entries_in l b w k ≡ row_entry l b w 0 ∷ es = ap (entries_in l b w) e ∙ q in
-        let whole : split_of l (sites_of (book_of b)) ≡ row_entry l b w 0 ∷ es = sym f.list ∙ all in
+        let whole : split_of l (lines_in b) ≡ row_entry l b w 0 ∷ es = sym f.list ∙ all in
         let ok = sound_proper b s in
         let least = first_held (book_of b) ok l (row_entry l b w 0) es whole in
         (λ i. drop ((hj ∙ ap (λ (x : ℕ). passed_by x last) hf) i) (all i))
         ∙ passed_left (row_entry l b w 0) es last (λ z. omega (arith, z, least))
         ∙ ap (left_out (site_number last)) (sym whole)
 
-    last_as : (m : ℕ) → k ≡ suc m → last_number none (split_of l (sites_of (book_of b))) ≡ some ending
+    last_as : (m : ℕ) → k ≡ suc m → last_number none (split_of l (lines_in b)) ≡ some ending
     last_as m e =
         let c : m ≡ k - 1 = omega arith in
         ap (last_number none) (sym f.list ∙ ap (entries_in l b w) e) ∙ last_in_lem l b w m
@@ -138,7 +148,7 @@ module _ (b w : List ℕ) (l : Leg) (last k : ℕ) (s : Sound b) (runs : tour_in
         by (suc m) e =
             record {
               judged = record {
-                said = ap listed (shown_as m e) ∙ sym (answer-corner-done (book_of b) l.e (tour_at l.s last) runs on (some_open b w l k f (λ z. omega (arith, h, z))));
+                said = ap listed (shown_as m e) ∙ sym (answer-corner-done (book_of b) l.e (tour_at l.s last) runs on (site_held h));
                 row = (record { s = from_grid; e = on }, f.held, omega (arith, hj, passed_few first last k h));
               };
               found = record { tour = tour_at l.s last; runs = runs; from = refl; on_grid = on; last = last_as m e };
@@ -151,16 +161,27 @@ module _ (b : List ℕ) (corner : Position) (last : ℕ) (p : Position) (s : Sou
   pub onward_off : (w : List ℕ) → q ≡ false → Decided (Verdict.Refuse OffGrid) (Corner p) b w
   onward_off w e = refusal b (Corner p) OffGrid (answer-corner-off (book_of b) p (tour_at corner last) runs (says_no q g e)) w
 
-  pub onward_none : (w : List ℕ) (l : Leg) (k : ℕ) → q ≡ true → ListsTable l b w k → k ≡ 0 → Decided (Verdict.Refuse NoSite) (Corner p) b w
-  onward_none w l k y f z =
-      refusal b (Corner p) NoSite (answer-corner-empty (book_of b) p (tour_at corner last) runs (says_yes q g y) (none_open b w l k f s z)) w
+  pub onward_none : (w : List ℕ) (m : ℕ) → q ≡ true → m ≡ count_in b → m ≡ 0 → Decided (Verdict.Refuse NoSite) (Corner p) b w
+  onward_none w m y c z =
+      refusal b (Corner p) NoSite (answer-corner-empty (book_of b) p (tour_at corner last) runs (says_yes q g y) (lines_length b ∙ sym c ∙ z)) w
 
   pub onward_leg : q ≡ true → LegOnGrid (record { s = corner; e = p })
   onward_leg y =
-      record { s = (subst (λ (o : Option Tour). TourOk o (sites_of (book_of b))) runs s.whole.tour).on_grid; e = says_yes q g y }
+      record { s = (subst (λ (o : Option Tour). TourOk o (lines_in b)) runs s.whole.tour).on_grid; e = says_yes q g y }
 
   pub onward_grid : q ≡ true → OnGrid p
   onward_grid y = says_yes q g y
+
+-- where a site is held the list has an entry
+pub onward_some : (b w : List ℕ) (l : Leg) (m k : ℕ) → ListsTable l b w k → Sound b → m ≡ count_in b → m ≢ 0 → 0 < k
+onward_some b w l m k f s c z = by k refl
+  where
+    by : (n : ℕ) → k ≡ n → 0 < k
+    by zero e =
+        absurd
+        (opens_some l (lines_in b) (split_of l (lines_in b)) (split_is l (lines_in b) (proper_numbered (book_of b) (sound_proper b s)))
+        (λ x. z (c ∙ sym (lines_length b) ∙ x)) (sym f.list ∙ ap (entries_in l b w) e))
+    by (suc n) e = omega arith
 
 -- ---- 43: tour
 

@@ -9,7 +9,7 @@ use Rattle.readings.specs.declared.Location.{Location}
 use Rattle.readings.specs.declared.Location.TheVariants.{InSteps}
 use Rattle.readings.specs.Location.{finite_in, placed}
 use Rattle.book.specs.declared.Command.{Command}
-use Rattle.book.specs.declared.Command.TheVariants.{Add, Remove, Move, Stand, Begin, Corner, Close, Open}
+use Rattle.book.specs.declared.Command.TheVariants.{Add, Remove, Move, Stand, Begin, Corner}
 use Rattle.book.specs.declared.Cause.{Cause}
 use Rattle.book.specs.declared.Cause.TheVariants.{NumberZero, OffGrid, Held, NotHeld, Full, NoSite, NoLeg, NoTour}
 use Rattle.book.specs.declared.Cause.TheVariants.{NotFinite}
@@ -33,8 +33,6 @@ answer_of (Verdict.Place k p) = Answer.Done
 answer_of (Verdict.Stand l) = Answer.Done
 answer_of (Verdict.Begin p) = Answer.Done
 answer_of (Verdict.Follow l j n k) = Answer.Listed l j k
-answer_of (Verdict.Close k n) = Answer.Done
-answer_of (Verdict.Open k n) = Answer.Done
 
 -- a site may be inserted before record k
 pub record Insertable (k : ℕ) (p : Site) (t : List ℕ) : Type 0 where
@@ -53,8 +51,6 @@ Findings (Verdict.Place k p) t = StandsAt k p.number (lines_in t) × OnGrid p.po
 Findings (Verdict.Stand l) t = LegOnGrid l
 Findings (Verdict.Begin p) t = OnGrid p
 Findings (Verdict.Follow l j n k) t = Follows l n t
-Findings (Verdict.Close k n) t = StandsAt k n (lines_in t)
-Findings (Verdict.Open k n) t = StandsAt k n (lines_in t)
 
 -- the command that a verdict is on: any that is refused; one that changes nothing, where a list is shown; an addition
 -- or a move to readings has its steps written out; else the command itself
@@ -67,8 +63,6 @@ IsOn (Verdict.Place k p) c = written_out c ≡ Move p.number (InSteps p.position
 IsOn (Verdict.Stand l) c = c ≡ Stand l
 IsOn (Verdict.Begin p) c = c ≡ Begin p
 IsOn (Verdict.Follow l j n k) c = c ≡ Corner l.e
-IsOn (Verdict.Close k n) c = c ≡ Close n
-IsOn (Verdict.Open k n) c = c ≡ Open n
 
 -- the verdict on the command c: its answer is the book's, and what it says of the table is so
 pub record Decided (v : Verdict) (c : Command) (t w : List ℕ) : Type 0 where

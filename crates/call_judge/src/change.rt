@@ -1,4 +1,4 @@
-// The changes of sites: added, removed, moved, closed, opened.
+// The changes of sites: added, removed, moved.
 ghost use Rattle.std.specs.Prelude.{◌≡◌, ◌≤◌};
 ghost use Rattle.limits.specs.Limits.{max_sites};
 ghost use Rattle.grid.specs.Position.{OnGrid};
@@ -124,41 +124,5 @@ pub fn place(t: &[u8], n: u16, l: Location) -> Verdict
     match tested {
         Tested::Bad(cause) => Verdict::Refuse(cause),
         Tested::Good(site) => place_site(t, site),
-    }
-}
-
-// A closing: number, held. Document 02, C-19, command 58.
-pub fn close(t: &[u8], n: u16) -> Verdict
-    requires { Sound t.now }
-    ensures { Settled result (Command.Close n) t.now }
-{
-    if n == 0 {
-        return Verdict::Refuse(Cause::NumberZero);
-    }
-    let found = table_sites::find(t, n);
-    match found {
-        Found::At(at) => {
-            let index = narrow(at);
-            Verdict::Close(index, n)
-        }
-        Found::Absent(_) => Verdict::Refuse(Cause::NotHeld),
-    }
-}
-
-// An opening: number, held. Document 02, C-19, command 4F.
-pub fn open(t: &[u8], n: u16) -> Verdict
-    requires { Sound t.now }
-    ensures { Settled result (Command.Open n) t.now }
-{
-    if n == 0 {
-        return Verdict::Refuse(Cause::NumberZero);
-    }
-    let found = table_sites::find(t, n);
-    match found {
-        Found::At(at) => {
-            let index = narrow(at);
-            Verdict::Open(index, n)
-        }
-        Found::Absent(_) => Verdict::Refuse(Cause::NotHeld),
     }
 }

@@ -23,8 +23,7 @@ pub enum Answer {
 
 // What is to be done, with what was found: nothing but a refusal; nothing but a list; a site inserted before a
 // record; the record of a number deleted; a record given a new position; a standing leg set; a tour begun; a tour that
-// goes on along a leg, with so many entries of its list left out, the site that ends it, and the list's length; the
-// record of a number closed or opened.
+// goes on along a leg, with so many entries of its list left out, the site that ends it, and the list's length.
 #[derive(Drop)]
 pub enum Verdict {
     Refuse(Cause),
@@ -35,8 +34,6 @@ pub enum Verdict {
     Stand(Leg),
     Begin(Position),
     Follow(Leg, u16, u16, usize),
-    Close(u16, u16),
-    Open(u16, u16),
 }
 
 // What a verdict is answered.
@@ -52,8 +49,6 @@ pub fn reply(v: Verdict) -> Answer
         Verdict::Stand(_) => Answer::Done,
         Verdict::Begin(_) => Answer::Done,
         Verdict::Follow(leg, j, _, k) => Answer::Listed(leg, j as usize, k),
-        Verdict::Close(_, _) => Answer::Done,
-        Verdict::Open(_, _) => Answer::Done,
     }
 }
 
@@ -71,7 +66,5 @@ pub fn judge(t: &[u8], work: &mut [u8], c: Command) -> Verdict
         Command::Print => list::print(t, work),
         Command::Begin(p) => tour::begin(t, p),
         Command::Corner(p) => tour::corner(t, work, p),
-        Command::Close(n) => change::close(t, n),
-        Command::Open(n) => change::open(t, n),
     }
 }

@@ -12,16 +12,17 @@ use book::Cause;
 use grid::Leg;
 use table_header::Standing;
 
-// A list: leg, site. The list of an open site has an entry, so one without an entry says that none is open.
+// A list: leg, site.
 pub fn list(t: &[u8], work: &mut [u8], leg: Leg) -> Verdict
     requires { Sound t.now × (row_bytes ≤ length work.old) }
     ensures { Decided result (Command.List leg) t.now work.new }
 {
     if grid::coordinate::leg_on_grid(leg) {
-        let k = table_search::search(t, leg, work);
-        if k == 0 {
+        let n = table_header::count(t);
+        if n == 0 {
             return Verdict::Refuse(Cause::NoSite);
         }
+        let k = table_search::search(t, leg, work);
         return Verdict::Show(leg, k);
     }
     Verdict::Refuse(Cause::OffGrid)
@@ -42,10 +43,11 @@ fn stored(t: &[u8], work: &mut [u8], leg: Leg) -> Verdict
     requires { Sound t.now × (leg_in t.now ≡ some leg) × (row_bytes ≤ length work.old) }
     ensures { Decided result Command.Print t.now work.new }
 {
-    let k = table_list::load(t, work, leg);
-    if k == 0 {
+    let n = table_header::count(t);
+    if n == 0 {
         return Verdict::Refuse(Cause::NoSite);
     }
+    let k = table_list::load(t, work, leg);
     Verdict::Show(leg, k)
 }
 

@@ -52,11 +52,12 @@ fn onward(t: &[u8], work: &mut [u8], corner: Position, last: u16, p: Position) -
     ensures { Decided result (Command.Corner p) t.now work.new }
 {
     if grid::coordinate::on_grid(p) {
-        let leg = Leg { s: corner, e: p };
-        let k = table_search::search(t, leg, work);
-        if k == 0 {
+        let n = table_header::count(t);
+        if n == 0 {
             return Verdict::Refuse(Cause::NoSite);
         }
+        let leg = Leg { s: corner, e: p };
+        let k = table_search::search(t, leg, work);
         return shown(t, work, leg, last, k);
     }
     Verdict::Refuse(Cause::OffGrid)

@@ -17,11 +17,10 @@ use Rattle.grid.specs.Coordinate.{from_word}
 use Rattle.readings.specs.declared.Reading.{Reading}
 use Rattle.readings.specs.Location.{reading_at}
 use Rattle.book.specs.declared.Command.{Command}
-use Rattle.book.specs.declared.Command.TheVariants.{Open}
 use Rattle.book.specs.declared.Shape.{Shape}
 use Rattle.book.specs.declared.Shape.TheVariants.{OnePosition, Nothing, Number, NumberPosition, TwoPositions, NumberReadings}
 use Rattle.book.specs.declared.Parsed.TheVariants.{End, Unknown, Cut, Whole}
-use Rattle.book.specs.Command.{operand_bytes, position_at, leg_at, Form, form, form_of, parse_at}
+use Rattle.book.specs.Command.{operand_bytes, position_at, leg_at, move_surveyed, Form, form, form_of, parse_at}
 use Rattle.book.proofs.Parsing.{parse_end, parse_unknown, parse_cut, parse_whole}
 use Rattle.call_parse.specs.declared.Mark.{Mark}
 use Rattle.call_parse.specs.declared.Mark.TheVariants.{Unknown as NoMark, Takes}
@@ -65,20 +64,20 @@ module _ (x : Shape) (s : List ℕ) (i n : ℕ) (p : Position) (l : Leg) (r : Re
 
 -- ---- the table of commands
 
-module _ (m : ℕ) (a : m ≢ 0x41) (b : m ≢ 0x44) (c : m ≢ 0x4D) (d : m ≢ 0x4C) (e : m ≢ 0x53) (f : m ≢ 0x50) (g : m ≢ 0x42) (h : m ≢ 0x43) (i : m ≢ 0x61) (j : m ≢ 0x6D) (k : m ≢ 0x58) where
+module _ (m : ℕ) (a : m ≢ 0x41) (b : m ≢ 0x44) (c : m ≢ 0x4D) (d : m ≢ 0x4C) (e : m ≢ 0x53) (f : m ≢ 0x50) (g : m ≢ 0x42) (h : m ≢ 0x43) (i : m ≢ 0x61) where
   -- no other mark is a command's
-  last_row : form_of m ≡ cond (eqb m 0x4F) (some (form 0x4F Number Open)) none
+  last_row : form_of m ≡ cond (eqb m 0x6D) (some (form 0x6D NumberReadings move_surveyed)) none
   unfolding form_of
   last_row =
-      rw (ne_eqb m 0x41 a, ne_eqb m 0x44 b, ne_eqb m 0x4D c, ne_eqb m 0x4C d, ne_eqb m 0x53 e, ne_eqb m 0x50 f, ne_eqb m 0x42 g, ne_eqb m 0x43 h, ne_eqb m 0x61 i, ne_eqb m 0x6D j, ne_eqb m 0x58 k) refl
+      rw (ne_eqb m 0x41 a, ne_eqb m 0x44 b, ne_eqb m 0x4D c, ne_eqb m 0x4C d, ne_eqb m 0x53 e, ne_eqb m 0x50 f, ne_eqb m 0x42 g, ne_eqb m 0x43 h, ne_eqb m 0x61 i) refl
 
-  pub unlisted : m ≢ 0x4F → NoMark ≡ mark_of (form_of m)
-  unlisted l = rw (last_row, ne_eqb m 0x4F l) refl
+  pub unlisted : m ≢ 0x6D → NoMark ≡ mark_of (form_of m)
+  unlisted j = rw (last_row, ne_eqb m 0x6D j) refl
 
-  pub last_made : (o : Operands) → Makes (form_of m) o (Open o.0)
-  last_made o = subst⁻¹ (λ (r : Option Form). Makes r o (Open o.0)) last_row (go (eqb m 0x4F))
+  pub last_made : (o : Operands) → Makes (form_of m) o (move_surveyed o.0 o.3)
+  last_made o = subst⁻¹ (λ (r : Option Form). Makes r o (move_surveyed o.0 o.3)) last_row (go (eqb m 0x6D))
     where
-      go : (t : Bool) → Makes (cond t (some (form 0x4F Number Open)) none) o (Open o.0)
+      go : (t : Bool) → Makes (cond t (some (form 0x6D NumberReadings move_surveyed)) none) o (move_surveyed o.0 o.3)
       go true = refl
       go false = tt
 

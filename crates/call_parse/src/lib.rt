@@ -33,13 +33,11 @@ fn mark_of(byte: u8) -> Mark
         0x43 => Mark::Takes(Shape::OnePosition),
         0x61 => Mark::Takes(Shape::NumberReadings),
         0x6D => Mark::Takes(Shape::NumberReadings),
-        0x58 => Mark::Takes(Shape::Number),
-        0x4F => Mark::Takes(Shape::Number),
         _ => Mark::Unknown,
     }
 }
 
-// The table of commands: what each is, with its operands. The last arm is 4F, and what no caller asks.
+// The table of commands: what each is, with its operands. The last arm is 6D, and what no caller asks.
 fn command(byte: u8, o: Operands) -> Command
     ensures { Makes (form_of byte) o result }
 {
@@ -57,9 +55,7 @@ fn command(byte: u8, o: Operands) -> Command
         0x42 => Command::Begin(position),
         0x43 => Command::Corner(position),
         0x61 => Command::Add(number, Location::InMetres(reading)),
-        0x6D => Command::Move(number, Location::InMetres(reading)),
-        0x58 => Command::Close(number),
-        _ => Command::Open(number),
+        _ => Command::Move(number, Location::InMetres(reading)),
     }
 }
 

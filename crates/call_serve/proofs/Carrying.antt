@@ -20,7 +20,7 @@ use Rattle.readings.specs.declared.Location.TheVariants.{InSteps}
 use Rattle.book.specs.WrittenOut.{written_out}
 use Rattle.book.specs.declared.Cause.{Cause}
 use Rattle.book.specs.declared.Command.{Command}
-use Rattle.book.specs.declared.Command.TheVariants.{Add, Remove, Move, List as ListOf, Stand, Print, Begin, Corner, Close, Open}
+use Rattle.book.specs.declared.Command.TheVariants.{Add, Remove, Move, List as ListOf, Stand, Print, Begin, Corner}
 use Rattle.book.specs.Book.{change}
 use Rattle.book.specs.Proper.{NumberOk}
 use Rattle.book.specs.Reply.{Reply, done, listed, record_of, record_size}
@@ -29,7 +29,7 @@ use Rattle.table_sites.specs.Lines.{lines_in, StandsAt, StandsNowhere}
 use Rattle.table_header.specs.Layout.{tour_start, tour_end}
 use Rattle.table_rules.specs.Table.{book_of}
 use Rattle.table_rules.specs.Following.{Follows}
-use Rattle.demands.specs.Step.{Holds, repeats, Left, tours, TourAlone, Step}
+use Rattle.demands.specs.Step.{Holds, Left, tours, TourAlone, Step}
 use Rattle.call_judge.specs.declared.Answer.{Answer}
 use Rattle.call_judge.specs.declared.Verdict.{Verdict}
 use Rattle.call_judge.specs.Judged.{reply_of, RowOk}
@@ -121,20 +121,6 @@ module _ (t t' : List ℕ) (v : Verdict) where
     pub followed : Holds t' (change (Corner l.e) (book_of t)) × Only tour_start tour_end t t' → Carried v t t'
     followed h = subst⁻¹ (λ (y : Verdict). Carried y t t') e h
 
-  module _ (k n : ℕ) (e : v ≡ Verdict.Close k n) where
-    pub close_at : Findings v t → StandsAt k n (lines_in t)
-    close_at f = subst (λ (y : Verdict). Findings y t) e f
-
-    pub closed : Left (repeats (book_of t) (Close n)) t (change (Close n) (book_of t)) t' → Carried v t t'
-    closed h = subst⁻¹ (λ (y : Verdict). Carried y t t') e h
-
-  module _ (k n : ℕ) (e : v ≡ Verdict.Open k n) where
-    pub open_at : Findings v t → StandsAt k n (lines_in t)
-    open_at f = subst (λ (y : Verdict). Findings y t) e f
-
-    pub opened : Left (repeats (book_of t) (Open n)) t (change (Open n) (book_of t)) t' → Carried v t t'
-    opened h = subst⁻¹ (λ (y : Verdict). Carried y t t') e h
-
 -- ---- the book's step
 
 module _ (c : Command) (t w t' : List ℕ) where
@@ -153,8 +139,6 @@ module _ (c : Command) (t w t' : List ℕ) where
   written_kept Print h = h
   written_kept (Begin p) h = h
   written_kept (Corner p) h = h
-  written_kept (Close n) h = h
-  written_kept (Open n) h = h
 
   written_step : (d : Command) → written_out c ≡ d → done ≡ answer (book_of t) c → Step t d done t' → Step t c (answer (book_of t) c) t'
   written_step d e a s = subst (λ (y : Reply). Step t c y t') a (written_kept c (subst⁻¹ (λ (x : Command). Step t x done t') e s))
@@ -183,5 +167,3 @@ module _ (c : Command) (t w t' : List ℕ) where
   carried_step (Verdict.Stand l) d h = accepted_step (Stand l) d.command d.judged.said (h, tt)
   carried_step (Verdict.Begin p) d h = accepted_step (Begin p) d.command d.judged.said h
   carried_step (Verdict.Follow l j n k) d h = listed_step l.e d.command (entries_from l t w j k) d.judged.said h
-  carried_step (Verdict.Close k n) d h = accepted_step (Close n) d.command d.judged.said (h, tt)
-  carried_step (Verdict.Open k n) d h = accepted_step (Open n) d.command d.judged.said (h, tt)

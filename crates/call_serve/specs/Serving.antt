@@ -5,7 +5,7 @@ use Rattle.limits.specs.Limits.{max_sites}
 use Rattle.words.specs.Words.{Only}
 use Rattle.records.specs.Bytes.{write}
 use Rattle.readings.specs.declared.Location.TheVariants.{InSteps}
-use Rattle.book.specs.declared.Command.TheVariants.{Add, Remove, Move, Stand, Begin, Corner, Close, Open}
+use Rattle.book.specs.declared.Command.TheVariants.{Add, Remove, Move, Stand, Begin, Corner}
 use Rattle.book.specs.declared.BatchResult.{BatchResult}
 use Rattle.book.specs.Numbers.{reason_number}
 use Rattle.book.specs.Book.{change}
@@ -13,7 +13,7 @@ use Rattle.book.specs.Reply.{record_of, record_size}
 use Rattle.book.specs.Run.{Outcome, records, run}
 use Rattle.table_header.specs.Layout.{tour_start, tour_end}
 use Rattle.table_rules.specs.Table.{book_of}
-use Rattle.demands.specs.Step.{Holds, repeats, Left, Chain}
+use Rattle.demands.specs.Step.{Holds, Chain}
 use Rattle.demands.specs.Batch.{returns, return_of}
 use Rattle.call_judge.specs.declared.Answer.{Answer}
 use Rattle.call_judge.specs.declared.Verdict.{Verdict}
@@ -40,8 +40,6 @@ Carried (Verdict.Place k p) t t' = Holds t' (change (Move p.number (InSteps p.po
 Carried (Verdict.Stand l) t t' = Holds t' (change (Stand l) (book_of t))
 Carried (Verdict.Begin p) t t' = Holds t' (change (Begin p) (book_of t)) × Only tour_start tour_end t t'
 Carried (Verdict.Follow l j n k) t t' = Holds t' (change (Corner l.e) (book_of t)) × Only tour_start tour_end t t'
-Carried (Verdict.Close k n) t t' = Left (repeats (book_of t) (Close n)) t (change (Close n) (book_of t)) t'
-Carried (Verdict.Open k n) t t' = Left (repeats (book_of t) (Open n)) t (change (Open n) (book_of t)) t'
 
 -- a verdict carried out: the table, and the record at byte `at` of the report
 pub record Obeyed (v : Verdict) (t w t' rep : List ℕ) (at : ℕ) (rep' : List ℕ) : Type 0 where

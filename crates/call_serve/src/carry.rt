@@ -21,7 +21,5 @@ pub fn carry(t: &mut [u8], work: &mut [u8], v: Verdict)
         Verdict::Stand(leg) => table_change::stand(t, work, leg),
         Verdict::Begin(p) => table_change::begin(t, p),
         Verdict::Follow(leg, _, n, _) => table_change::follow(t, leg, n),
-        Verdict::Close(k, n) => table_change::close(t, work, k as usize, n),
-        Verdict::Open(k, n) => table_change::open(t, work, k as usize, n),
     }
 }

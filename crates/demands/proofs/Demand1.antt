@@ -92,8 +92,8 @@ module _ (t t' : List ℕ) (c : Call) (s : Sound t) (v : Served (run_of t c) t c
         recorded = rw (written_is, v.report) (take-append_seam (records (run_of t c).turns) _);
         holds = rw e.book (chain_holds t s (run_of t c).turns t' v.table);
         cleared = v.work;
-        kept = λ n. chain_kept t s (run_of t c).turns t' n v.table;
-        tour_alone = λ n. chain_toured t s (run_of t c).turns t' n v.table;
+        kept = λ n. chain_kept t (run_of t c).turns t' n v.table;
+        tour_alone = λ n. chain_toured t (run_of t c).turns t' n v.table;
       }
 
 -- ---- any call

@@ -1,6 +1,6 @@
 -- DEMAND 3, proved over the records of the calls' contracts alone.
 -- Assumes nothing.
-use mathlib.Core.Path.{◌≡◌, refl, sym, ap, ◌∙◌, subst, subst⁻¹}
+use mathlib.Core.Path.{◌≡◌, refl, sym, ap, ◌∙◌, subst}
 use mathlib.Core.Logic.{◌≢◌, ◌⊎◌, inl, inr, ⊎_map}
 use mathlib.Core.Option.{Option, none, some}
 use mathlib.Core.List.Memᴰ
@@ -23,26 +23,24 @@ use Rattle.records.specs.ListRecord.{record_bytes}
 use Rattle.records.specs.Decode.{Listed, listed_of}
 use Rattle.readings.specs.declared.Location.TheVariants.{InSteps}
 use Rattle.book.specs.declared.Command.{Command}
-use Rattle.book.specs.declared.Command.TheVariants.{Add, Remove, List as ListOf, Print, Close, Open}
+use Rattle.book.specs.declared.Command.TheVariants.{Add, Remove, List as ListOf, Print}
 use Rattle.book.specs.declared.Cause.TheVariants.{NoSite, NoLeg}
 use Rattle.book.specs.declared.Reason.{Reason}
 use Rattle.book.specs.declared.Reason.TheVariants.{WrongLength, Broken, BrokenStanding}
 use Rattle.book.specs.Numbers.{reason_number}
-use Rattle.book.specs.Book.{Book, empty_book, open_in, sites_of, change, strike_line, holds, is_closed, list_of, standing_list}
-use Rattle.book.specs.Encode.{command_bytes}
-use Rattle.book.specs.Filling.{Fill, fill_bytes, Refills}
-use Rattle.book.specs.Proper.{Rising, Proper, NumberOk, LegOk}
+use Rattle.book.specs.Book.{Book, empty_book, sites_of, change, write_line, strike_line, list_of, standing_list}
+use Rattle.book.specs.Encode.{command_bytes, additions}
+use Rattle.permutation.specs.Perm.{Perm}
+use Rattle.book.specs.Proper.{Proper, NumberOk, LegOk}
 use Rattle.book.specs.Reply.{Reply, done, refused, listed, record_of}
 use Rattle.book.specs.Answer.{answer, after}
 use Rattle.book.specs.Run.{Outcome, ends, run}
-use Rattle.book.proofs.Lines.{HeldLine, holds_member, strike_sites, strike_none}
-use Rattle.book.proofs.Marks.{open_rising}
-use Rattle.book.proofs.Struck.{added_sites, removed_sites, closed_sites, opened_sites, close_leg, open_leg}
-use Rattle.book.proofs.Answers.{answer-print-legless, answer-print-empty, answer-print-done, add-accepted, open_stays}
+use Rattle.book.proofs.Lines.{HeldLine, holds_member, write_sites, strike_sites}
+use Rattle.book.proofs.Answers.{answer-print-legless, answer-print-empty, answer-print-done, remove-accepted}
 use Rattle.book.proofs.ProperBooks.{proper_numbered}
 use Rattle.book.proofs.Runs.{call_right, run_not_broken, run_not_standing}
 use Rattle.book.proofs.ReadBack.{Encodable}
-use Rattle.book.proofs.Refill.{refill, all_fills, Roomy, after_calls}
+use Rattle.book.proofs.Refill.{refill, all_sites, Roomy, after_calls}
 use Rattle.book.proofs.Refill as refills
 use Rattle.table_rules.proofs.Books.{sound_proper}
 use Rattle.demands.specs.Step.{Holds, keeps}
@@ -98,23 +96,10 @@ never_standing = unsaid BrokenStanding run_not_standing (λ e. let z : 64 ≡ 69
 -- ---- the list of a leg, and the standing list
 
 -- a 4C keeps the table, whatever it is answered
-list_keeps : (b : Book) (l : Leg) (y : Reply) → keeps b (ListOf l) y ≡ true
-list_keeps b l done = refl
-list_keeps b l (refused x) = refl
-list_keeps b l (listed es) = refl
-
--- what a list names where the site of number n is gone
-gone_names : (s : List Site) → Rising s → Numbered s → (n : ℕ) (t : Fraction) → IsFraction t → (o : Option Leg)
-    → (number_at t (map listed_of (list_of o (strike_line n s))) ≡ number_at t (map listed_of (list_of o s))) ⊎ (number_at t (map listed_of (list_of o s)) ≡ some n)
-gone_names s r num n t f o = go (holds n s) refl
-  where
-    go : (c : Bool) → holds n s ≡ c
-        → (number_at t (map listed_of (list_of o (strike_line n s))) ≡ number_at t (map listed_of (list_of o s))) ⊎ (number_at t (map listed_of (list_of o s)) ≡ some n)
-    go true h =
-        let l : HeldLine n s = holds_member n s h in
-        let w = strike_sites n s l.line r l.held l.named in
-        ⊎_map sym (λ e. e ∙ ap some l.named) (numbers_more (strike_line n s) s l.line num (record { to = w.back; back = w.to }) t f o)
-    go false h = inl (ap (λ (x : List Site). number_at t (map listed_of (list_of o x))) (strike_none n s h))
+list_keeps : (l : Leg) (y : Reply) → keeps (ListOf l) y ≡ true
+list_keeps l done = refl
+list_keeps l (refused x) = refl
+list_keeps l (listed es) = refl
 
 -- on a table of a book that keeps the rules
 module _ (b : Book) (t' : List ℕ) (h : Holds t' b) (ok : Proper b) where
@@ -129,7 +114,7 @@ module _ (b : Book) (t' : List ℕ) (h : Holds t' b) (ok : Proper b) where
       let e = list_answer b l on held in
       let fits : HasRoom c (record_of (answer b (ListOf l))) = subst (λ (y : Reply). HasRoom c (record_of y)) (sym e) room in (
         subst (λ (y : Reply). WroteReport c (record_of y)) e (wrote_one t' b h (ListOf l) (list_encodable l on) c t'' a fits),
-        kept_one t' b h (ListOf l) (list_encodable l on) c t'' a fits (list_keeps b l (answer b (ListOf l))),
+        kept_one t' b h (ListOf l) (list_encodable l on) c t'' a fits (list_keeps l (answer b (ListOf l))),
       )
 
   standing_is : (k : Leg) → b.leg ≡ some k → sites_of b ≢ []
@@ -164,8 +149,8 @@ module _ (b : Book) (t' : List ℕ) (h : Holds t' b) (ok : Proper b) where
     holds_then : Holds g.table (change k b)
     holds_then = subst (λ (y : Reply). Holds g.table (after b k y)) accepted.0 (holds_one t' b h k enc g.call g.table asks_here accepted.1)
 
-    proper_then : Proper (change k b)
-    proper_then = subst Proper holds_then.book (sound_proper g.table holds_then.sound)
+    numbered_then : Numbered (change k b).lines
+    numbered_then = proper_numbered (change k b) (subst Proper holds_then.book (sound_proper g.table holds_then.sound))
 
     old_is : old ≡ map listed_of (standing_list b)
     old_is = prints_list t' b h old g.before
@@ -173,107 +158,65 @@ module _ (b : Book) (t' : List ℕ) (h : Holds t' b) (ok : Proper b) where
     new_is : new ≡ map listed_of (standing_list (change k b))
     new_is = prints_list g.table (change k b) holds_then new g.behind
 
-    -- where k leaves the leg
-    module _ (leg : (change k b).leg ≡ b.leg) (n : ℕ) (t : Fraction) (f : IsFraction t) where
-      new_list : new ≡ map listed_of (list_of b.leg (sites_of (change k b)))
-      new_list = new_is ∙ ap (λ (o : Option Leg). map listed_of (list_of o (sites_of (change k b)))) leg
-
-      -- the site of number n is gone from the open ones
-      less_is : sites_of (change k b) ≡ strike_line n (sites_of b) → (number_at t new ≡ number_at t old) ⊎ (number_at t old ≡ some n)
-      less_is e =
-          subst⁻¹ (λ (x : List Listed). (number_at t x ≡ number_at t old) ⊎ (number_at t old ≡ some n)) (new_list ∙ ap (λ (s : List Site). map listed_of (list_of b.leg s)) e)
-          (subst⁻¹ (λ (x : List Listed). (number_at t (map listed_of (list_of b.leg (strike_line n (sites_of b)))) ≡ number_at t x) ⊎ (number_at t x ≡ some n)) old_is
-          (gone_names (sites_of b) (open_rising b.closed b.lines ok.rising) (proper_numbered b ok) n t f b.leg))
-
-      -- or has come among them
-      more_is : strike_line n (sites_of (change k b)) ≡ sites_of b → (number_at t new ≡ number_at t old) ⊎ (number_at t new ≡ some n)
-      more_is e =
-          subst⁻¹ (λ (x : List Listed). (number_at t x ≡ number_at t old) ⊎ (number_at t x ≡ some n)) new_list
-          (subst⁻¹ (λ (x : List Listed). (number_at t news ≡ number_at t x) ⊎ (number_at t news ≡ some n)) (old_is ∙ ap (λ (s : List Site). map listed_of (list_of b.leg s)) (sym e))
-          (⊎_map sym (λ q. q)
-          (gone_names (sites_of (change k b)) (open_rising (change k b).closed (change k b).lines proper_then.rising) (proper_numbered (change k b) proper_then) n t f b.leg)))
-        where
-          news : List Listed
-          news = map listed_of (list_of b.leg (sites_of (change k b)))
-
   added_is : (p : Site) → NumberOk p → OnGrid p.position → (old new : List Listed) → Changed t' (Add p.number (InSteps p.position)) old new
       → (t : Fraction) → IsFraction t → (number_at t new ≡ number_at t old) ⊎ (number_at t new ≡ some p.number)
   unfolding change
   added_is p np on old new g t f =
       let k = Add p.number (InSteps p.position) in
       let enc : Encodable (Add p.number (InSteps p.position)) = (omega (arith, np.most), small p.position on) in
-      more_is k enc old new g refl p.number t f
-      (added_sites b p.number (InSteps p.position) (add-accepted b p.number (InSteps p.position) (accepted k enc old new g).0))
+      rw (old_is k enc old new g, new_is k enc old new g)
+      (numbers_more b.lines (write_line p b.lines) p (numbered_then k enc old new g) (write_sites p b.lines) t f b.leg)
 
   removed_is : (n : ℕ) → n ≤ max_number → (old new : List Listed) → Changed t' (Remove n) old new
       → (t : Fraction) → IsFraction t → (number_at t new ≡ number_at t old) ⊎ (number_at t old ≡ some n)
   unfolding change
   removed_is n most old new g t f =
       let enc : Encodable (Remove n) = omega arith in
-      less_is (Remove n) enc old new g refl n t f (removed_sites b n)
-
-  -- ---- one change of mark
-
-  closed_is : (n : ℕ) → n ≤ max_number → (old new : List Listed) → Changed t' (Close n) old new
-      → (t : Fraction) → IsFraction t → (number_at t new ≡ number_at t old) ⊎ (number_at t old ≡ some n)
-  closed_is n most old new g t f =
-      let enc : Encodable (Close n) = omega arith in
-      less_is (Close n) enc old new g (close_leg b n) n t f (closed_sites b n)
-
-  opened_is : (n : ℕ) → n ≤ max_number → (old new : List Listed) → Changed t' (Open n) old new
-      → (t : Fraction) → IsFraction t → (number_at t new ≡ number_at t old) ⊎ (number_at t new ≡ some n)
-  opened_is n most old new g t f = go (is_closed n b.closed) refl
-    where
-      enc : Encodable (Open n)
-      enc = omega (arith, most)
-
-      go : (c : Bool) → is_closed n b.closed ≡ c → (number_at t new ≡ number_at t old) ⊎ (number_at t new ≡ some n)
-      go true e = more_is (Open n) enc old new g (open_leg b n) n t f (opened_sites b n e)
-      go false e =
-          inl
-          (ap (number_at t) (new_is (Open n) enc old new g)
-          ∙ ap (λ (x : Book). number_at t (map listed_of (standing_list x))) (open_stays b n e)
-          ∙ sym (ap (number_at t) (old_is (Open n) enc old new g)))
+      let l : HeldLine n b.lines = holds_member n b.lines (remove-accepted b n (accepted (Remove n) enc old new g).0).held in
+      let s = strike_sites n b.lines l.line ok.rising l.held l.named in
+      rw (old_is (Remove n) enc old new g, new_is (Remove n) enc old new g)
+      (⊎_map sym (λ e. e ∙ ap some l.named)
+      (numbers_more (strike_line n b.lines) b.lines l.line (proper_numbered b ok) (record { to = s.back; back = s.to }) t f b.leg))
 
 -- ---- the fresh table
 
--- the asks of a fresh table, as calls
-record Refilled (asks : List Ask) (order : List Fill) : Type 0 where
+-- the asks of a fresh table, as calls of additions
+record Refilled (asks : List Ask) (order : List Site) : Type 0 where
   batches : List refills.Batch
-  fills : all_fills batches ≡ order
+  sites : all_sites batches ≡ order
   roomy : Roomy batches
   same : (b : Book) → book_after b asks ≡ after_calls b batches
 
-refilled : (asks : List Ask) (order : List Fill) → Filled asks order → Refilled asks order
+refilled : (asks : List Ask) (order : List Site) → Filled asks order → Refilled asks order
 unfolding book_after
-refilled asks order no-ask = record { batches = []; fills = refl; roomy = tt; same = λ b. refl }
+refilled asks order no-ask = record { batches = []; sites = refl; roomy = tt; same = λ b. refl }
 refilled (a ∷ asks) order (more-asks {more = more} s w e room f) =
     let r = refilled asks more f in
     record {
-      batches = record { fills = s; room = a.room } ∷ r.batches;
-      fills = ap (λ (x : List Fill). s ++ x) r.fills;
+      batches = record { sites = s; room = a.room } ∷ r.batches;
+      sites = ap (λ (x : List Site). s ++ x) r.sites;
       roomy = (room, r.roomy);
       same = λ b.
           ap (λ (o : Outcome). book_after o.book asks) (call_right a.work a.commands a.room b w ∙ ap (λ (x : List ℕ). run x a.room b) e)
-          ∙ r.same (run (fill_bytes s) a.room b).book;
+          ∙ r.same (run (additions s) a.room b).book;
     }
 
-pub filled_is : (b : Book) → Proper b → (fs : List Call) → FreshOf b fs → ((book_of_run fs).lines ≡ b.lines) × ((book_of_run fs).closed ≡ b.closed)
+pub filled_is : (b : Book) → Proper b → (fs : List Call) → FreshOf b fs → (book_of_run fs).lines ≡ b.lines
 filled_is b ok fs f =
     let x = refilled (map asked fs) f.order f.filled in
-    let e = x.same empty_book ∙ (refill b ok x.batches (subst (λ (s : List Fill). Refills b s) (sym x.fills) f.refills) x.roomy).1 in
-    (ap (λ (z : Book). z.lines) e, ap (λ (z : Book). z.closed) e)
+    ap (λ (z : Book). z.lines)
+    (x.same empty_book ∙ (refill b ok x.batches (subst (λ (s : List Site). Perm s b.lines) (sym x.sites) f.perm) x.roomy).1)
 
--- a list depends on the lines and marks alone
-by_lines : (l : Leg) (b d : Book) → b.lines ≡ d.lines → b.closed ≡ d.closed → answer b (ListOf l) ≡ answer d (ListOf l)
+-- a list depends on the lines alone
+by_lines : (l : Leg) (b d : Book) → b.lines ≡ d.lines → answer b (ListOf l) ≡ answer d (ListOf l)
 unfolding answer
-by_lines l b d e f = λ i. answer (record { lines = e i; closed = f i; leg = none; tour = none }) (ListOf l)
+by_lines l b d e = ap (λ (s : List Site). answer (record { lines = s; leg = none; tour = none }) (ListOf l)) e
 
 fresh_is : (b : Book) (t' : List ℕ) → Holds t' b → Proper b → (fs : List Call) (u' : List ℕ) → Ran fs u' → FreshOf b fs → (l : Leg) → LegOnGrid l
     → (c d : Call) (t'' u'' : List ℕ) → Asks t' (list4_c l) c t'' → Asks u' (list4_c l) d u''
     → HasRoom c (list_record b l) → HasRoom d (list_record b l) → said c ≡ said d
 fresh_is b t' h ok fs u' q f l on c d t'' u'' ac ad rc rd =
-    let e : answer (book_of_run fs) (ListOf l) ≡ answer b (ListOf l) = (let q = filled_is b ok fs f in by_lines l (book_of_run fs) b q.0 q.1) in
+    let e : answer (book_of_run fs) (ListOf l) ≡ answer b (ListOf l) = by_lines l (book_of_run fs) b (filled_is b ok fs f) in
     let wc : WroteReport c (list_record b l) = wrote_one t' b h (ListOf l) (list_encodable l on) c t'' ac rc in
     let rd' : HasRoom d (list_record (book_of_run fs) l) = subst (λ (y : Reply). HasRoom d (record_of y)) (sym e) rd in
     let wd : WroteReport d (list_record b l) = subst (λ (y : Reply). WroteReport d (record_of y)) e (wrote_one u' (book_of_run fs) (ran_holds fs u' q) (ListOf l) (list_encodable l on) d u'' ad rd') in
@@ -305,6 +248,4 @@ demand3 cs t' r =
       unset = unset_is b t' h ok;
       added = added_is b t' h ok;
       removed = removed_is b t' h ok;
-      closed = closed_is b t' h ok;
-      opened = opened_is b t' h ok;
     }

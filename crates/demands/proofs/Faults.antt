@@ -20,19 +20,14 @@ use Rattle.split.specs.SplitList.{Entry, Numbered}
 use Rattle.split.specs.SplitOf.{split_of}
 use Rattle.split.proofs.Exists.{split_is}
 use Rattle.records.specs.ListRecord.{record_bytes}
-use Rattle.book.specs.Book.{Book, open_in, sites_of, holds, list_of, standing_list}
+use Rattle.book.specs.Book.{Book, sites_of, holds, list_of, standing_list}
 use Rattle.book.specs.Proper.{LegOk}
 use Rattle.book.proofs.Lines.{member_holds}
 use Rattle.book.proofs.Lists.{listed_held}
 use Rattle.table_header.specs.Layout.{flag_start, leg_start, length_start}
 use Rattle.table_header.specs.Header.{position_words, leg_words, leg_in, length_in, tour_in, ZeroFrom}
 use Rattle.table_header.proofs.Legs.{unset_is}
-use Rattle.table_sites.specs.Lines.{lines_in, closed_in, MarkBits}
-use Rattle.tree_node.specs.declared.NodeEntry.{NodeEntry}
-use Rattle.tree_node.specs.Tally.{total}
-use Rattle.tree_rules.specs.Rooted.{leaves_in}
-use Rattle.tree_check.specs.Leaves.{opens_of, leaf_entries}
-use Rattle.tree_check.specs.Opens.{opens_in}
+use Rattle.table_sites.specs.Lines.{lines_in}
 use Rattle.table_standing.specs.Layout.{list_start}
 use Rattle.table_standing.specs.Standing.{standing_in, stored_number, numbers_of}
 use Rattle.table_standing.proofs.Numbers.{numbers_length, standing_length, standing_number}
@@ -40,17 +35,15 @@ use Rattle.table_empty.specs.EmptyTable.{zeros, empty_table}
 use Rattle.table_rules.specs.Table.{book_of, Whole, StandingOk, Sound}
 use Rattle.table_rules.specs.Fault.{StandingFault}
 use Rattle.table_rules.proofs.Same.{leg_same}
-use Rattle.table_rules.proofs.Books.{open_sites, standing_few, sound_few, lines_alone, whole_proper}
-use Rattle.table_rules.proofs.Carried.{whole_counted, root_counted}
-use Rattle.table_rules.proofs.Fault.{fault_lines, fault_closed, fault_tour, fault_whole}
+use Rattle.table_rules.proofs.Books.{whole_numbered, standing_few, sound_few, lines_alone, whole_proper}
+use Rattle.table_rules.proofs.Fault.{fault_lines, fault_tour, fault_whole}
 use Rattle.table_rules.proofs.Laid.{laid_sound, laid_book}
 use Rattle.demands.specs.Step.{Holds}
 use Rattle.demands.specs.Batch.{returns, lengths_ok}
 use Rattle.demands.specs.Whole.{Call, MadeOn, Ran, said, book_of_run, Asks, HasRoom, WroteReport}
 use Rattle.demands.specs.Demands.{RefusedWith, FreshOf, list4_c}
-use Rattle.demands.specs.Faults.{BreaksWhole, BreaksStanding, OtherLayout, AllRefused, OneWord, SitesRead, FaultTold}
+use Rattle.demands.specs.Faults.{BreaksWhole, BreaksStanding, AllRefused, OneWord, SitesRead, FaultTold}
 use Rattle.demands.specs.Faults.BreaksWhole.{sites, other_layout, other_flag, not_zero, tour, tree}
-use Rattle.demands.specs.Faults.BreaksWhole.{mark, leaf_number, entry_number, root_number}
 use Rattle.demands.specs.Faults.BreaksStanding.{off_grid_lem, legless, siteless, too_long, not_held, other_list}
 use Rattle.demands.proofs.Demand1.{demand1}
 use Rattle.demands.proofs.Demand3.{filled_is, demand3}
@@ -68,61 +61,19 @@ no_flag t e = go (eqb (word_at t flag_start) 0) refl e
 
 -- ---- 65
 
--- an entry counts as one where its number is not that of its site's mark
-wrongly : List ℕ → NodeEntry → ℕ
-wrongly c e = cond (eqb e.opens (opens_of c e.reference)) 0 1
-
--- no leaf entry of lines does
-lines_rightly : (c : List ℕ) (s : List Site) → total (wrongly c) (leaf_entries c s) ≡ 0
-unfolding leaf_entries total wrongly
-lines_rightly c [] = refl
-lines_rightly c (p ∷ s) =
-    let e : eqb (opens_of c p.number) (opens_of c p.number) ≡ true = eq-eqb (opens_of c p.number) (opens_of c p.number) refl in
-    rw e (omega (arith, lines_rightly c s))
-
--- what is in a list counts in its total
-total_member : (w : NodeEntry → ℕ) (l : List NodeEntry) (e : NodeEntry) → Memᴰ e l → w e ≤ total w l
-unfolding total
-total_member w l e (Memᴰ.head {x} {xs} z) = omega (arith, ap w z)
-total_member w l e (Memᴰ.tail {x} {xs} m) = omega (arith, total_member w xs e m)
-
--- one that does not count has its site's number
-rightly : (c : List ℕ) (e : NodeEntry) → wrongly c e ≡ 0 → e.opens ≡ opens_of c e.reference
-unfolding wrongly
-rightly c e z = go (eqb e.opens (opens_of c e.reference)) refl z
-  where
-    go : (q : Bool) → eqb e.opens (opens_of c e.reference) ≡ q → ◌≡◌ {A = ℕ} (cond q 0 1) 0 → e.opens ≡ opens_of c e.reference
-    go true f z = eqb-true e.opens (opens_of c e.reference) f
-    go false f z = absurd (omega (arith, z))
-
--- each leaf entry of a table that keeps the first half has 1 for an open site, 0 for a closed one
-leaf_rightly : (t : List ℕ) → Whole t → (e : NodeEntry) → Memᴰ e (leaves_in t) → e.opens ≡ opens_of (closed_in t) e.reference
-leaf_rightly t w e m =
-    rightly (closed_in t) e
-    (omega
-    (arith, total_member (wrongly (closed_in t)) (leaves_in t) e m, w.tree.leaf (wrongly (closed_in t)), lines_rightly (closed_in t) (lines_in t)))
-
 -- WHERE THE FIRST HALF IS KEPT none of these is so
 unbroken : (t : List ℕ) → BreaksWhole t → ¬ Whole t
-unfolding ZeroFrom MarkBits opens_in
+unfolding ZeroFrom
 unbroken t (sites n) w = n w.sites
 unbroken t (other_layout n) w = n w.header.layout
 unbroken t (other_flag l) w = omega (arith, l, w.header.leg.flag)
 unbroken t (not_zero e i l u n) w = n (w.header.leg.unset (no_flag t e) i l u)
 unbroken t (tour b) w = tour_unbroken t b w
 unbroken t (tree n) w = n w.tree
-unbroken t (mark k h l) w = omega (arith, l, w.sites.bits k h)
-unbroken t (leaf_number e m n) w = n (leaf_rightly t w e m)
-unbroken t (entry_number n) w = n (whole_counted t w)
-unbroken t (root_number n) w = n (root_counted t w)
 
 -- 65, whatever the standing leg and list are
 pub whole_65 : (t : List ℕ) (c : Call) (t' : List ℕ) → MadeOn t c t' → lengths_ok t c.work ≡ true → BreaksWhole t → RefusedWith 65 t c t'
 whole_65 t c t' made ok b = (demand1 t c t' made).broken ok (unbroken t b)
-
--- A TABLE OF ANOTHER LAYOUT, whatever else stands in it
-pub other_layout_65 : (t : List ℕ) → OtherLayout t → AllRefused 65 t
-other_layout_65 t n c t' made ok = whole_65 t c t' made ok (other_layout n)
 
 -- ---- 69
 
@@ -152,7 +103,7 @@ unbroken_standing t w (not_held i h e) s =
     let x : get_or (numbers_of (standing_list (book_of t))) i 0 ≡ stored_number t i = sym (ap (λ (y : List ℕ). get_or y i 0) s.list) ∙ standing_number t i h in
     true≢false
     (sym (subst (λ (y : ℕ). holds y (sites_of (book_of t)) ≡ true) x
-    (named_held (leg_in t) (sites_of (book_of t)) (open_sites t w) i (omega (arith, h, standing_length t, ap length s.list))))
+    (named_held (leg_in t) (lines_in t) (whole_numbered t w) i (omega (arith, h, standing_length t, ap length s.list))))
     ∙ e)
 unbroken_standing t w (other_list n) s = n s.list
 
@@ -199,7 +150,7 @@ module _ (t : List ℕ) (s : Sound t) where
 
   -- the same leg and sites have the same list
   same_standing : (u : List ℕ) → StandingFault t u → leg_in u ≡ leg_in t → StandingOk u → standing_in u ≡ standing_in t
-  same_standing u f e x = x.list ∙ (λ i. numbers_of (list_of (e i) (open_in (fault_closed t u s.whole f i) (fault_lines t u s.whole f i)))) ∙ sym s.standing.list
+  same_standing u f e x = x.list ∙ (λ i. numbers_of (list_of (e i) (fault_lines t u s.whole f i))) ∙ sym s.standing.list
 
   length_word_is : (n : ℕ) → n ≢ length_in t → AllRefused 69 (put_word t length_start n)
   length_word_is n d = all_69 u (fault_whole t u s.whole f) wrong
@@ -315,15 +266,8 @@ module _ (t : List ℕ) (s : Sound t) where
 -- ---- the sites can still be read
 
 module _ (t : List ℕ) (w : Whole t) where
-  mended_is : (fs : List Call) (v : List ℕ) → Ran fs v → FreshOf (book_of t) fs
-      → ((book_of_run fs).lines ≡ (book_of t).lines) × ((book_of_run fs).closed ≡ (book_of t).closed)
-  mended_is fs v r f =
-      filled_is (lines_alone t) (whole_proper t w) fs
-      (record {
-        order = f.order;
-        filled = f.filled;
-        refills = record { lines = f.refills.lines; closed = f.refills.closed; behind = f.refills.behind };
-      })
+  mended_is : (fs : List Call) (v : List ℕ) → Ran fs v → FreshOf (book_of t) fs → (book_of_run fs).lines ≡ sites_of (book_of t)
+  mended_is fs v r f = filled_is (lines_alone t) (whole_proper t w) fs (record { order = f.order; filled = f.filled; perm = f.perm })
 
   lists_is : (fs : List Call) (v : List ℕ) → Ran fs v → FreshOf (book_of t) fs
       → (l : Leg) → LegOnGrid l → sites_of (book_of t) ≢ []
@@ -331,7 +275,7 @@ module _ (t : List ℕ) (w : Whole t) where
       → WroteReport c (record_bytes (split_of l (sites_of (book_of t)))) × (v' ≡ v)
   lists_is fs v r f l on held c v' a room =
       subst (λ (s : List Site). s ≢ [] → HasRoom c (record_bytes (split_of l s)) → WroteReport c (record_bytes (split_of l s)) × (v' ≡ v))
-      (let q = mended_is fs v r f in λ i. open_in (q.1 i) (q.0 i)) (λ h m. (demand3 fs v r).lists l on h c v' a m) held room
+      (mended_is fs v r f) (λ h m. (demand3 fs v r).lists l on h c v' a m) held room
 
   sites_read : SitesRead t
   sites_read = record { mended = mended_is; lists = lists_is }
@@ -354,10 +298,7 @@ fault_told cs t u r f =
     let h = ran_holds cs t r in
     let w = fault_whole t u h.sound.whole f in
     record {
-      sites = (
-        fault_lines t u h.sound.whole f ∙ ap (λ (b : Book). b.lines) h.book,
-        fault_closed t u h.sound.whole f ∙ ap (λ (b : Book). b.closed) h.book,
-      );
+      sites = fault_lines t u h.sound.whole f ∙ ap (λ (b : Book). sites_of b) h.book;
       tour = fault_tour t u h.sound.whole f ∙ ap (λ (b : Book). b.tour) h.book;
       read = sites_read u w;
       not65 = λ c u' m e. ((demand1 u c u' m).only65 e).1 w;
@@ -391,7 +332,7 @@ fault_mended cs t u r f fs v q fresh l on held c d t' v' ac ad rc rd =
     behind : WroteReport d bytes
     behind =
         subst (λ (s : List Site). s ≢ [] → HasRoom d (record_bytes (split_of l s)) → WroteReport d (record_bytes (split_of l s)))
-        (let q = told.sites in λ i. open_in (q.1 i) (q.0 i)) (λ h m. (told.read.lists fs v q fresh l on h d v' ad m).0) held rd
+        told.sites (λ h m. (told.read.lists fs v q fresh l on h d v' ad m).0) held rd
 
 -- AND THE CALLS BEFORE IT IS LAID OUT ANEW: each says 69 or is taken, and the tour is what it was
 pub fault_says : (cs : List Call) (t u : List ℕ) → Ran cs t → StandingFault t u → (c : Call) (u' : List ℕ) → MadeOn u c u' → length c.work ≡ work_bytes
@@ -460,7 +401,7 @@ module _ (c : Call) (u' : List ℕ) (e : length c.work ≡ work_bytes) where
     -- a coordinate of the standing leg off the grid: the sites are those of the calls still
     pub ran_leg : (l : Leg) → (book_of_run cs).leg ≡ some l → (k : ℕ) → k < 4 → MadeOn (put_word t (4 + 2 * k) 24001) c u'
         → Left 69 (put_word t (4 + 2 * k) 24001) c u' × (lines_in u' ≡ (book_of_run cs).lines)
-    ran_leg l leg k h m = (a, ap lines_in a.1 ∙ (fault_told cs t (put_word t (4 + 2 * k) 24001) r (leg_fault t k 24001 h set)).sites.0)
+    ran_leg l leg k h m = (a, ap lines_in a.1 ∙ (fault_told cs t (put_word t (4 + 2 * k) 24001) r (leg_fault t k 24001 h set)).sites)
       where
         some_none : (y : Leg) → some y ≡ none → ◌≡◌ {A = ℕ} 0 1
         some_none y q = cc

@@ -14,8 +14,7 @@ pub mod WorkBuffer
 pub mod Starred
 pub mod Edges
 pub mod TourLines
-pub mod MarkLines
-pub mod Again
+pub mod ByNumber
 pub mod TourRules
 pub mod Faults
 pub mod InSteps

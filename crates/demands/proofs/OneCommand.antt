@@ -1,6 +1,6 @@
 -- A call of one command with room for its record: it writes that record, and leaves the table as the command's step says.
 -- Assumes nothing.
-use mathlib.Core.Path.{◌≡◌, refl, sym, ap, ◌∙◌, subst, subst⁻¹}
+use mathlib.Core.Path.{◌≡◌, refl, sym, ap, ◌∙◌, subst}
 use mathlib.Core.List.{List, [], ◌∷◌}
 use mathlib.Core.Bool.{true}
 use Prim.Native.Nat.{ℕ, ◌≤◌}
@@ -69,8 +69,8 @@ module _ (t : List ℕ) (b : Book) (h : Holds t b) (c : Command) (ok : Encodable
       chain_one (subst (λ (o : Outcome). Chain t o.turns t') e v.table)
 
   -- a command that keeps the table leaves every byte
-  pub kept_one : keeps b c (answer b c) ≡ true → t' ≡ t
-  kept_one e = step_kept t c (answer b c) t' (subst⁻¹ (λ (x : Book). keeps x c (answer b c) ≡ true) h.book e) step_one
+  pub kept_one : keeps c (answer b c) ≡ true → t' ≡ t
+  kept_one e = step_kept t c (answer b c) t' e step_one
 
 -- ---- an accepted change, seen by its record
 

@@ -63,10 +63,10 @@ print_list b ok = by_leg b.leg refl
     by_leg (some l) e = by_sites l e (sites_of b) refl
 
 -- a 50 keeps the table, whatever it is answered
-print_keeps : (b : Book) (y : Reply) → keeps b Print y ≡ true
-print_keeps b done = refl
-print_keeps b (refused x) = refl
-print_keeps b (listed es) = refl
+print_keeps : (y : Reply) → keeps Print y ≡ true
+print_keeps done = refl
+print_keeps (refused x) = refl
+print_keeps (listed es) = refl
 
 module _ (t : List ℕ) (b : Book) (h : Holds t b) (es : List Listed) (p : Prints t es) where
   roomy : HasRoom p.call (record_of (answer b Print))
@@ -80,7 +80,7 @@ module _ (t : List ℕ) (b : Book) (h : Holds t b) (es : List Listed) (p : Print
 
   -- and it leaves the table
   pub prints_left : p.left ≡ t
-  prints_left = kept_one t b h Print tt p.call p.left p.asks roomy (print_keeps b (answer b Print))
+  prints_left = kept_one t b h Print tt p.call p.left p.asks roomy (print_keeps (answer b Print))
 
 -- ---- the numbers named
 

@@ -11,7 +11,7 @@ use Rattle.grid.specs.Fraction.{gcd_by, gcd_of, lowest}
 use Rattle.split.specs.SplitList.{rank}
 use Rattle.split.specs.SplitOf.{hides?, right_below?, under?, push, insert, build, split_of}
 use Rattle.records.specs.ListRecord.{entry_bytes, list_bytes, record_bytes}
-use Rattle.book.specs.Book.{write_line, strike_line, move_line, holds, change, open_in, is_closed, open_number}
+use Rattle.book.specs.Book.{write_line, strike_line, move_line, holds, change}
 use Rattle.book.specs.Command.{form_of, parse_at}
 use Rattle.book.specs.Answer.{answer}
 use Rattle.book.specs.Run.{records, turn, run_from}
@@ -21,17 +21,17 @@ use Rattle.demands.specs.Starred.{starred_lines, standing_lines, longest_lines, 
 
 -- THE STARRED LINES
 pub starred : given starred_lines ≡ written starred_lines
-unfolding records turn run_from parse_at form_of word_at from_word to_word answer holds change write_line open_in is_closed open_number strike_line move_line split_of build insert push hides? under? right_below? dec_le dec_lt distance squared_difference rank on_the_right? lowest gcd_of gcd_by entry_bytes list_bytes record_bytes
+unfolding records turn run_from parse_at form_of word_at from_word to_word answer holds change write_line strike_line move_line split_of build insert push hides? under? right_below? dec_le dec_lt distance squared_difference rank on_the_right? lowest gcd_of gcd_by entry_bytes list_bytes record_bytes
 starred = refl
 
 -- THE STANDING LINES
 pub standing : given standing_lines ≡ written standing_lines
-unfolding records turn run_from parse_at form_of word_at from_word to_word answer holds change write_line open_in is_closed open_number strike_line move_line split_of build insert push hides? under? right_below? dec_le dec_lt distance squared_difference rank on_the_right? lowest gcd_of gcd_by entry_bytes list_bytes record_bytes
+unfolding records turn run_from parse_at form_of word_at from_word to_word answer holds change write_line strike_line move_line split_of build insert push hides? under? right_below? dec_le dec_lt distance squared_difference rank on_the_right? lowest gcd_of gcd_by entry_bytes list_bytes record_bytes
 standing = refl
 
 -- THE LONGEST LEG: its record, and the list that is read from it
 pub longest : (given longest_lines ≡ written longest_lines) × (list_in longest_record ≡ longest_list)
-unfolding records turn run_from parse_at form_of word_at from_word to_word answer holds change write_line open_in is_closed open_number strike_line move_line split_of build insert push hides? under? right_below? dec_le dec_lt distance squared_difference rank on_the_right? lowest gcd_of gcd_by entry_bytes list_bytes record_bytes read_record read_list read2 read4
+unfolding records turn run_from parse_at form_of word_at from_word to_word answer holds change write_line strike_line move_line split_of build insert push hides? under? right_below? dec_le dec_lt distance squared_difference rank on_the_right? lowest gcd_of gcd_by entry_bytes list_bytes record_bytes read_record read_list read2 read4
 longest = (refl, refl)
 
 -- WHAT A PRINTED LIST NAMES, at its starts and ends

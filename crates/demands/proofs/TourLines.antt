@@ -17,7 +17,7 @@ use Rattle.split.specs.SplitOf.{hides?, right_below?, under?, push, insert, buil
 use Rattle.split.specs.Legs.{at}
 use Rattle.records.specs.ListRecord.{entry_bytes, list_bytes, record_bytes}
 use Rattle.records.specs.Decode.{Listed, listed_of, read2, read4, read_list, read_record}
-use Rattle.book.specs.Book.{empty_book, sites_of, write_line, strike_line, move_line, holds, change, open_in, is_closed, open_number}
+use Rattle.book.specs.Book.{empty_book, sites_of, write_line, strike_line, move_line, holds, change}
 use Rattle.book.specs.Command.{form_of, parse_at}
 use Rattle.book.specs.Answer.{answer}
 use Rattle.book.specs.Run.{records, turn, run_from}
@@ -32,12 +32,12 @@ use Rattle.demands.proofs.Demands.{demands}
 
 -- THE TOURS, in one call
 pub tour_lines_lem : given tour_lines ≡ written tour_lines
-unfolding records turn run_from parse_at form_of word_at from_word to_word answer holds change write_line open_in is_closed open_number strike_line move_line split_of build insert push hides? under? right_below? dec_le dec_lt distance squared_difference rank on_the_right? lowest gcd_of gcd_by entry_bytes list_bytes record_bytes
+unfolding records turn run_from parse_at form_of word_at from_word to_word answer holds change write_line strike_line move_line split_of build insert push hides? under? right_below? dec_le dec_lt distance squared_difference rank on_the_right? lowest gcd_of gcd_by entry_bytes list_bytes record_bytes
 tour_lines_lem = refl
 
 -- OVER FOUR CALLS: what the book says to them
 pub tour_says_lem : replies empty_book tour_asks ≡ tour_says
-unfolding replies_asking records turn run_from parse_at form_of word_at from_word to_word answer holds change write_line open_in is_closed open_number strike_line move_line split_of build insert push hides? under? right_below? dec_le dec_lt distance squared_difference rank on_the_right? lowest gcd_of gcd_by entry_bytes list_bytes record_bytes
+unfolding replies_asking records turn run_from parse_at form_of word_at from_word to_word answer holds change write_line strike_line move_line split_of build insert push hides? under? right_below? dec_le dec_lt distance squared_difference rank on_the_right? lowest gcd_of gcd_by entry_bytes list_bytes record_bytes
 tour_says_lem = refl
 
 -- and what is heard of them
@@ -77,7 +77,7 @@ module _ (cs : List Call) (told : ToursTold cs) (heard : heard_of_run cs ≡ tou
   leg_said past later p es e k s runs sites = said_out past p es k s runs sites (told past later p es (heard ∙ e))
 
   legs_said : LegsSaid
-  unfolding change write_line open_in is_closed open_number
+  unfolding change write_line
   legs_said =
       record {
         first = leg_said before_first _ (at 10 0) ten_listed refl (record { corner = at 0 0; entries = [] }) both_sites refl refl;

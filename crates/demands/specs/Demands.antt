@@ -20,16 +20,16 @@ use Rattle.records.specs.ListRecord.{record_bytes}
 use Rattle.records.specs.Decode.{Listed, listed_of, read_record}
 use Rattle.readings.specs.declared.Location.TheVariants.{InSteps}
 use Rattle.book.specs.declared.Command.{Command}
-use Rattle.book.specs.declared.Command.TheVariants.{Add, Remove, List as ListOf, Print, Corner, Close, Open}
+use Rattle.book.specs.declared.Command.TheVariants.{Add, Remove, List as ListOf, Print, Corner}
 use Rattle.book.specs.declared.Reason.{Reason}
 use Rattle.book.specs.Numbers.{reason_number}
 use Rattle.book.specs.Tour.{Tour, leg_to}
 use Rattle.book.specs.Book.{Book, empty_book, sites_of, standing_list}
 use Rattle.book.specs.Encode.{command_bytes}
-use Rattle.book.specs.Filling.{Fill, Refills}
+use Rattle.permutation.specs.Perm.{Perm}
 use Rattle.book.specs.Proper.{NumberOk}
 use Rattle.book.specs.Reply.{listed, record_of}
-use Rattle.book.specs.Answer.{answer, after, leg_asked, shown_by}
+use Rattle.book.specs.Answer.{answer, leg_asked, shown_by}
 use Rattle.book.specs.Run.{Turn, Outcome, records, run, after_all, StopsFor}
 use Rattle.book.specs.Listener.{Exchange, heard_leg, book_heard, tour_heard, LegTold}
 use Rattle.table_rules.specs.Table.{Whole, StandingOk, Sound, book_of}
@@ -46,18 +46,15 @@ use Rattle.demands.specs.Whole.{Filled, Asks, HasRoom, WroteReport}
 abbrev pub run_of : List ℕ → Call → Outcome
 run_of t c = run c.commands (length c.report) (book_of t)
 
--- none of these commands, of which the first meets the book b, changed anything: each was refused, or changes nothing
-abbrev pub AllKeep : Book → List Turn → Type 0
-AllKeep b [] = Unit {0}
-AllKeep b (u ∷ us) =
-    (keeps b u.command u.reply ≡ true) × AllKeep (after b u.command u.reply) us
+-- none of these commands was accepted as a change: each was refused, or changes nothing
+abbrev pub AllKeep : List Turn → Type 0
+AllKeep [] = Unit {0}
+AllKeep (u ∷ us) = (keeps u.command u.reply ≡ true) × AllKeep us
 
 -- none of them changed more than the tour: each was refused, changes nothing, or is a 42 or a 43
-abbrev pub AllTour : Book → List Turn → Type 0
-AllTour b [] = Unit {0}
-AllTour b (u ∷ us) =
-    ((keeps b u.command u.reply || tours u.command) ≡ true)
-    × AllTour (after b u.command u.reply) us
+abbrev pub AllTour : List Turn → Type 0
+AllTour [] = Unit {0}
+AllTour (u ∷ us) = ((keeps u.command u.reply || tours u.command) ≡ true) × AllTour us
 
 -- a call that takes commands ends with 0, 66, 67 or 68: with the number of this reason, under that reason's
 -- condition and no other (StopsFor)
@@ -84,11 +81,10 @@ pub record Kept (t : List ℕ) (c : Call) (t' : List ℕ) : Type 0 where
   pub recorded : (said c).bytes ≡ records (run_of t c).turns
   -- the table is a sound one of the book then
   pub holds : Holds t' (run_of t c).book
-  -- "Left as it was: table": a call without an accepted change leaves every byte of it, a 58 of a closed site and a 4F
-  -- of an open one included
-  pub kept : AllKeep (book_of t) (run_of t c).turns → t' ≡ t
+  -- "Left as it was: table": a call without an accepted change leaves every byte of it
+  pub kept : AllKeep (run_of t c).turns → t' ≡ t
   -- and one without another accepted change than 42 and 43 leaves every byte but those of the tour
-  pub tour_alone : AllTour (book_of t) (run_of t c).turns → Only tour_start tour_end t t'
+  pub tour_alone : AllTour (run_of t c).turns → Only tour_start tour_end t t'
 
 -- the call was refused with this number: "Left as it was: table, report", and the work buffer is all zero
 abbrev pub RefusedWith : ℕ → List ℕ → Call → List ℕ → Type 0
@@ -191,7 +187,7 @@ pub record Demand2 (t : List ℕ) (c : Call) : Type 0 where
   -- whatever is answered by a list, wherever in the batch: the list is right
   pub right : (past : List Turn) (u : Turn) → Answers t c past u → (es : List Entry) → u.reply ≡ listed es
       → ListedRight c (after_all (book_of t) past) past u.command es
-  -- a leg on the grid gets its list whenever a site is open and the report has room
+  -- a leg on the grid gets its list whenever a site is held and the report has room
   pub given : (l : Leg) (o : Outcome) → ComesTo t c (ListOf l) o → LegOnGrid l → sites_of o.book ≢ []
       → GivesList c (ListOf l) l o
   -- and so does the standing leg
@@ -215,11 +211,11 @@ print50 = command_bytes Print
 abbrev pub list_record : Book → Leg → List ℕ
 list_record b l = record_of (answer b (ListOf l))
 
--- what a fresh table is given: a 41 for each of the book's lines and a 58 for each closed one, in any order
+-- what the additions of a fresh table are: those of the book's lines, in any order
 pub record FreshOf (b : Book) (fs : List Call) : Type 0 where
-  pub order : List Fill
+  pub order : List Site
   pub filled : Filled (map asked fs) order
-  pub refills : Refills b order
+  pub perm : Perm order b.lines
 
 -- this list where the mark is that of a list, else none
 abbrev pub if_listed : Bool → List Listed → List Listed
@@ -274,20 +270,19 @@ pub record Demand3On (cs : List Call) (b : Book) (t' : List ℕ) : Type 0 where
   pub never65 : (c : Call) → Memᴰ c cs → c.result.reason ≢ 65
   -- document 02, C-17: "No table that came from laying out and batches is ever refused with 69 either."
   pub never69 : (c : Call) → Memᴰ c cs → c.result.reason ≢ 69
-  -- the list of a leg on the grid is answered whenever a site is open and the report has room; the table's bytes
+  -- the list of a leg on the grid is answered whenever a site is held and the report has room; the table's bytes
   -- are left
   pub lists : (l : Leg) → LegOnGrid l → sites_of b ≢ [] → (c : Call) (t'' : List ℕ) → Asks t' (list4_c l) c t''
       → HasRoom c (record_bytes (split_of l (sites_of b))) → WroteReport c (record_bytes (split_of l (sites_of b))) × (t'' ≡ t')
-  -- and it is the split list over the book's open sites
+  -- and it is the split list over the book's sites
   pub right : (l : Leg) → LegOnGrid l → RightList l (sites_of b) (split_of l (sites_of b))
-  -- the fresh table's commands are all accepted: its book has the same lines and marks
-  pub filled : (fs : List Call) (u' : List ℕ) → Ran fs u' → FreshOf b fs
-      → ((book_of_run fs).lines ≡ b.lines) × ((book_of_run fs).closed ≡ b.closed)
+  -- the fresh table's additions are all accepted: its book has the same lines
+  pub filled : (fs : List Call) (u' : List ℕ) → Ran fs u' → FreshOf b fs → (book_of_run fs).lines ≡ b.lines
   -- "A 4C with the same leg and room enough then writes the same record on both."
   pub fresh : (fs : List Call) (u' : List ℕ) → Ran fs u' → FreshOf b fs → (l : Leg) → LegOnGrid l
       → (c d : Call) (t'' u'' : List ℕ) → Asks t' (list4_c l) c t'' → Asks u' (list4_c l) d u''
       → HasRoom c (list_record b l) → HasRoom d (list_record b l) → said c ≡ said d
-  -- "The standing list is always the list of the standing leg": with a site open the 50 and the 4C of that leg
+  -- "The standing list is always the list of the standing leg": with a site held the 50 and the 4C of that leg
   -- write the same bytes
   pub standing : (k : Leg) → b.leg ≡ some k → sites_of b ≢ []
       → (c d : Call) (t'' u'' : List ℕ) → Asks t' print50 c t'' → Asks t' (list4_c k) d u''
@@ -307,12 +302,6 @@ pub record Demand3On (cs : List Call) (b : Book) (t' : List ℕ) : Type 0 where
   -- one accepted 44: at every fraction it names what it named before, or it named the site that is gone
   pub removed : (n : ℕ) → n ≤ max_number → (old new : List Listed) → Changed t' (Remove n) old new
       → (t : Fraction) → IsFraction t → (number_at t new ≡ number_at t old) ⊎ (number_at t old ≡ some n)
-  -- document 02, C-19: "closing changes the standing list as a removal does", one accepted 58
-  pub closed : (n : ℕ) → n ≤ max_number → (old new : List Listed) → Changed t' (Close n) old new
-      → (t : Fraction) → IsFraction t → (number_at t new ≡ number_at t old) ⊎ (number_at t old ≡ some n)
-  -- "opening as an addition", one accepted 4F
-  pub opened : (n : ℕ) → n ≤ max_number → (old new : List Listed) → Changed t' (Open n) old new
-      → (t : Fraction) → IsFraction t → (number_at t new ≡ number_at t old) ⊎ (number_at t new ≡ some n)
 
 -- DEMAND 3 of the calls cs, made on a table just laid out, which they leave as t'
 abbrev pub Demand3 : List Call → List ℕ → Type 0

@@ -2,30 +2,23 @@
 -- sound tree with a wrong standing list, or a standing leg off the grid, gets its own number". The flag of the standing
 -- leg and the zeros without one belong to the layout; the stored length of the list belongs to the list.
 -- Assumes nothing.
-use Rattle.std.specs.Prelude.{◌≡◌, ◌≢◌, true, false, cond, ℕ, ◌+◌, ◌*◌, ◌≤◌, ◌<◌, length, get_or}
+use Rattle.std.specs.Prelude.{◌≡◌, ◌≢◌, true, false, List, [], ℕ, ◌+◌, ◌*◌, ◌≤◌, ◌<◌, length, get_or}
 use Rattle.std.proofs.Math.Option.{none, some}
-use mathlib.Core.List.{List, [], Memᴰ}
 use Rattle.limits.specs.Limits.{grid_width, work_bytes}
 use Rattle.words.specs.Words.{word_at, put_word}
 use Rattle.grid.specs.declared.Leg.{Leg}
 use Rattle.grid.specs.Position.{LegOnGrid}
 use Rattle.split.specs.SplitOf.{split_of}
 use Rattle.records.specs.ListRecord.{record_bytes}
-use Rattle.book.specs.Book.{sites_of, holds, is_closed, standing_list}
+use Rattle.book.specs.Book.{sites_of, holds, standing_list}
 use Rattle.table_header.specs.Layout.{flag_start, leg_start, length_start, layout_start, layout_number}
-use Rattle.table_header.specs.Header.{count_in, leg_in, length_in}
-use Rattle.table_sites.specs.Lines.{closed_in}
+use Rattle.table_header.specs.Header.{leg_in, length_in}
 use Rattle.table_sites.specs.Rules.{SitesOk}
 use Rattle.table_standing.specs.Layout.{list_start}
 use Rattle.table_standing.specs.Standing.{standing_in, stored_number, numbers_of}
-use Rattle.tree_node.specs.declared.NodeEntry.{NodeEntry}
-use Rattle.tree_node.specs.Header.{root_in}
-use Rattle.tree_node.specs.Node.{entries}
-use Rattle.tree_rules.specs.Rooted.{leaves_in}
 use Rattle.tree_check.specs.Tied.{Tied}
 use Rattle.table_empty.specs.EmptyTable.{zeros}
 use Rattle.table_rules.specs.Table.{book_of, StandingOk}
-use Rattle.table_rules.specs.Counted.{TreeCounted}
 use Rattle.demands.specs.Batch.{returns, lengths_ok}
 use Rattle.demands.specs.Whole.{Call, MadeOn, Ran, book_of_run, Asks, HasRoom, WroteReport}
 use Rattle.demands.specs.Demands.{RefusedWith, FreshOf, list4_c}
@@ -47,15 +40,6 @@ pub data BreaksWhole (t : List ℕ) : Type 0 where
   tour : BreaksTour t → BreaksWhole t
   -- "a tree rule"
   tree : ¬ Tied t → BreaksWhole t
-  -- C-19: in the record of a site, a mark that is neither that of an open one, 0, nor that of a closed one, 1
-  mark : (k : ℕ) → k < count_in t → 1 < word_at t (64 + 8 * k + 6) → BreaksWhole t
-  -- a leaf entry that has not 1 for an open site, or not 0 for a closed one
-  leaf_number : (e : NodeEntry) → Memᴰ e (leaves_in t) → e.opens ≢ cond (is_closed e.reference (closed_in t)) 0 1
-      → BreaksWhole t
-  -- C-20: "A wrong stored number counts as a broken tree rule under 65", in any entry
-  entry_number : ¬ TreeCounted (entries t) (root_in t) → BreaksWhole t
-  -- and that of the root
-  root_number : word_at t 5718 ≢ length (sites_of (book_of t)) → BreaksWhole t
 
 -- what gets 69 in a table that keeps all of those: one of these is enough
 pub data BreaksStanding (t : List ℕ) : Type 0 where
@@ -63,18 +47,14 @@ pub data BreaksStanding (t : List ℕ) : Type 0 where
   off_grid_lem : (l : Leg) → leg_in t ≡ some l → ¬ LegOnGrid l → BreaksStanding t
   -- a list without a standing leg
   legless : leg_in t ≡ none → length_in t ≢ 0 → BreaksStanding t
-  -- "the standing list is empty while none is" open (C-19)
+  -- "empty while no site is held"
   siteless : sites_of (book_of t) ≡ [] → length_in t ≢ 0 → BreaksStanding t
   -- more entries than sites, and so any length past 512
   too_long : length (sites_of (book_of t)) < length_in t → BreaksStanding t
-  -- a number of a site that is not held, or closed
+  -- a number of a site that is not held
   not_held : (i : ℕ) → i < length_in t → holds (stored_number t i) (sites_of (book_of t)) ≡ false → BreaksStanding t
   -- any other list than that of the leg
   other_list : standing_in t ≢ numbers_of (standing_list (book_of t)) → BreaksStanding t
-
--- A TABLE OF ANOTHER LAYOUT: each release writes the number of its layout at byte 14, and this one 3
-abbrev pub OtherLayout : List ℕ → Type 0
-OtherLayout t = word_at t 14 ≢ 3
 
 -- ---- one word
 
@@ -103,12 +83,11 @@ pub record OneWord (t : List ℕ) : Type 0 where
 -- ---- "if the sites can still be read"
 
 -- THE SITES OF THE TABLE t CAN BE READ: it is laid out anew from what it holds. The calls fs are a 41 for each of its
--- lines and a 58 for each closed one, in any order and any batches with room for the records, on a table just laid out,
--- and leave the table v
+-- lines, in any order and any batches with room for the records, on a table just laid out, and leave the table v
 pub record SitesRead (t : List ℕ) : Type 0 where
-  -- all are accepted: the new table holds just the sites of the old, with their marks
+  -- all are accepted: the new table holds just the sites of the old
   pub mended : (fs : List Call) (v : List ℕ) → Ran fs v → FreshOf (book_of t) fs
-      → ((book_of_run fs).lines ≡ (book_of t).lines) × ((book_of_run fs).closed ≡ (book_of t).closed)
+      → (book_of_run fs).lines ≡ sites_of (book_of t)
   -- and lists what it should
   pub lists : (fs : List Call) (v : List ℕ) → Ran fs v → FreshOf (book_of t) fs
       → (l : Leg) → LegOnGrid l → sites_of (book_of t) ≢ []
@@ -117,8 +96,8 @@ pub record SitesRead (t : List ℕ) : Type 0 where
 
 -- A FAULT in the standing leg and list of a table that the calls cs left made u of it
 pub record FaultTold (cs : List Call) (u : List ℕ) : Type 0 where
-  -- the sites, their marks and the tour are those of the calls still
-  pub sites : ((book_of u).lines ≡ (book_of_run cs).lines) × ((book_of u).closed ≡ (book_of_run cs).closed)
+  -- the sites and the tour are those of the calls still
+  pub sites : sites_of (book_of u) ≡ sites_of (book_of_run cs)
   pub tour : (book_of u).tour ≡ (book_of_run cs).tour
   -- they can be read
   pub read : SitesRead u

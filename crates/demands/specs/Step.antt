@@ -1,11 +1,11 @@
 -- What one command does to the table's bytes. Document 01, "Causes and numbers", the column "Left as it was".
 -- Assumes nothing.
-use Rattle.std.specs.Prelude.{◌≡◌, Bool, true, false, not, ◌||◌, List, [], ◌∷◌, ℕ}
+use Rattle.std.specs.Prelude.{◌≡◌, Bool, true, false, List, [], ◌∷◌, ℕ}
 use Rattle.words.specs.Words.{Only}
 use Rattle.book.specs.declared.Command.{Command}
 use Rattle.book.specs.declared.Command.TheVariants.{Add, Remove, Move, List as ListOf, Stand, Print}
-use Rattle.book.specs.declared.Command.TheVariants.{Begin, Corner, Close, Open}
-use Rattle.book.specs.Book.{Book, is_closed, change}
+use Rattle.book.specs.declared.Command.TheVariants.{Begin, Corner}
+use Rattle.book.specs.Book.{Book, change}
 use Rattle.book.specs.Reply.{Reply, done, refused, listed}
 use Rattle.book.specs.Answer.{reads}
 use Rattle.book.specs.Run.{Turn}
@@ -20,25 +20,11 @@ pub record Holds (t : List ℕ) (b : Book) : Type 0 where
   pub sound : Sound t
   pub book : book_of t ≡ b
 
--- a 58 of a closed site, or a 4F of an open one: document 02, C-19, "doing either twice is accepted"; the second time
--- it changes no mark
-abbrev pub repeats : Book → Command → Bool
-repeats b (Add n l) = false
-repeats b (Remove n) = false
-repeats b (Move n l) = false
-repeats b (ListOf l) = false
-repeats b (Stand l) = false
-repeats b Print = false
-repeats b (Begin p) = false
-repeats b (Corner p) = false
-repeats b (Close n) = is_closed n b.closed
-repeats b (Open n) = not (is_closed n b.closed)
-
--- a command that was refused, or that changes nothing in the book b, keeps the table
-abbrev pub keeps : Book → Command → Reply → Bool
-keeps b c done = reads c || repeats b c
-keeps b c (refused x) = true
-keeps b c (listed es) = reads c
+-- a command that was refused, or that changes nothing, keeps the table
+abbrev pub keeps : Command → Reply → Bool
+keeps c done = reads c
+keeps c (refused x) = true
+keeps c (listed es) = reads c
 
 -- every byte is left; or the table is a sound one of the book b
 abbrev pub Left : Bool → List ℕ → Book → List ℕ → Type 0
@@ -55,8 +41,6 @@ tours (Stand l) = false
 tours Print = false
 tours (Begin p) = true
 tours (Corner p) = true
-tours (Close n) = false
-tours (Open n) = false
 
 -- it changes no byte but those of the tour in the header
 abbrev pub TourAlone : Bool → List ℕ → List ℕ → Type 0
@@ -65,7 +49,7 @@ TourAlone false t t' = Unit {0}
 
 -- what the command does: it leaves every byte, or a sound table of the changed book; 42 and 43 write the tour alone
 abbrev pub Step : List ℕ → Command → Reply → List ℕ → Type 0
-Step t c y t' = Left (keeps (book_of t) c y) t (change c (book_of t)) t' × TourAlone (tours c) t t'
+Step t c y t' = Left (keeps c y) t (change c (book_of t)) t' × TourAlone (tours c) t t'
 
 -- "table as the commands before it left it": the commands that got a record, one after the other
 pub data Chain : List ℕ → List Turn → List ℕ → Type 0 where

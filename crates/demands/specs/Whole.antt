@@ -2,9 +2,10 @@
 -- Assumes nothing.
 use Rattle.std.specs.Prelude.{◌≡◌, List, [], ◌∷◌, ◌++◌, map, ℕ, ◌≤◌, length, take}
 use Rattle.limits.specs.Limits.{work_bytes}
+use Rattle.grid.specs.declared.Site.{Site}
 use Rattle.book.specs.Numbers.{reason_number}
 use Rattle.book.specs.Book.{Book, empty_book}
-use Rattle.book.specs.Filling.{Fill, fill_bytes}
+use Rattle.book.specs.Encode.{additions}
 use Rattle.book.specs.Run.{Outcome, records, call}
 use Rattle.book.specs.Listener.{Exchange, hear_records, commands_in}
 use Rattle.demands.specs.Batch.{Return, Batch, LaidOut}
@@ -107,13 +108,12 @@ unfoldable pub heard_of_run : List Call → List Exchange
 heard_of_run [] = []
 heard_of_run (c ∷ cs) = heard_in c ++ heard_of_run cs
 
--- "given a 41 for each line of the book, in any order and any batches with room for the records"; C-19: "for each
--- closed line of the book, a 58 after its 41": the asks are these commands and nothing else, with a work buffer of the
--- right length
-pub data Filled : List Ask → List Fill → Type 0 where
+-- "given a 41 for each line of the book, in any order and any batches with room for the records":
+-- the asks are additions of these sites and nothing else, with a work buffer of the right length
+pub data Filled : List Ask → List Site → Type 0 where
   none : Filled [] []
-  next : {a : Ask} {asks : List Ask} {more : List Fill} (s : List Fill)
-      → a.work ≡ work_bytes → a.commands ≡ fill_bytes s → length s ≤ a.room
+  next : {a : Ask} {asks : List Ask} {more : List Site} (s : List Site)
+      → a.work ≡ work_bytes → a.commands ≡ additions s → length s ≤ a.room
       → Filled asks more → Filled (a ∷ asks) (s ++ more)
 
 -- the call on the table t is just these command bytes, with a work buffer of the right length, and leaves t'

@@ -18,9 +18,8 @@ use Rattle.records.specs.ListRecord.{record_bytes}
 use Rattle.book.specs.declared.Reason.{Reason}
 use Rattle.book.specs.declared.BatchResult.{BatchResult}
 use Rattle.book.specs.Numbers.{reason_number}
-use Rattle.book.specs.Book.{empty_book, open_in, sites_of}
-use Rattle.book.specs.Filling.{adds}
-use Rattle.permutation.specs.Perm.Perm.{same as None-more, swap}
+use Rattle.book.specs.Book.{empty_book, sites_of}
+use Rattle.permutation.specs.Perm.Perm.{swap}
 use Rattle.book.specs.Reply.{record_of}
 use Rattle.table_rules.specs.Table.{Sound}
 use Rattle.table_rules.proofs.Books.{sound_len}
@@ -38,7 +37,7 @@ use Rattle.demands.proofs.WorkBuffer.{any_length}
 use Rattle.replay.specs.declared.Heard.{Heard}
 use Rattle.replay.specs.declared.Row.{Row}
 use Rattle.replay.specs.Replayed.{ask, Called, add_both, add_unknown, remove_cut, list_ten, add_two, add_one, site_two, site_one, end_asks, end_replies, ten_bytes, said_in, said_of, Opened, Closed, Refilled, AskedTen, Replayed}
-use Rattle.replay.proofs.Computed.{end_replies_lem, end_lines, end_closed, both_open, ten_list_lem, ten_on}
+use Rattle.replay.proofs.Computed.{end_replies_lem, end_lines, ten_list, ten_on}
 
 -- ---- one call
 
@@ -94,7 +93,7 @@ module _ (t t₁ : List ℕ) (x : Reason) (l : LaidOut t (reason_number x) t₁)
         ran = record { before = t; laid_table = t₁; laid = laid; made = next a.made (next b.made no_call) };
         filled =
             rw (a.asked_so, b.asked_so)
-            (more-asks {a = ask work_bytes add_two 2} (adds site_two ∷ []) refl refl (omega arith) (more-asks {a = ask work_bytes add_one 2} (adds site_one ∷ []) refl refl (omega arith) no-ask));
+            (more-asks {a = ask work_bytes add_two 2} (site_two ∷ []) refl refl (omega arith) (more-asks {a = ask work_bytes add_one 2} (site_one ∷ []) refl refl (omega arith) no-ask));
       }
 
 pub closed : (t t₂ t₃ t' : List ℕ) (a b c : Heard) → Called (ask work_bytes add_unknown 2) a.result t t₂ a.report → Called (ask work_bytes remove_cut 2) b.result t₂ t₃ b.report
@@ -104,7 +103,7 @@ closed t t₂ t₃ t' a b c x y z = record { second = t₂; third = t₃; unknow
 -- ---- the theorem
 
 -- a report of just the length of the record is the record
-pub report_is : (t : List ℕ) → Sound t → (x : Call) (t' bytes : List ℕ) → Asks t (list4_c ten) x t' → length x.report ≡ length bytes → WroteReport x bytes → x.report_after ≡ bytes
+report_is : (t : List ℕ) → Sound t → (x : Call) (t' bytes : List ℕ) → Asks t (list4_c ten) x t' → length x.report ≡ length bytes → WroteReport x bytes → x.report_after ≡ bytes
 report_is t s x t' bytes a e w =
     let ok : lengths_ok t x.work ≡ true = λ i. eq-eqb (length t) table_bytes (sound_len t s) i && eq-eqb (length x.work) work_bytes a.work i in
     let k = (demand1 t x t' a.made).taken ok s in
@@ -155,17 +154,11 @@ module _ (r : Row) (t₁ t₂ t₃ u₁ u₂ : List ℕ) (o : Opened r.opening t
   two_lines : (book_of_run calls).lines ≡ site_one ∷ site_two ∷ []
   two_lines = ap (λ (a : List Ask). (book_after empty_book a).lines) asks ∙ end_lines
 
-  none_closed : (book_of_run calls).closed ≡ []
-  none_closed = ap (λ (a : List Ask). (book_after empty_book a).closed) asks ∙ end_closed
-
-  two_sites : sites_of (book_of_run calls) ≡ site_one ∷ site_two ∷ []
-  two_sites = (λ i. open_in (none_closed i) (two_lines i)) ∙ both_open
-
   ten_is : record_bytes (split_of ten (sites_of (book_of_run calls))) ≡ ten_bytes
-  ten_is = ap (λ (s : List Site). record_bytes (split_of ten s)) two_sites ∙ ten_list_lem
+  ten_is = ap (λ (s : List Site). record_bytes (split_of ten s)) two_lines ∙ ten_list
 
   held : sites_of (book_of_run calls) ≢ []
-  held e = let z : ◌≡◌ {A = ℕ} 2 0 = ap length (sym two_sites ∙ e) in omega arith
+  held e = let z : ◌≡◌ {A = ℕ} 2 0 = ap length (sym two_lines ∙ e) in omega arith
 
   wrote_ours : WroteReport c.call ten_bytes
   wrote_ours =
@@ -173,12 +166,7 @@ module _ (r : Row) (t₁ t₂ t₃ u₁ u₂ : List ℕ) (o : Opened r.opening t
       ((demand3 calls t₂ ran).lists ten ten_on held c.call t₃ c.asks (omega (arith, ap length ten_is, c.room))).0
 
   fresh_of : FreshOf (book_of_run calls) f.calls
-  fresh_of =
-      record {
-        order = adds site_two ∷ adds site_one ∷ [];
-        filled = f.filled;
-        refills = record { lines = rw two_lines swap; closed = rw none_closed None-more; behind = tt };
-      }
+  fresh_of = record { order = site_two ∷ site_one ∷ []; filled = f.filled; perm = rw two_lines swap }
 
   same : said c.call ≡ said d.call
   same =

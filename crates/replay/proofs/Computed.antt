@@ -15,7 +15,7 @@ use Rattle.split.specs.Legs.{ten}
 use Rattle.split.specs.SplitList.{rank}
 use Rattle.split.specs.SplitOf.{hides?, right_below?, under?, push, insert, build, split_of}
 use Rattle.records.specs.ListRecord.{entry_bytes, list_bytes, record_bytes}
-use Rattle.book.specs.Book.{empty_book, write_line, strike_line, holds, change, open_in, is_closed, open_number}
+use Rattle.book.specs.Book.{empty_book, write_line, strike_line, holds, change}
 use Rattle.book.specs.Command.{form_of, parse_at}
 use Rattle.book.specs.Answer.{answer}
 use Rattle.book.specs.Run.{records, turn, run_from}
@@ -24,37 +24,28 @@ use Rattle.replay.specs.Replayed.{ask, site_one, site_two, stand_ten, end_asks, 
 
 -- 64, 0, 66, 67 and 68
 pub end_replies_lem : replies empty_book end_asks ≡ end_replies
-unfolding replies_asking book_after records turn run_from parse_at form_of word_at from_word to_word answer holds change write_line open_in is_closed open_number strike_line split_of build insert push hides? under? right_below? dec_le dec_lt distance squared_difference rank on_the_right? lowest gcd_of gcd_by entry_bytes list_bytes record_bytes
+unfolding replies_asking book_after records turn run_from parse_at form_of word_at from_word to_word answer holds change write_line strike_line split_of build insert push hides? under? right_below? dec_le dec_lt distance squared_difference rank on_the_right? lowest gcd_of gcd_by entry_bytes list_bytes record_bytes
 end_replies_lem = refl
 
 -- site 3 has come and gone
 pub end_lines : (book_after empty_book end_asks).lines ≡ site_one ∷ site_two ∷ []
-unfolding replies_asking book_after records turn run_from parse_at form_of word_at from_word to_word answer holds change write_line open_in is_closed open_number strike_line split_of build insert push hides? under? right_below? dec_le dec_lt distance squared_difference rank on_the_right? lowest gcd_of gcd_by entry_bytes list_bytes record_bytes
+unfolding replies_asking book_after records turn run_from parse_at form_of word_at from_word to_word answer holds change write_line strike_line split_of build insert push hides? under? right_below? dec_le dec_lt distance squared_difference rank on_the_right? lowest gcd_of gcd_by entry_bytes list_bytes record_bytes
 end_lines = refl
 
--- and none is closed
-pub end_closed : (book_after empty_book end_asks).closed ≡ []
-unfolding replies_asking book_after records turn run_from parse_at form_of word_at from_word to_word answer holds change write_line open_in is_closed open_number strike_line split_of build insert push hides? under? right_below? dec_le dec_lt distance squared_difference rank on_the_right? lowest gcd_of gcd_by entry_bytes list_bytes record_bytes
-end_closed = refl
-
-pub both_open : open_in [] (site_one ∷ site_two ∷ []) ≡ site_one ∷ site_two ∷ []
-unfolding open_in is_closed
-both_open = refl
-
 -- "1 from 0/1, 2 from 37/100"
-pub ten_list_lem : record_bytes (split_of ten (site_one ∷ site_two ∷ [])) ≡ ten_bytes
+pub ten_list : record_bytes (split_of ten (site_one ∷ site_two ∷ [])) ≡ ten_bytes
 unfolding split_of build insert push hides? under? right_below? dec_le dec_lt distance squared_difference rank on_the_right? lowest gcd_of gcd_by entry_bytes list_bytes record_bytes
-ten_list_lem = refl
+ten_list = refl
 
 pub ten_on : LegOnGrid ten
 ten_on = record { s = record { east = omega arith; north = omega arith }; e = record { east = omega arith; north = omega arith } }
 
 -- a 53 sets the leg, and adds no site
-pub stood_book : book_after empty_book (ask work_bytes stand_ten 2 ∷ []) ≡ record { lines = []; closed = []; leg = some ten; tour = none }
+pub stood_book : book_after empty_book (ask work_bytes stand_ten 2 ∷ []) ≡ record { lines = []; leg = some ten; tour = none }
 unfolding replies_asking book_after records turn run_from parse_at form_of word_at from_word to_word answer holds change
 stood_book = refl
 
 -- its list is empty
-pub no_entry_lem : split_of ten (open_in [] []) ≡ []
-unfolding split_of build open_in
+pub no_entry_lem : split_of ten [] ≡ []
+unfolding split_of build
 no_entry_lem = refl

@@ -26,12 +26,12 @@ use Rattle.replay.specs.Replayed.{ask, Called, print_alone, stand_ten, reply, sa
 use Rattle.replay.proofs.Computed.{stood_book, no_entry_lem}
 
 -- a call that was refused with n said so
-pub refused_said : (n : ℕ) (a : Heard) → return_of a.result ≡ returns n 0 0 → said_in a ≡ reply n 0 []
+refused_said : (n : ℕ) (a : Heard) → return_of a.result ≡ returns n 0 0 → said_in a ≡ reply n 0 []
 refused_said n a q = λ i.
     record { reason = (q i).reason; used = (q i).used; written = (q i).written; bytes = take (q i).written a.report }
 
 -- the work buffer of a call
-pub work_is : (cs : List ℕ) (r : BatchResult) (t t' rep' : List ℕ) (h : Called (ask work_bytes cs 2) r t t' rep') → length h.call.work ≡ work_bytes
+work_is : (cs : List ℕ) (r : BatchResult) (t t' rep' : List ℕ) (h : Called (ask work_bytes cs 2) r t t' rep') → length h.call.work ≡ work_bytes
 work_is cs r t t' rep' h = ap (λ (k : Ask). k.work) h.asked_so
 
 -- ---- on a table just laid out
@@ -83,7 +83,7 @@ stood t t₁ x l e t₂ a c =
     }
 
 module _ (t : List ℕ) (s : Stood t) (t₁ t₂ : List ℕ) (a : Heard) (c : Called (ask work_bytes print_alone 2) a.result t₁ t₂ a.report) where
-  book : book_of_run s.calls ≡ record { lines = []; closed = []; leg = some ten; tour = none }
+  book : book_of_run s.calls ≡ record { lines = []; leg = some ten; tour = none }
   book = ap (book_after empty_book) s.asks ∙ stood_book
 
   work : length c.call.work ≡ work_bytes

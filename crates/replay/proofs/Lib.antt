@@ -2,10 +2,3 @@ pub mod Computed
 pub mod Citing
 pub mod Faults
 pub mod Surveying
-pub mod ByMarks
-pub mod ByBatches
-pub mod ByClosedLine
-pub mod ByMarkFaults
-pub mod ByPrint
-pub mod ByMarkBytes
-pub mod ByOrders

@@ -19,7 +19,7 @@ use Rattle.split.specs.SplitOf.{hides?, right_below?, under?, push, insert, buil
 use Rattle.records.specs.ListRecord.{entry_bytes, list_bytes, record_bytes}
 use Rattle.book.specs.declared.Reason.{Reason}
 use Rattle.book.specs.Numbers.{reason_number}
-use Rattle.book.specs.Book.{empty_book, write_line, strike_line, move_line, holds, change, open_in, is_closed, open_number}
+use Rattle.book.specs.Book.{empty_book, write_line, strike_line, move_line, holds, change}
 use Rattle.book.specs.Command.{form_of, parse_at}
 use Rattle.book.specs.Answer.{answer}
 use Rattle.book.specs.Run.{records, turn, run_from}
@@ -110,7 +110,7 @@ survey_said =
     ∷ refused_so ++ refused_so
 
 survey_replies : replies empty_book survey_asks ≡ survey_said
-unfolding survey_asks survey_said replies_asking book_after records turn run_from parse_at form_of word_at long_at number_of of_bits coordinate_in step_word nearest_step from_word to_word answer holds change write_line open_in is_closed open_number strike_line move_line split_of build insert push hides? under? right_below? dec_le dec_lt distance squared_difference rank on_the_right? lowest gcd_of gcd_by entry_bytes list_bytes record_bytes
+unfolding survey_asks survey_said replies_asking book_after records turn run_from parse_at form_of word_at long_at number_of of_bits coordinate_in step_word nearest_step from_word to_word answer holds change write_line strike_line move_line split_of build insert push hides? under? right_below? dec_le dec_lt distance squared_difference rank on_the_right? lowest gcd_of gcd_by entry_bytes list_bytes record_bytes
 survey_replies = refl
 
 -- the first of what was said, and the rest

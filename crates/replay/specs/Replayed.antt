@@ -11,7 +11,6 @@ use Rattle.book.specs.Numbers.{reason_number}
 use Rattle.book.specs.Book.{empty_book}
 use Rattle.table_empty.specs.EmptyTable.{empty_table}
 use Rattle.demands.specs.Batch.{return_of, LaidOut}
-use Rattle.book.specs.Filling.{adds}
 use Rattle.demands.specs.Whole.{Call, MadeOn, Ran, Said, Ask, asked, replies_asking, Filled, Asks}
 use Rattle.demands.specs.Demands.{list4_c}
 use Rattle.demands.specs.WorkBuffer.{resized}
@@ -129,7 +128,7 @@ add_two = 0x41 ∷ 2 ∷ 0 ∷ 7 ∷ 0 ∷ 1 ∷ 0 ∷ []
 pub record Refilled (t' : List ℕ) : Type 0 where
   pub calls : List Call
   pub ran : Ran calls t'
-  pub filled : Filled (map asked calls) (adds site_two ∷ adds site_one ∷ [])
+  pub filled : Filled (map asked calls) (site_two ∷ site_one ∷ [])
 
 -- the leg was asked of the table t, with just the room for that record, and this is the report
 pub record AskedTen (t rep t' : List ℕ) : Type 0 where

@@ -2,11 +2,6 @@
 // it so. Calls that end with 64, 0, 66, 67 and 68, each with buffers of its own, and then one leg asked of this
 // table and of a fresh one with the same sites.
 pub mod damage;
-pub mod mark_damage;
-pub mod mark_rules;
-pub mod marking;
-pub mod no_print;
-pub mod refresh;
 pub mod survey;
 
 ghost use Rattle.std.specs.Prelude.{◌≡◌, length};

@@ -3,7 +3,7 @@ use crate::streams;
 
 // The version is that of docs/CHANGELOG.md.
 fn print_version() {
-    streams::write_all(b"stops 0.13.0\n");
+    streams::write_all(b"stops 0.12.0\n");
 }
 
 fn print_usage() {

@@ -1,13 +1,12 @@
 -- An accepted change, carried out: the table holds the changed book.
 -- Assumes nothing.
 use mathlib.Core.Path.{◌≡◌, refl, sym, ap, subst, subst⁻¹, ◌∙◌}
-use mathlib.Core.Bool.{Bool, true, false, cond, not, true≢false}
+use mathlib.Core.Bool.{true, false}
 use mathlib.Core.Option.{Option, none, some}
 use mathlib.Core.List.{List}
 use Prim.Native.Nat.{ℕ, ◌≤◌, ◌<◌}
 use native.Mathlib.Omega.{arith}
 use lib.ListN.{length}
-use lib.Dec.{eqb}
 use borrow.Author.Tests.{ne_eqb}
 use Rattle.limits.specs.Limits.{max_sites}
 use Rattle.words.specs.Words.{Only}
@@ -19,32 +18,27 @@ use Rattle.grid.specs.Position.{OnGrid, LegOnGrid}
 use Rattle.split.specs.SplitOf.{split_of}
 use Rattle.split.proofs.Exists.{split_is}
 use Rattle.readings.specs.declared.Location.TheVariants.{InSteps}
-use Rattle.book.specs.declared.Command.TheVariants.{Add, Remove, Move, Stand, Begin, Corner, Close, Open}
+use Rattle.book.specs.declared.Command.TheVariants.{Add, Remove, Move, Stand, Begin, Corner}
 use Rattle.book.specs.Tour.{Tour, tour_leg, cornered, goes_on}
-use Rattle.book.specs.Book.{with_lines, with_tour, is_closed, close_number, open_number, open_in, sites_of, write_line, strike_line, move_line, holds, list_of, change}
+use Rattle.book.specs.Book.{with_lines, with_tour, write_line, strike_line, move_line, holds, list_of, change}
 use Rattle.book.specs.Proper.{LegOk, LastHeld, TourOk}
-use Rattle.book.proofs.Lines.{strike_none, holds_strike, holds_member, absent_holds, holds_absent}
-use Rattle.book.proofs.Marks.{SameBut, others_open, open_member, opened_other, closed_other, reopen_none}
-use Rattle.book.proofs.Struck.{strike_written, strike_moved}
-use Rattle.book.proofs.Answers.{close-does, open-does}
-use Rattle.book.proofs.ProperBooks.{proper_numbered, proper_numbers}
+use Rattle.book.proofs.Lines.{strike_none, holds_strike, holds_member}
+use Rattle.book.proofs.ProperBooks.{proper_numbered}
 use Rattle.book.proofs.Lists.{last_held}
 use Rattle.table_header.specs.Layout.{layout_start, flag_start, leg_start, length_start, tour_start, corner_start, tour_end}
 use Rattle.table_header.specs.Header.{leg_in, length_in, site_number, tour_at, tour_in, ZeroFrom, LegStored, TourStored}
-use Rattle.table_sites.specs.Lines.{lines_in, mark_at, closed_in, StandsAt, StandsNowhere}
-use Rattle.table_sites.proofs.Reading.{lines_length}
-use Rattle.table_sites.proofs.Finding.{absent_held}
-use Rattle.table_sites.proofs.Kept.{closed_ok, mark_open, mark_shut}
+use Rattle.table_sites.specs.Lines.{lines_in, StandsAt, StandsNowhere}
 use Rattle.table_standing.specs.Standing.{standing_in, numbers_of}
 use Rattle.tree_node.specs.Layout.{tree_start}
 use Rattle.table_rules.specs.Table.{book_of, Whole, StandingOk, Sound}
 use Rattle.table_rules.specs.Following.{Follows}
 use Rattle.table_rules.proofs.Books.{sound_few, sound_proper}
-use Rattle.table_rules.proofs.Same.{lines_same, closed_same, mark_same, sites_same, leg_same, tour_same, list_same, flag_same, tied_below}
-use Rattle.demands.specs.Step.{Holds, repeats, Left}
+use Rattle.table_rules.proofs.Same.{lines_same, sites_same, leg_same, tour_same, list_same, flag_same, tied_below}
+use Rattle.demands.specs.Step.{Holds}
 use Rattle.table_patch.specs.Patching.{Patchable}
 use Rattle.table_patch.proofs.Patching.{patchable}
-use Rattle.table_change.specs.Changes.{Relined, remarked}
+use Rattle.table_change.specs.Changes.{Relined}
+use Rattle.table_change.proofs.Struck.{strike_written, strike_moved}
 use Rattle.table_change.proofs.Indices.{written_at, moved_at}
 
 -- ---- the tour ends, or goes on: the lines, the standing leg and the stored list are as they were
@@ -59,14 +53,8 @@ module _ (b b₀ : List ℕ) (o : Option Tour) (w : Whole b) (st : TourStored o 
   list_left : length_in b ≤ max_sites → standing_in b₀ ≡ standing_in b
   list_left few = list_same b b₀ (λ i x h. st.only.low i (omega arith)) (λ i x h. st.only.high i (omega arith)) few
 
-  closed_left : closed_in b₀ ≡ closed_in b
-  closed_left = closed_same b b₀ (λ i x h. st.only.low i (omega arith)) (λ i x h. st.only.high i (omega arith)) w.sites.few
-
-  sites_left : sites_of (book_of b₀) ≡ sites_of (book_of b)
-  sites_left = λ i. open_in (closed_left i) (lines_left i)
-
   -- THE TABLE with another tour or none
-  toured_whole : TourOk o (sites_of (book_of b)) → Whole b₀
+  toured_whole : TourOk o (lines_in b) → Whole b₀
   unfolding ZeroFrom
   toured_whole fits =
       record {
@@ -78,22 +66,22 @@ module _ (b b₀ : List ℕ) (o : Option Tour) (w : Whole b) (st : TourStored o 
           tour = st.layout;
           kept = λ i x h. st.only.high i (omega arith) ∙ w.header.kept i x h;
         };
-        tour = rw (st.tour, lines_left, closed_left) fits;
-        tree = tied_below b b₀ (record { len = st.only.len; low = st.only.low; high = λ i h. st.only.high i (omega arith) }) lines_left closed_left w.tree;
+        tour = rw (st.tour, lines_left) fits;
+        tree = tied_below b b₀ (record { len = st.only.len; low = st.only.low; high = λ i h. st.only.high i (omega arith) }) lines_left w.tree;
       }
 
   toured_book : book_of b₀ ≡ with_tour o (book_of b)
-  toured_book = λ i. record { lines = lines_left i; closed = closed_left i; leg = leg_left i; tour = st.tour i }
+  toured_book = λ i. record { lines = lines_left i; leg = leg_left i; tour = st.tour i }
 
   -- and sound, if it was
-  toured_holds : StandingOk b → TourOk o (sites_of (book_of b)) → Holds b₀ (with_tour o (book_of b))
+  toured_holds : StandingOk b → TourOk o (lines_in b) → Holds b₀ (with_tour o (book_of b))
   toured_holds s fits =
       record {
         sound = record {
           whole = toured_whole fits;
           standing = record {
             leg = subst LegOk (sym leg_left) s.leg;
-            list = list_left (sound_few b (record { whole = w; standing = s })) ∙ s.list ∙ sym (λ i. numbers_of (list_of (leg_left i) (sites_left i)));
+            list = list_left (sound_few b (record { whole = w; standing = s })) ∙ s.list ∙ sym (λ i. numbers_of (list_of (leg_left i) (lines_left i)));
           };
         };
         book = toured_book;
@@ -117,87 +105,65 @@ module _ (b b₀ : List ℕ) (s : Sound b) (st : TourStored none b b₀) where
   pub ended_room : length (lines_in b) < max_sites → length (lines_in b₀) < max_sites
   ended_room h = omega (arith, h, ap length (lines_left b b₀ none s.whole st))
 
-  pub ended_mark : (k n m : ℕ) → StandsAt k n (lines_in b) → (m ≡ 1 → mark_at b k ≡ 0) → m ≡ 1 → mark_at b₀ k ≡ 0
-  ended_mark k n m h z o = mark_same b b₀ (λ i x h. st.only.low i (omega arith)) (λ i x h. st.only.high i (omega arith)) k (omega (arith, h.line, lines_length b, s.whole.sites.few)) ∙ z o
-
   -- what is relined then is relined
-  ended_relined : (f : List Site → List Site) (g : List ℕ → List ℕ) (b₁ : List ℕ) → Relined (f (lines_in b₀)) (g (closed_in b₀)) b₀ b₁ → Relined (f (lines_in b)) (g (closed_in b)) b b₁
-  ended_relined f g b₁ r =
+  ended_relined : (f : List Site → List Site) (b₁ : List ℕ) → Relined (f (lines_in b₀)) b₀ b₁ → Relined (f (lines_in b)) b b₁
+  ended_relined f b₁ r =
+      let e = lines_left b b₀ none s.whole st in
       record {
         whole = r.whole;
-        lines = r.lines ∙ ap f (lines_left b b₀ none s.whole st);
-        closed = r.closed ∙ ap g (closed_left b b₀ none s.whole st);
+        lines = r.lines ∙ ap f e;
         leg = r.leg ∙ leg_left b b₀ none s.whole st;
         tour = r.tour;
         list = λ few. r.list (omega (arith, few, word_low st.only length_start (omega arith))) ∙ list_left b b₀ none s.whole st few;
       }
 
--- after a line or its mark has changed, the list may be patched, and then the table holds the changed book
-module _ (b b₁ : List ℕ) (l : List Site) (c : List ℕ) (s : Sound b) (r : Relined l c b b₁) where
-  relined_patch : (n : ℕ) → SameBut n c (closed_in b) → strike_line n l ≡ strike_line n (lines_in b) → Patchable n b₁
-  relined_patch n k e =
-      patchable b b₁ n s r.whole r.leg r.list
-      (ap (strike_line n) (λ i. open_in (r.closed i) (r.lines i)) ∙ others_open n c (closed_in b) l (lines_in b) k e)
+-- after a line has changed, the list may be patched, and then the table holds the changed book
+module _ (b b₁ : List ℕ) (l : List Site) (s : Sound b) (r : Relined l b b₁) where
+  relined_patch : (n : ℕ) → strike_line n l ≡ strike_line n (lines_in b) → Patchable n b₁
+  relined_patch n e = patchable b b₁ n s r.whole r.leg r.list (ap (strike_line n) r.lines ∙ e)
 
-  relined_book : book_of b₁ ≡ with_lines l c (book_of b)
-  relined_book = λ i. record { lines = r.lines i; closed = r.closed i; leg = r.leg i; tour = r.tour i }
+  relined_book : book_of b₁ ≡ with_lines l (book_of b)
+  relined_book = λ i. record { lines = r.lines i; leg = r.leg i; tour = r.tour i }
 
-  pub relined_holds : (b₂ : List ℕ) → Holds b₂ (book_of b₁) → Holds b₂ (with_lines l c (book_of b))
+  pub relined_holds : (b₂ : List ℕ) → Holds b₂ (book_of b₁) → Holds b₂ (with_lines l (book_of b))
   relined_holds b₂ h = subst (Holds b₂) relined_book h
 
-module _ (b b₀ b₁ : List ℕ) (p : Site) (s : Sound b) (st : TourStored none b b₀) (r₀ : Relined (write_line p (lines_in b₀)) (closed_in b₀) b₀ b₁) where
-  added : Relined (write_line p (lines_in b)) (closed_in b) b b₁
-  added = ended_relined b b₀ s st (write_line p) (λ c. c) b₁ r₀
+module _ (b b₀ b₁ : List ℕ) (p : Site) (s : Sound b) (st : TourStored none b b₀) (r₀ : Relined (write_line p (lines_in b₀)) b₀ b₁) where
+  added : Relined (write_line p (lines_in b)) b b₁
+  added = ended_relined b b₀ s st (write_line p) b₁ r₀
 
   pub add_patch : Patchable p.number b₁
-  add_patch = relined_patch b b₁ (write_line p (lines_in b)) (closed_in b) s added p.number (λ m h. refl) (strike_written p (lines_in b))
+  add_patch = relined_patch b b₁ (write_line p (lines_in b)) s added p.number (strike_written p (lines_in b))
 
   pub add_stands : (k : ℕ) → StandsNowhere k p.number (lines_in b) → StandsAt k p.number (lines_in b₁)
   add_stands k h = subst (StandsAt k p.number) (sym added.lines) (written_at k p (lines_in b) h)
 
-  -- a new number was not closed
-  unclosed : (k : ℕ) → StandsNowhere k p.number (lines_in b) → open_number p.number (closed_in b) ≡ closed_in b
-  unclosed k h = reopen_none p.number (closed_in b) (go (is_closed p.number (closed_in b)) refl)
-    where
-      go : (t : Bool) → is_closed p.number (closed_in b) ≡ t → t ≡ false
-      go true e = absurd (true≢false (sym ((closed_ok b s.whole.sites.rising).held p.number e) ∙ absent_held h))
-      go false e = refl
-
   -- ADDED
-  pub add_done : (k : ℕ) → StandsNowhere k p.number (lines_in b) → (b₂ : List ℕ) → Holds b₂ (book_of b₁)
-      → Holds b₂ (change (Add p.number (InSteps p.position)) (book_of b))
+  pub add_done : (b₂ : List ℕ) → Holds b₂ (book_of b₁) → Holds b₂ (change (Add p.number (InSteps p.position)) (book_of b))
   unfolding change
-  add_done k h b₂ d =
-      subst⁻¹ (λ (c : List ℕ). Holds b₂ (with_lines (write_line p (lines_in b)) c (book_of b))) (unclosed k h)
-      (relined_holds b b₁ (write_line p (lines_in b)) (closed_in b) s added b₂ d)
+  add_done b₂ h = relined_holds b b₁ (write_line p (lines_in b)) s added b₂ h
 
-module _ (b b₀ b₁ : List ℕ) (n : ℕ) (s : Sound b) (st : TourStored none b b₀) (r₀ : Relined (strike_line n (lines_in b₀)) (open_number n (closed_in b₀)) b₀ b₁) where
-  struck : Relined (strike_line n (lines_in b)) (open_number n (closed_in b)) b b₁
-  struck = ended_relined b b₀ s st (strike_line n) (open_number n) b₁ r₀
+module _ (b b₀ b₁ : List ℕ) (n : ℕ) (s : Sound b) (st : TourStored none b b₀) (r₀ : Relined (strike_line n (lines_in b₀)) b₀ b₁) where
+  struck : Relined (strike_line n (lines_in b)) b b₁
+  struck = ended_relined b b₀ s st (strike_line n) b₁ r₀
 
   pub remove_patch : Patchable n b₁
-  remove_patch =
-      relined_patch b b₁ (strike_line n (lines_in b)) (open_number n (closed_in b)) s struck n (λ m h. opened_other n m (closed_in b) h)
-      (strike_none n (strike_line n (lines_in b)) (holds_strike n (lines_in b)))
+  remove_patch = relined_patch b b₁ (strike_line n (lines_in b)) s struck n (strike_none n (strike_line n (lines_in b)) (holds_strike n (lines_in b)))
 
-  pub remove_gone : holds n (sites_of (book_of b₁)) ≡ false
-  remove_gone =
-      absent_holds n (sites_of (book_of b₁))
-      (λ p m. holds_absent n (lines_in b₁) (ap (holds n) struck.lines ∙ holds_strike n (lines_in b)) p (open_member (closed_in b₁) (lines_in b₁) p m))
+  pub remove_gone : holds n (lines_in b₁) ≡ false
+  remove_gone = ap (holds n) struck.lines ∙ holds_strike n (lines_in b)
 
   -- REMOVED
   pub remove_done : (b₂ : List ℕ) → Holds b₂ (book_of b₁) → Holds b₂ (change (Remove n) (book_of b))
   unfolding change
-  remove_done b₂ h = relined_holds b b₁ (strike_line n (lines_in b)) (open_number n (closed_in b)) s struck b₂ h
+  remove_done b₂ h = relined_holds b b₁ (strike_line n (lines_in b)) s struck b₂ h
 
-module _ (b b₀ b₁ : List ℕ) (q : Site) (s : Sound b) (st : TourStored none b b₀) (r₀ : Relined (move_line q.number q.position (lines_in b₀)) (closed_in b₀) b₀ b₁) where
-  moved : Relined (move_line q.number q.position (lines_in b)) (closed_in b) b b₁
-  moved = ended_relined b b₀ s st (move_line q.number q.position) (λ c. c) b₁ r₀
+module _ (b b₀ b₁ : List ℕ) (q : Site) (s : Sound b) (st : TourStored none b b₀) (r₀ : Relined (move_line q.number q.position (lines_in b₀)) b₀ b₁) where
+  moved : Relined (move_line q.number q.position (lines_in b)) b b₁
+  moved = ended_relined b b₀ s st (move_line q.number q.position) b₁ r₀
 
   pub move_patch : Patchable q.number b₁
-  move_patch =
-      relined_patch b b₁ (move_line q.number q.position (lines_in b)) (closed_in b) s moved q.number (λ m h. refl)
-      (strike_moved q.number q.position (lines_in b))
+  move_patch = relined_patch b b₁ (move_line q.number q.position (lines_in b)) s moved q.number (strike_moved q.number q.position (lines_in b))
 
   pub move_stands : (k : ℕ) → StandsAt k q.number (lines_in b) → StandsAt k q.number (lines_in b₁)
   move_stands k h = subst (StandsAt k q.number) (sym moved.lines) (moved_at k q.number q.position (lines_in b) h)
@@ -205,62 +171,11 @@ module _ (b b₀ b₁ : List ℕ) (q : Site) (s : Sound b) (st : TourStored none
   -- MOVED
   pub move_done : (b₂ : List ℕ) → Holds b₂ (book_of b₁) → Holds b₂ (change (Move q.number (InSteps q.position)) (book_of b))
   unfolding change
-  move_done b₂ h = relined_holds b b₁ (move_line q.number q.position (lines_in b)) (closed_in b) s moved b₂ h
-
--- ---- another mark
-
-module _ (b b₀ b₁ : List ℕ) (n m : ℕ) (s : Sound b) (st : TourStored none b b₀) (r₀ : Relined (lines_in b₀) (remarked m n (closed_in b₀)) b₀ b₁) where
-  turned : Relined (lines_in b) (remarked m n (closed_in b)) b b₁
-  turned = ended_relined b b₀ s st (λ l. l) (remarked m n) b₁ r₀
-
-  pub turn_patch : Patchable n b₁
-  turn_patch = relined_patch b b₁ (lines_in b) (remarked m n (closed_in b)) s turned n (go (eqb m 0)) refl
-    where
-      go : (t : Bool) → SameBut n (cond t (open_number n (closed_in b)) (close_number n (closed_in b))) (closed_in b)
-      go true = λ x h. opened_other n x (closed_in b) h
-      go false = λ x h. closed_other n x (closed_in b) h
-
-  pub turn_stands : (k : ℕ) → StandsAt k n (lines_in b) → StandsAt k n (lines_in b₁)
-  turn_stands k h = subst (StandsAt k n) (sym turned.lines) h
-
-  pub turn_done : (b₂ : List ℕ) → Holds b₂ (book_of b₁) → Holds b₂ (with_lines (lines_in b) (remarked m n (closed_in b)) (book_of b))
-  turn_done b₂ h = relined_holds b b₁ (lines_in b) (remarked m n (closed_in b)) s turned b₂ h
-
-pub turn_few : (b : List ℕ) (k n : ℕ) → Sound b → StandsAt k n (lines_in b) → k < max_sites
-turn_few b k n s f = omega (arith, f.line, lines_length b, s.whole.sites.few)
-
-module _ (b : List ℕ) (k n m : ℕ) (s : Sound b) (f : StandsAt k n (lines_in b)) (e : m ≡ mark_at b k) where
-  pub turn_was : (x : ℕ) → m ≡ 0 → x ≡ 1 → mark_at b k ≡ 0
-  turn_was x z o = sym e ∙ z
-
-  -- CLOSED
-  pub close_turned : (b₂ : List ℕ) → m ≡ 0 → Holds b₂ (with_lines (lines_in b) (close_number n (closed_in b)) (book_of b))
-      → Left (repeats (book_of b) (Close n)) b (change (Close n) (book_of b)) b₂
-  close_turned b₂ z h =
-      let o = mark_open b k n f s.whole.sites.rising m e z in
-      subst⁻¹ (λ (q : Bool). Left q b (change (Close n) (book_of b)) b₂) o (subst⁻¹ (Holds b₂) (close-does (book_of b) n o) h)
-
-  pub close_same : (m ≡ 0 → ⊥) → Left (repeats (book_of b) (Close n)) b (change (Close n) (book_of b)) b
-  close_same z =
-      subst⁻¹ (λ (q : Bool). Left q b (change (Close n) (book_of b)) b) (mark_shut b k n f s.whole.sites.rising m e z) refl
-
-  -- OPENED
-  pub open_turned : (b₂ : List ℕ) → (m ≡ 0 → ⊥) → Holds b₂ (with_lines (lines_in b) (open_number n (closed_in b)) (book_of b))
-      → Left (repeats (book_of b) (Open n)) b (change (Open n) (book_of b)) b₂
-  open_turned b₂ z h =
-      let o = mark_shut b k n f s.whole.sites.rising m e z in
-      subst⁻¹ (λ (q : Bool). Left (not q) b (change (Open n) (book_of b)) b₂) o (subst⁻¹ (Holds b₂) (open-does (book_of b) n o) h)
-
-  pub open_same : m ≡ 0 → Left (repeats (book_of b) (Open n)) b (change (Open n) (book_of b)) b
-  open_same z =
-      subst⁻¹ (λ (q : Bool). Left (not q) b (change (Open n) (book_of b)) b) (mark_open b k n f s.whole.sites.rising m e z) refl
+  move_done b₂ h = relined_holds b b₁ (move_line q.number q.position (lines_in b)) s moved b₂ h
 
 module _ (b b₁ : List ℕ) (l : Leg) (s : Sound b) (on : LegOnGrid l) (st : LegStored l b b₁) where
   lines_stay : lines_in b₁ ≡ lines_in b
   lines_stay = lines_same b b₁ (λ i x h. st.only.low i h) (λ i x h. st.only.high i (omega arith)) s.whole.sites.few
-
-  closed_stays : closed_in b₁ ≡ closed_in b
-  closed_stays = closed_same b b₁ (λ i x h. st.only.low i h) (λ i x h. st.only.high i (omega arith)) s.whole.sites.few
 
   tour_stays : tour_in b₁ ≡ tour_in b
   tour_stays = tour_same b b₁ (λ i x h. st.only.high i (omega arith))
@@ -277,8 +192,8 @@ module _ (b b₁ : List ℕ) (l : Leg) (s : Sound b) (on : LegOnGrid l) (st : Le
           tour = flag_same b b₁ tour_start corner_start tour_end (λ i x h. st.only.high i (omega arith)) (omega arith) (omega arith) s.whole.header.tour;
           kept = λ i x h. st.only.high i (omega arith) ∙ s.whole.header.kept i x h;
         };
-        tour = rw (tour_stays, lines_stay, closed_stays) s.whole.tour;
-        tree = tied_below b b₁ below lines_stay closed_stays s.whole.tree;
+        tour = rw (tour_stays, lines_stay) s.whole.tour;
+        tree = tied_below b b₁ below lines_stay s.whole.tree;
       }
     where
       below : Only flag_start tree_start b b₁
@@ -290,7 +205,7 @@ module _ (b b₁ : List ℕ) (l : Leg) (s : Sound b) (on : LegOnGrid l) (st : Le
   -- SET
   pub stand_done : (b₂ : List ℕ) → Holds b₂ (book_of b₁) → Holds b₂ (change (Stand l) (book_of b))
   unfolding change
-  stand_done b₂ h = subst (Holds b₂) (λ i. record { lines = lines_stay i; closed = closed_stays i; leg = st.leg i; tour = tour_stays i }) h
+  stand_done b₂ h = subst (Holds b₂) (λ i. record { lines = lines_stay i; leg = st.leg i; tour = tour_stays i }) h
 
 -- ---- the tour begins and goes on
 
@@ -305,25 +220,22 @@ module _ (b b₀ : List ℕ) (s : Sound b) where
   begin_done p on st = toured_holds b b₀ (some (tour_at p 0)) s.whole st s.standing (record { on_grid = on; held = tt })
 
   module _ (l : Leg) (n : ℕ) (f : Follows l n b) where
-    abbrev all : List Site
-    all = sites_of (book_of b)
-
-    -- the last site of the leg's list is open
-    held_last : holds n all ≡ true
+    -- the last site of the leg's list is held
+    held_last : holds n (lines_in b) ≡ true
     held_last =
-        subst (λ (o : Option ℕ). LastHeld o all) f.last
-        (last_held l all none (split_of l all) (split_is l all (proper_numbered (book_of b) (sound_proper b s))).rules tt)
+        subst (λ (o : Option ℕ). LastHeld o (lines_in b)) f.last
+        (last_held l (lines_in b) none (split_of l (lines_in b)) (split_is l (lines_in b) (proper_numbered (book_of b) (sound_proper b s))).rules tt)
 
     -- so it has a number
     last_number_lem : site_number n ≡ some n
     last_number_lem =
-        let h = holds_member n all held_last in
-        rw (ne_eqb n 0 (λ z. omega (arith, h.named, (proper_numbers (book_of b) (sound_proper b s) h.line h.held).least))) refl
+        let h = holds_member n (lines_in b) held_last in
+        rw (ne_eqb n 0 (λ z. omega (arith, h.named, (s.whole.sites.numbers h.line h.held).least))) refl
 
-    goes_on_lem : goes_on (tour_in b) l.e (list_of (tour_leg (tour_in b) l.e) all) ≡ some (tour_at l.e n)
+    goes_on_lem : goes_on (tour_in b) l.e (list_of (tour_leg (tour_in b) l.e) (lines_in b)) ≡ some (tour_at l.e n)
     goes_on_lem =
-        ap (λ (o : Option Tour). goes_on o l.e (list_of (tour_leg o l.e) all)) f.runs
-        ∙ (λ i. some (cornered l.e (split_of (record { s = f.from i; e = l.e }) all)))
+        ap (λ (o : Option Tour). goes_on o l.e (list_of (tour_leg o l.e) (lines_in b))) f.runs
+        ∙ (λ i. some (cornered l.e (split_of (record { s = f.from i; e = l.e }) (lines_in b))))
         ∙ ap (λ (o : Option ℕ). some (record { corner = l.e; last = o })) (f.last ∙ sym last_number_lem)
 
     -- GONE ON

@@ -1,3 +1,4 @@
+pub mod Struck
 pub mod Indices
 pub mod Relining
 pub mod Accepting

@@ -1,13 +1,12 @@
 -- What a change of the sites leaves before the standing list is brought up to date.
 -- Assumes nothing.
-use Rattle.std.specs.Prelude.{◌≡◌, cond, List, ℕ, ◌+◌, ◌≤◌, eqb}
+use Rattle.std.specs.Prelude.{◌≡◌, List, ℕ, ◌+◌, ◌≤◌}
 use Rattle.std.proofs.Math.Option.{none}
 use Rattle.limits.specs.Limits.{max_sites, table_bytes}
 use Rattle.words.specs.Words.{Only}
 use Rattle.grid.specs.declared.Site.{Site}
 use Rattle.table_header.specs.Header.{leg_in, tour_in, length_in}
-use Rattle.book.specs.Book.{close_number, open_number}
-use Rattle.table_sites.specs.Lines.{lines_in, closed_in}
+use Rattle.table_sites.specs.Lines.{lines_in}
 use Rattle.table_standing.specs.Standing.{standing_in}
 use Rattle.tree_node.specs.declared.NodeEntry.{NodeEntry}
 use Rattle.tree_node.specs.Layout.{tree_start}
@@ -16,12 +15,11 @@ use Rattle.tree_node.specs.Tally.{total}
 use Rattle.tree_rules.specs.Rooted.{Rooted, leaves_in}
 use Rattle.table_rules.specs.Table.{Whole}
 
--- the table has other lines and closed numbers, its tree has their leaf entries, no tour is under way, and the standing
--- leg and the stored list are as they were
-pub record Relined (l : List Site) (c b b' : List ℕ) : Type 0 where
+-- the table has other lines, its tree has their leaf entries, no tour is under way, and the standing leg and the stored
+-- list are as they were
+pub record Relined (l : List Site) (b b' : List ℕ) : Type 0 where
   pub whole : Whole b'
   pub lines : lines_in b' ≡ l
-  pub closed : closed_in b' ≡ c
   pub leg : leg_in b' ≡ leg_in b
   pub tour : tour_in b' ≡ none
   pub list : length_in b ≤ max_sites → standing_in b' ≡ standing_in b
@@ -31,7 +29,3 @@ pub record Swapped (old new : NodeEntry) (b b' : List ℕ) : Type 0 where
   pub rooted : Rooted (root_in b') b'
   pub leaf : (w : NodeEntry → ℕ) → w old + total w (leaves_in b') ≡ w new + total w (leaves_in b)
   pub only : Only tree_start table_bytes b b'
-
--- the closed numbers c when the number n gets the mark m: opened by 0, else closed
-abbrev pub remarked : ℕ → ℕ → List ℕ → List ℕ
-remarked m n c = cond (eqb m 0) (open_number n c) (close_number n c)

@@ -5,32 +5,29 @@ use mathlib.Core.Logic.{◌≢◌}
 use mathlib.Core.Bool.{Bool, true, false, true≢false}
 use mathlib.Core.List.{List, []}
 use mathlib.Core.Option.{Option, none, some}
-use Prim.Native.Nat.{ℕ, ◌<◌}
+use Prim.Native.Nat.{ℕ}
 use native.Mathlib.Omega.{arith}
-use lib.ListN.{length, get_or}
+use lib.ListN.{length}
 use lib.Dec.{eqb}
 use borrow.Author.Tests.{eqb-true, eqb-false, eq-eqb, ne_eqb}
-use Rattle.limits.specs.Limits.{max_sites, table_bytes}
+use Rattle.limits.specs.Limits.{table_bytes}
 use Rattle.grid.specs.declared.Leg.{Leg}
 use Rattle.grid.specs.declared.Position.{Position}
 use Rattle.grid.specs.Position.{OnGrid, LegOnGrid}
 use Rattle.grid.specs.Says.{Says}
 use Rattle.grid.proofs.Says.{says_yes, says_no, says_map}
 use Rattle.list_row.specs.Vertices.{entries_in}
-use Rattle.book.specs.Book.{is_closed, sites_of, list_of, standing_list}
-use Rattle.book.proofs.Lines.{member_holds, absent_holds, holds_absent}
-use Rattle.book.proofs.Marks.{open_member, member_open, closed_absent}
+use Rattle.book.specs.Book.{sites_of, list_of, standing_list}
 use Rattle.book.specs.Tour.{Tour}
 use Rattle.book.specs.Proper.{LegOk, LastHeld, TourOk}
 use Rattle.table_header.specs.declared.Standing.{Standing}
 use Rattle.table_header.specs.declared.Touring.{Touring}
 use Rattle.table_header.specs.Header.{leg_in, HeaderOk, as_option, length_in, site_number, tour_at, tour_in, touring_as}
 use Rattle.table_sites.specs.declared.Found.{Found}
-use Rattle.table_sites.specs.Lines.{lines_in, mark_at, closed_in, no_site, Array, StandsAt, FoundAs}
-use Rattle.table_sites.proofs.Reading.{lines_length}
-use Rattle.table_sites.proofs.Finding.{found_at, found_absent, at_member, absent_held}
+use Rattle.table_sites.specs.Lines.{lines_in, Array, FoundAs}
+use Rattle.table_sites.proofs.Finding.{found_at, found_absent, at_held, absent_held}
 use Rattle.table_sites.specs.Rules.{SitesOk}
-use Rattle.table_sites.proofs.Kept.{sites_array, mark_open, mark_shut}
+use Rattle.table_sites.proofs.Kept.{sites_array}
 use Rattle.table_standing.specs.Layout.{list_start}
 use Rattle.table_standing.specs.Standing.{words_from, standing_in, numbers_of}
 use Rattle.table_standing.proofs.Numbers.{standing_length}
@@ -84,61 +81,39 @@ module _ (b : List ℕ) (s : Standing) (w : Whole b) (q : as_option s ≡ leg_in
 
 -- ---- the tour
 
--- "a remembered site that isn't held", or that is closed (C-19)
+-- "a remembered site that isn't held"
 module _ (b : List ℕ) (n : ℕ) where
-  pub unnamed_ok : n ≡ 0 → LastHeld (site_number n) (sites_of (book_of b))
+  pub unnamed_ok : n ≡ 0 → LastHeld (site_number n) (lines_in b)
   unnamed_ok z = rw (eq-eqb n 0 z) tt
 
-  module _ (f : Found) (k : ℕ) (nz : n ≢ 0) (r : Array b) (a : FoundAs f n (lines_in b)) where
+  module _ (f : Found) (k : ℕ) (nz : n ≢ 0) (a : FoundAs f n (lines_in b)) where
     named : site_number n ≡ some n
     named = rw (ne_eqb n 0 nz) refl
 
-    pub named_few : f ≡ Found.At k → k < max_sites
-    named_few e = omega (arith, (found_at e a).line, lines_length b, r.few)
+    pub named_ok : f ≡ Found.At k → LastHeld (site_number n) (lines_in b)
+    named_ok e = subst⁻¹ (λ (o : Option ℕ). LastHeld o (lines_in b)) named (at_held (found_at e a))
 
-    -- held: by its mark
-    pub named_says : f ≡ Found.At k → (m : ℕ) → m ≡ mark_at b k → Says (eqb m 0) (LastHeld (site_number n) (sites_of (book_of b)))
-    named_says e m q = go (eqb m 0) refl
-      where
-        st : StandsAt k n (lines_in b)
-        st = found_at e a
-
-        go : (t : Bool) → eqb m 0 ≡ t → Says t (LastHeld (site_number n) (sites_of (book_of b)))
-        go true z =
-            let o : is_closed n (closed_in b) ≡ false = mark_open b k n st r.rising m q (eqb-true m 0 z) in
-            subst⁻¹ (λ (o : Option ℕ). LastHeld o (sites_of (book_of b))) named
-            (member_holds n (sites_of (book_of b)) (get_or (lines_in b) k no_site)
-            (member_open (closed_in b) (lines_in b) (get_or (lines_in b) k no_site) (at_member st) (ap (λ (x : ℕ). is_closed x (closed_in b)) st.number ∙ o))
-            st.number)
-        go false z = λ h.
-            true≢false
-            (sym (subst (λ (o : Option ℕ). LastHeld o (sites_of (book_of b))) named h)
-            ∙ closed_absent (closed_in b) (lines_in b) n (mark_shut b k n st r.rising m q (eqb-false m 0 z)))
-
-    pub named_not : f ≡ Found.Absent k → ¬ LastHeld (site_number n) (sites_of (book_of b))
+    pub named_not : f ≡ Found.Absent k → ¬ LastHeld (site_number n) (lines_in b)
     named_not e h =
-        true≢false
-        (sym (subst (λ (o : Option ℕ). LastHeld o (sites_of (book_of b))) named h)
-        ∙ absent_holds n (sites_of (book_of b))
-        (λ p m. holds_absent n (lines_in b) (absent_held (found_absent e a)) p (open_member (closed_in b) (lines_in b) p m)))
+        true≢false (sym (subst (λ (o : Option ℕ). LastHeld o (lines_in b)) named h) ∙ absent_held (found_absent e a))
 
 -- "a stored corner off the grid"
 module _ (b : List ℕ) (r : Touring) (q : touring_as r ≡ tour_in b) where
-  pub idle_ok : r ≡ Touring.Idle → TourOk (tour_in b) (sites_of (book_of b))
-  idle_ok u = subst (λ (o : Option Tour). TourOk o (sites_of (book_of b))) (sym (ap touring_as u) ∙ q) tt
+  pub idle_ok : r ≡ Touring.Idle → TourOk (tour_in b) (lines_in b)
+  idle_ok u = subst (λ (o : Option Tour). TourOk o (lines_in b)) (sym (ap touring_as u) ∙ q) tt
 
   module _ (p : Position) (n : ℕ) (u : r ≡ Touring.From p n) (t : Bool) (s : Says t (OnGrid p)) where
     tour_is : tour_in b ≡ some (tour_at p n)
     tour_is = sym q ∙ ap touring_as u
 
-    pub corner_off : t ≡ false → ¬ TourOk (tour_in b) (sites_of (book_of b))
-    corner_off e h = says_no t s e (subst (λ (o : Option Tour). TourOk o (sites_of (book_of b))) tour_is h).on_grid
+    pub corner_off : t ≡ false → ¬ TourOk (tour_in b) (lines_in b)
+    corner_off e h = says_no t s e (subst (λ (o : Option Tour). TourOk o (lines_in b)) tour_is h).on_grid
 
-    pub corner_says : (v : Bool) → t ≡ true → Says v (LastHeld (site_number n) (sites_of (book_of b))) → Says v (TourOk (tour_in b) (sites_of (book_of b)))
+    pub corner_says : (v : Bool) → t ≡ true → Says v (LastHeld (site_number n) (lines_in b)) → Says v (TourOk (tour_in b) (lines_in b))
     corner_says v e h =
         says_map v
-        (λ x. subst⁻¹ (λ (o : Option Tour). TourOk o (sites_of (book_of b))) tour_is (record { on_grid = says_yes t s e; held = x }))
-        (λ x. (subst (λ (o : Option Tour). TourOk o (sites_of (book_of b))) tour_is x).held)
+        (λ x. subst⁻¹ (λ (o : Option Tour). TourOk o (lines_in b)) tour_is (record { on_grid = says_yes t s e; held = x }))
+        (λ x. (subst (λ (o : Option Tour). TourOk o (lines_in b)) tour_is x).held)
         h
 
 -- ---- sites, header, tour and tree
@@ -153,10 +128,10 @@ module _ (b : List ℕ) (len : length b ≡ table_bytes) where
   pub sites_yes : (q : Bool) → Says q (SitesOk b) → q ≡ true → Array b
   sites_yes q s e = sites_array len (says_yes q s e)
 
-  pub tour_not : (q : Bool) → Says q (TourOk (tour_in b) (sites_of (book_of b))) → q ≡ false → ¬ Whole b
+  pub tour_not : (q : Bool) → Says q (TourOk (tour_in b) (lines_in b)) → q ≡ false → ¬ Whole b
   tour_not q s e w = says_no q s e w.tour
 
-  pub whole_says : (q p o r : Bool) → Says q (SitesOk b) → q ≡ true → Says p (HeaderOk b) → p ≡ true → Says o (TourOk (tour_in b) (sites_of (book_of b))) → o ≡ true
+  pub whole_says : (q p o r : Bool) → Says q (SitesOk b) → q ≡ true → Says p (HeaderOk b) → p ≡ true → Says o (TourOk (tour_in b) (lines_in b)) → o ≡ true
       → Says r (Tied b) → Says r (Whole b)
   whole_says q p o r s e h f u g t =
       says_map r (λ x. record { len = len; sites = says_yes q s e; header = says_yes p h f; tour = says_yes o u g; tree = x }) (λ w. w.tree) t

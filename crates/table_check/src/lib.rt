@@ -4,13 +4,12 @@ ghost use Rattle.std.specs.Prelude.{◌≡◌, ◌≤◌, length};
 ghost use Rattle.limits.specs.Limits.{table_bytes};
 ghost use Rattle.grid.specs.Says.{Says};
 ghost use Rattle.list_row.specs.Vertices.{row_bytes, Held, entries_in};
-ghost use Rattle.book.specs.Book.{sites_of};
 ghost use Rattle.book.specs.Proper.{LastHeld, TourOk};
 ghost use Rattle.table_header.specs.Header.{site_number, tour_in};
-ghost use Rattle.table_sites.specs.Lines.{Array};
+ghost use Rattle.table_sites.specs.Lines.{lines_in, Array};
 ghost use Rattle.table_standing.specs.Standing.{standing_in, numbers_of};
 ghost use Rattle.tree_check.specs.Marks.{seen_bytes};
-ghost use Rattle.table_rules.specs.Table.{book_of, Whole, StandingOk};
+ghost use Rattle.table_rules.specs.Table.{Whole, StandingOk};
 
 use grid::Leg;
 use table_header::{Standing, Touring};
@@ -59,20 +58,17 @@ pub fn standing_ok(t: &[u8], work: &mut [u8]) -> bool
     }
 }
 
-// Whether number n is 0, or that of a site that is held and open.
+// Whether number n is 0, or that of a site that is held.
 fn remembered_ok(t: &[u8], n: u16) -> bool
     requires { Array t.now }
-    ensures { Says result (LastHeld (site_number n) (sites_of (book_of t.now))) }
+    ensures { Says result (LastHeld (site_number n) (lines_in t.now)) }
 {
     if n == 0 {
         return true;
     }
     let found = table_sites::find(t, n);
     match found {
-        Found::At(k) => {
-            let mark = table_sites::mark(t, k);
-            mark == 0
-        }
+        Found::At(_) => true,
         Found::Absent(_) => false,
     }
 }
@@ -80,7 +76,7 @@ fn remembered_ok(t: &[u8], n: u16) -> bool
 // Whether the tour keeps its rules.
 fn tour_ok(t: &[u8]) -> bool
     requires { (length t.now ≡ table_bytes) × Array t.now }
-    ensures { Says result (TourOk (tour_in t.now) (sites_of (book_of t.now))) }
+    ensures { Says result (TourOk (tour_in t.now) (lines_in t.now)) }
 {
     let tour = table_header::tour(t);
     match tour {

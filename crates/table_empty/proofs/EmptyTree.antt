@@ -56,20 +56,6 @@ empty_low i h = below_stack i (omega arith) ∙ numbered_only.low i h ∙ no_byt
 pub empty_behind : (i : ℕ) → layout_start + 2 ≤ i → i < free_start → get_or empty_table i 0 ≡ 0
 empty_behind i l h = below_stack i h ∙ numbered_only.high i l ∙ no_byte i h
 
-stacked_past : (k : ℕ) (b : List ℕ) (i : ℕ) → stack_start + 2 * k ≤ i → get_or (stacked k b) i 0 ≡ get_or b i 0
-unfolding stacked
-stacked_past zero b i h = refl
-stacked_past (suc k) b i h = (only_put_word (stacked k b) (stack_start + 2 * k) k).high i (omega arith) ∙ stacked_past k b i (omega arith)
-
--- EVERY BYTE PAST THE STACK is 0
-pub empty_past : (i : ℕ) → stack_start + 2 * max_nodes ≤ i → i < table_bytes → get_or empty_table i 0 ≡ 0
-unfolding empty_table
-empty_past i l h =
-    (only_put_word (stacked max_nodes numbered) free_start max_nodes).high i (omega arith)
-    ∙ stacked_past max_nodes numbered i l
-    ∙ numbered_only.high i (omega arith)
-    ∙ get_or-replicate {A = ℕ} table_bytes i 0 0 h
-
 -- every number before it too
 pub empty_word : (i : ℕ) → i + 2 ≤ layout_start → word_at empty_table i ≡ 0
 unfolding word_at

@@ -29,7 +29,7 @@ layout_start = 14
 
 -- the number of this layout: "its layout is the team's and stands in docs/"
 abbrev pub layout_number : ℕ
-layout_number = 3
+layout_number = 2
 
 -- 1 while a tour is under way, else 0
 abbrev pub tour_start : ℕ

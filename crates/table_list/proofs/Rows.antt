@@ -25,16 +25,15 @@ use Rattle.list_row.specs.Places.{site_at}
 use Rattle.list_row.specs.Vertices.{row_bytes, place_at, vertex_in, stack, Held, Lists}
 use Rattle.book.specs.Book.{sites_of, holds, list_of}
 use Rattle.book.proofs.Lines.{member_holds, rising_one}
-use Rattle.book.proofs.Marks.{open_member}
 use Rattle.table_header.specs.Header.{leg_in, length_in}
-use Rattle.table_sites.specs.Lines.{lines_in, closed_in}
+use Rattle.table_sites.specs.Lines.{lines_in}
 use Rattle.table_sites.specs.Rules.{SitesOk}
+use Rattle.table_sites.proofs.Reading.{lines_length}
 use Rattle.table_standing.specs.Layout.{list_start}
 use Rattle.table_standing.specs.Standing.{words_from, standing_in, numbers_of, stored_number}
 use Rattle.table_standing.proofs.Numbers.{numbers_length, standing_length}
 use Rattle.table_rules.specs.Table.{book_of, Sound}
 use Rattle.table_rules.specs.Listing.{ListsTable}
-use Rattle.table_rules.proofs.Books.{open_few}
 use Rattle.table_list.specs.Loading.{PlaceOf, NumbersHeld, PlacesOf}
 
 -- the numbers of points
@@ -241,8 +240,8 @@ module _ (b : List ℕ) (l : Leg) (s : Sound b) (set : leg_in b ≡ some l) wher
   sound_stored =
       record {
         sites = s.whole.sites;
-        lines = open_member (closed_in b) (lines_in b);
-        few = open_few b s.whole;
+        lines = λ p m. m;
+        few = omega (arith, lines_length b, s.whole.sites.few);
         list = s.standing.list ∙ ap (λ (o : Option Leg). numbers_of (list_of o (sites_of (book_of b)))) set;
       }
 

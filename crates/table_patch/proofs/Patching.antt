@@ -4,7 +4,7 @@ use mathlib.Core.Path.{◌≡◌, refl, sym, ap, subst, ◌∙◌}
 use mathlib.Core.Bool.{Bool, true, false, true≢false}
 use mathlib.Core.List.{List, [], ◌∷◌, Memᴰ}
 use mathlib.Core.Option.{Option, none, some}
-use Prim.Native.Nat.{ℕ, suc, ◌+◌, ◌≤◌, ◌<◌}
+use Prim.Native.Nat.{ℕ, suc, ◌+◌, ◌≤◌}
 use native.Mathlib.Omega.{arith}
 use lib.ListN.{length}
 use Rattle.limits.specs.Limits.{max_sites}
@@ -25,19 +25,17 @@ use Rattle.list_row.specs.declared.Vertex.{Vertex}
 use Rattle.list_row.specs.Vertices.{point_at, IsVertex, row_bytes, Held, entries_in}
 use Rattle.list_row.proofs.Listing.{lists_is}
 use Rattle.list_skip.specs.Skipping.{Space, Dealt}
-use Rattle.book.specs.Book.{is_closed, sites_of, strike_line, holds, list_of, standing_list}
-use Rattle.book.proofs.Marks.{open_member, member_open, open_rising, closed_absent}
+use Rattle.book.specs.Book.{sites_of, strike_line, holds, list_of, standing_list}
 use Rattle.book.specs.Proper.{Rising, LegOk}
 use Rattle.book.proofs.Lines.{HeldLine, holds_member, member_holds, strike_from, strike_sites, strike_none, strike_length}
 use Rattle.table_header.specs.declared.Standing.{Standing}
 use Rattle.table_header.specs.Header.{leg_in, as_option, length_in}
-use Rattle.table_sites.specs.Lines.{lines_in, mark_at, closed_in, StandsAt}
+use Rattle.table_sites.specs.Lines.{lines_in}
 use Rattle.table_sites.proofs.Reading.{lines_length}
-use Rattle.table_sites.proofs.Kept.{mark_open, mark_shut}
 use Rattle.table_standing.specs.Standing.{standing_in, numbers_of, ListStored}
 use Rattle.table_standing.proofs.Numbers.{standing_length}
 use Rattle.table_rules.specs.Table.{book_of, Whole, Sound}
-use Rattle.table_rules.proofs.Books.{open_sites, open_few, sound_few}
+use Rattle.table_rules.proofs.Books.{whole_numbered, sound_few}
 use Rattle.demands.specs.Step.{Holds}
 use Rattle.table_list.specs.Loading.{PlaceOf, NumbersHeld, PlacesOf, EntryShuts}
 use Rattle.table_list.proofs.Rows.{Stored, stored_few, stored_held, places_held, places_list}
@@ -103,13 +101,9 @@ pub unnamed_list : (o : Option Leg) (s : List Site) (n : ℕ) → Rising s → N
 unnamed_list none s n r num out = refl
 unnamed_list (some l) s n r num out = ap numbers_of (unnamed_gone l s n r num out)
 
--- the numbers of the open sites rise
-rising_open : (b : List ℕ) → Whole b → Rising (sites_of (book_of b))
-rising_open b w = open_rising (closed_in b) (lines_in b) w.sites.rising
-
--- WHEN ONE LINE OR ITS MARK HAS CHANGED in a sound table, and its list has not
+-- WHEN ONE LINE HAS CHANGED in a sound table, and its list has not
 pub patchable : (b b₁ : List ℕ) (n : ℕ) → Sound b → Whole b₁ → leg_in b₁ ≡ leg_in b → (length_in b ≤ max_sites → standing_in b₁ ≡ standing_in b)
-    → strike_line n (sites_of (book_of b₁)) ≡ strike_line n (sites_of (book_of b)) → Patchable n b₁
+    → strike_line n (lines_in b₁) ≡ strike_line n (lines_in b) → Patchable n b₁
 patchable b b₁ n s w leg kept others =
     let list : standing_in b₁ ≡ standing_in b = kept (sound_few b s) in
     record {
@@ -118,7 +112,7 @@ patchable b b₁ n s w leg kept others =
       few = omega (arith, standing_length b, standing_length b₁, ap length list, sound_few b s);
       others = λ out. record {
         list = list ∙ s.standing.list
-            ∙ unnamed_list (leg_in b) (sites_of (book_of b)) n (rising_open b s.whole) (open_sites b s.whole)
+            ∙ unnamed_list (leg_in b) (lines_in b) n s.whole.sites.rising (whole_numbered b s.whole)
             (λ m. out (subst (Memᴰ n) (sym (list ∙ s.standing.list)) m))
             ∙ sym (λ i. numbers_of (list_of (leg i) (others i)));
       };
@@ -148,44 +142,26 @@ module _ (b : List ℕ) (n : ℕ) (h : Patchable n b) where
   patch_others false s e = h.others s
 
   -- A SITE THAT HAS GONE and was not named
-  pub patch_gone : (q : Bool) → Says q (Memᴰ n (standing_in b)) → q ≡ false → holds n (sites_of (book_of b)) ≡ false → Holds b (book_of b)
+  pub patch_gone : (q : Bool) → Says q (Memᴰ n (standing_in b)) → q ≡ false → holds n (lines_in b) ≡ false → Holds b (book_of b)
   patch_gone q s e gone =
       same_holds b h.whole h.leg
       ((patch_others q s e).list
       ∙ ap (λ (x : List Site). numbers_of (list_of (leg_in b) x)) (strike_none n (sites_of (book_of b)) gone))
 
--- ---- by the mark
-
-module _ (b : List ℕ) (n k m : ℕ) (h : Patchable n b) (f : StandsAt k n (lines_in b)) where
-  pub patch_few : k < max_sites
-  patch_few = omega (arith, f.line, lines_length b, h.whole.sites.few)
-
-  pub patch_open : m ≡ mark_at b k → m ≡ 0 → is_closed n (closed_in b) ≡ false
-  patch_open e z = mark_open b k n f h.whole.sites.rising m e z
-
-  pub patch_shut : m ≡ mark_at b k → (m ≡ 0 → ⊥) → holds n (sites_of (book_of b)) ≡ false
-  patch_shut e z = closed_absent (closed_in b) (lines_in b) n (mark_shut b k n f h.whole.sites.rising m e z)
-
 -- ---- one site dealt in
 
-module _ (b : List ℕ) (n : ℕ) (l : Leg) (w : Whole b) (leg : LegOk (leg_in b)) (set : leg_in b ≡ some l) (o : ListsOthers n b) (p : ℕ) (q : PlaceOf b n p) (free : is_closed n (closed_in b) ≡ false) where
-  abbrev all : List Site
-  all = sites_of (book_of b)
+module _ (b : List ℕ) (n : ℕ) (l : Leg) (w : Whole b) (leg : LegOk (leg_in b)) (set : leg_in b ≡ some l) (o : ListsOthers n b) (p : ℕ) (q : PlaceOf b n p) where
+  held : holds n (lines_in b) ≡ true
+  held = member_holds n (lines_in b) (site_at b p) q.line q.number
 
-  there : Memᴰ (site_at b p) (sites_of (book_of b))
-  there = member_open (closed_in b) (lines_in b) (site_at b p) q.line (ap (λ (x : ℕ). is_closed x (closed_in b)) q.number ∙ free)
-
-  held : holds n (sites_of (book_of b)) ≡ true
-  held = member_holds n (sites_of (book_of b)) (site_at b p) there q.number
-
-  fewer : 1 + length (strike_line n (sites_of (book_of b))) ≤ max_sites
-  fewer = omega (arith, strike_length n (sites_of (book_of b)) (rising_open b w) held, open_few b w)
+  fewer : 1 + length (strike_line n (lines_in b)) ≤ max_sites
+  fewer = omega (arith, strike_length n (lines_in b) w.sites.rising held, lines_length b, w.sites.few)
 
   others : Stored l (strike_line n (sites_of (book_of b))) b
   others =
       record {
         sites = w.sites;
-        lines = λ x m. open_member (closed_in b) (lines_in b) x (strike_from n (sites_of (book_of b)) x m);
+        lines = strike_from n (lines_in b);
         few = omega (arith, fewer);
         list = o.list ∙ ap (λ (x : Option Leg). numbers_of (list_of x (strike_line n (sites_of (book_of b))))) set;
       }
@@ -200,13 +176,13 @@ module _ (b : List ℕ) (n : ℕ) (l : Leg) (w : Whole b) (leg : LegOk (leg_in b
   pub shut_holds : (x : Vertex) → IsVertex l b p x → (c : Bool) → c ≡ true → If c (EntryShuts l b x.a x.c) → Holds b (book_of b)
   unfolding split_of
   shut_holds x v c e h =
-      let same : SameSites all (site_at b p ∷ strike_line n all) = strike_sites n all (site_at b p) (rising_open b w) there q.number in
-      let num = open_sites b w in
+      let same : SameSites (lines_in b) (site_at b p ∷ strike_line n (lines_in b)) = strike_sites n (lines_in b) (site_at b p) w.sites.rising q.line q.number in
+      let num = whole_numbered b w in
       let out = entry_shuts_out l _ b others x.a x.c (shut_true l b x.a x.c c e h) in
-      let hull = skip_hull out (point_at l b p) (omega (arith, v.a_is)) (omega (arith, v.c_is)) (build_hull (points l (strike_line n all))) in
-      let list = hull_list l (site_at b p ∷ strike_line n all) all
-      (numbered_same (site_at b p ∷ strike_line n all) all same num) num same
-      (build (points l (strike_line n all))) hull in
+      let hull = skip_hull out (point_at l b p) (omega (arith, v.a_is)) (omega (arith, v.c_is)) (build_hull (points l (strike_line n (lines_in b)))) in
+      let list = hull_list l (site_at b p ∷ strike_line n (lines_in b)) (lines_in b)
+      (numbered_same (site_at b p ∷ strike_line n (lines_in b)) (lines_in b) same num) num same
+      (build (points l (strike_line n (lines_in b)))) hull in
       same_holds b w leg
       (others.list ∙ ap numbers_of list ∙ sym (ap (λ (x : Option Leg). numbers_of (list_of x (sites_of (book_of b)))) set))
 
@@ -223,10 +199,10 @@ module _ (b : List ℕ) (n : ℕ) (l : Leg) (w : Whole b) (leg : LegOk (leg_in b
     -- DEALT IN
     pub dealt_holds : (j : ℕ) (r'' b' : List ℕ) → Dealt l b r' k p r'' j → ListStored (entries_in l b r'' j) b b' → Holds b' (book_of b)
     dealt_holds j r'' b' d st =
-        let same : SameSites all (site_at b p ∷ strike_line n all) = strike_sites n all (site_at b p) (rising_open b w) there q.number in
-        let num = open_sites b w in
-        let list = lists_is l b r'' j (site_at b p ∷ strike_line n all) all
-        (numbered_same (site_at b p ∷ strike_line n all) all same num) num same
-        (d.lists (strike_line n all) (places_list l _ b others k r r' (omega arith) m)) in
+        let same : SameSites (lines_in b) (site_at b p ∷ strike_line n (lines_in b)) = strike_sites n (lines_in b) (site_at b p) w.sites.rising q.line q.number in
+        let num = whole_numbered b w in
+        let list = lists_is l b r'' j (site_at b p ∷ strike_line n (lines_in b)) (lines_in b)
+        (numbered_same (site_at b p ∷ strike_line n (lines_in b)) (lines_in b) same num) num same
+        (d.lists (strike_line n (lines_in b)) (places_list l _ b others k r r' (omega arith) m)) in
         stored_holds b b' w (entries_in l b r'' j) st leg
         (ap numbers_of list ∙ sym (ap (λ (x : Option Leg). numbers_of (list_of x (sites_of (book_of b)))) set))

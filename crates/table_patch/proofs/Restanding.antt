@@ -24,7 +24,7 @@ use Rattle.table_rules.specs.Table.{book_of, Whole}
 use Rattle.table_rules.specs.Listing.{ListsTable}
 use Rattle.table_rules.specs.Fault.{StandingFault}
 use Rattle.table_rules.proofs.Same.{leg_same}
-use Rattle.table_rules.proofs.Fault.{fault_lines, fault_closed, fault_tour, fault_whole}
+use Rattle.table_rules.proofs.Fault.{fault_lines, fault_tour, fault_whole}
 use Rattle.demands.specs.Step.{Holds}
 
 module _ (b b' : List ℕ) (w : Whole b) (es : List Entry) (st : ListStored es b b') where
@@ -43,7 +43,7 @@ module _ (b b' : List ℕ) (w : Whole b) (es : List Entry) (st : ListStored es b
   leg_stays = leg_same b b' (λ i l h. st.low i h)
 
   book_stays : book_of b' ≡ book_of b
-  book_stays = λ i. record { lines = fault_lines b b' w outside i; closed = fault_closed b b' w outside i; leg = leg_stays i; tour = fault_tour b b' w outside i }
+  book_stays = λ i. record { lines = fault_lines b b' w outside i; leg = leg_stays i; tour = fault_tour b b' w outside i }
 
   -- THE RIGHT LIST STORED makes the table sound
   pub stored_holds : LegOk (leg_in b) → numbers_of es ≡ numbers_of (standing_list (book_of b)) → Holds b' (book_of b)

@@ -9,11 +9,11 @@ use Rattle.table_header.specs.Header.{leg_in, length_in}
 use Rattle.table_standing.specs.Standing.{standing_in, numbers_of}
 use Rattle.table_rules.specs.Table.{book_of, Whole}
 
--- the stored list is that of the open sites other than n
+-- the stored list is that of the sites other than n
 pub record ListsOthers (n : ℕ) (b : List ℕ) : Type 0 where
   pub list : standing_in b ≡ numbers_of (list_of (leg_in b) (strike_line n (sites_of (book_of b))))
 
--- the table but for its list is sound; the list is that of the open sites other than n, unless it names n
+-- the table but for its list is sound; the list is that of the sites other than n, unless it names n
 pub record Patchable (n : ℕ) (b : List ℕ) : Type 0 where
   pub whole : Whole b
   pub leg : LegOk (leg_in b)

@@ -3,10 +3,10 @@
 ghost use Rattle.std.specs.Prelude.{◌≡◌, false, ◌≤◌, length};
 ghost use Rattle.std.proofs.Math.Option.{some};
 ghost use Rattle.list_row.specs.Vertices.{row_bytes};
-ghost use Rattle.book.specs.Book.{is_closed, sites_of, holds};
+ghost use Rattle.book.specs.Book.{holds};
 ghost use Rattle.book.specs.Proper.{LegOk};
 ghost use Rattle.table_header.specs.Header.{leg_in};
-ghost use Rattle.table_sites.specs.Lines.{lines_in, closed_in, StandsAt};
+ghost use Rattle.table_sites.specs.Lines.{lines_in, StandsAt};
 ghost use Rattle.table_rules.specs.Table.{book_of, Whole};
 ghost use Rattle.demands.specs.Step.{Holds};
 ghost use Rattle.table_list.specs.Loading.{PlaceOf};
@@ -30,11 +30,11 @@ pub fn restand(t: &mut [u8], work: &mut [u8])
     }
 }
 
-// Deals site n, which is open and whose place is p, into the list of the leg over the other open sites. Places are
-// loaded from the changed table: a record that comes moves those behind it.
+// Deals site n, whose place is p, into the list of the leg over the other sites. Places are loaded from the changed
+// table: a record that comes moves those behind it.
 fn deal_in(t: &mut [u8], work: &mut [u8], leg: Leg, n: u16, p: usize)
     requires whole { Whole t.old × LegOk (leg_in t.old) × (leg_in t.old ≡ some leg) × (row_bytes ≤ length work.old) }
-    requires lists_others { ListsOthers n t.old × PlaceOf t.old n p × (is_closed n (closed_in t.old) ≡ false) }
+    requires lists_others { ListsOthers n t.old × PlaceOf t.old n p }
     ensures { Holds t.new (book_of t.old) }
 {
     let k = table_list::places(t, work);
@@ -42,11 +42,11 @@ fn deal_in(t: &mut [u8], work: &mut [u8], leg: Leg, n: u16, p: usize)
     table_standing::store_list(t, work, leg, m);
 }
 
-// Deals site n, of record k, into the list of the leg over the other open sites. Most sites are far from the leg: an
-// end of the list keeps them out, and it stays.
+// Deals site n, of record k, into the list of the leg over the other sites. Most sites are far from the leg: an end
+// of the list keeps them out, and it stays.
 fn deal_along(t: &mut [u8], work: &mut [u8], leg: Leg, n: u16, k: usize)
     requires whole { Whole t.old × LegOk (leg_in t.old) × (leg_in t.old ≡ some leg) × (row_bytes ≤ length work.old) }
-    requires lists_others { ListsOthers n t.old × StandsAt k n (lines_in t.old) × (is_closed n (closed_in t.old) ≡ false) }
+    requires lists_others { ListsOthers n t.old × StandsAt k n (lines_in t.old) }
     ensures { Holds t.new (book_of t.old) }
 {
     let p = table_list::place_at(t, n, k);
@@ -57,10 +57,10 @@ fn deal_along(t: &mut [u8], work: &mut [u8], leg: Leg, n: u16, k: usize)
     deal_in(t, work, leg, n, p);
 }
 
-// Deals site n, of record k, into the standing list, which is that of the other open sites.
+// Deals site n, of record k, into the standing list, which is that of the other sites.
 fn deal_site(t: &mut [u8], work: &mut [u8], n: u16, k: usize)
     requires whole { Whole t.old × LegOk (leg_in t.old) × (row_bytes ≤ length work.old) }
-    requires lists_others { ListsOthers n t.old × StandsAt k n (lines_in t.old) × (is_closed n (closed_in t.old) ≡ false) }
+    requires lists_others { ListsOthers n t.old × StandsAt k n (lines_in t.old) }
     ensures { Holds t.new (book_of t.old) }
 {
     let s = table_header::leg(t);
@@ -70,12 +70,11 @@ fn deal_site(t: &mut [u8], work: &mut [u8], n: u16, k: usize)
     }
 }
 
-// Brings the standing list up to date when site n, of record k, is open, and has come or moved or was opened. A list
-// that does not name n is that of the other open sites, so n is dealt in. Where n is named, sites that it kept out may
-// come in, and only a search finds them.
-fn patch_held(t: &mut [u8], work: &mut [u8], n: u16, k: usize)
-    requires { Patchable n t.old × StandsAt k n (lines_in t.old) × (is_closed n (closed_in t.old) ≡ false)
-        × (row_bytes ≤ length work.old) }
+// Brings the standing list up to date when site n, of record k, has come or moved. A list that does not name n is
+// that of the other sites, so n is dealt in. Where n is named, sites that it kept out may come in, and only a search
+// finds them.
+pub fn patch_held(t: &mut [u8], work: &mut [u8], n: u16, k: usize)
+    requires { Patchable n t.old × StandsAt k n (lines_in t.old) × (row_bytes ≤ length work.old) }
     ensures { Holds t.new (book_of t.old) }
 {
     if table_list::lists(t, n) {
@@ -85,29 +84,13 @@ fn patch_held(t: &mut [u8], work: &mut [u8], n: u16, k: usize)
     deal_site(t, work, n, k);
 }
 
-// Brings the standing list up to date when site n is not open: it has gone, or is closed. A list that does not name it
-// stays.
+// Brings the standing list up to date when site n has gone: a list that does not name it stays.
 pub fn patch_gone(t: &mut [u8], work: &mut [u8], n: u16)
-    requires { Patchable n t.old × (holds n (sites_of (book_of t.old)) ≡ false)
-        × (row_bytes ≤ length work.old) }
+    requires { Patchable n t.old × (holds n (lines_in t.old) ≡ false) × (row_bytes ≤ length work.old) }
     ensures { Holds t.new (book_of t.old) }
 {
     let named = table_list::lists(t, n);
     if named {
         restand(t, work);
     }
-}
-
-// Brings the standing list up to date when site n, of record k, has come or moved or has another mark: its mark says
-// whether it is dealt in.
-pub fn patch(t: &mut [u8], work: &mut [u8], n: u16, k: usize)
-    requires { Patchable n t.old × StandsAt k n (lines_in t.old) × (row_bytes ≤ length work.old) }
-    ensures { Holds t.new (book_of t.old) }
-{
-    let mark = table_sites::mark(t, k);
-    if mark == 0 {
-        patch_held(t, work, n, k);
-        return;
-    }
-    patch_gone(t, work, n);
 }

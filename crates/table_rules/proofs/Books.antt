@@ -13,14 +13,12 @@ use Rattle.split.specs.SplitList.{Numbered}
 use Rattle.split.specs.SplitOf.{split_of}
 use Rattle.split.proofs.Exists.{split_is}
 use Rattle.split.proofs.Once.{few}
-use Rattle.book.specs.Book.{Book, sites_of, list_of}
+use Rattle.book.specs.Book.{Book, list_of}
 use Rattle.book.specs.Proper.{Proper}
 use Rattle.book.proofs.Lines.{rising_one}
-use Rattle.book.proofs.Marks.{open_length, open_numbered}
 use Rattle.table_header.specs.Header.{leg_in, length_in}
-use Rattle.table_sites.specs.Lines.{lines_in, closed_in}
+use Rattle.table_sites.specs.Lines.{lines_in}
 use Rattle.table_sites.proofs.Reading.{lines_length}
-use Rattle.table_sites.proofs.Kept.{closed_ok}
 use Rattle.table_standing.specs.Standing.{numbers_of}
 use Rattle.table_standing.proofs.Numbers.{numbers_length, standing_length}
 use Rattle.table_rules.specs.Table.{book_of, Whole, StandingOk, Sound}
@@ -32,28 +30,21 @@ sound_len b s = s.whole.len
 pub whole_numbered : (b : List ℕ) → Whole b → Numbered (lines_in b)
 whole_numbered b w = record { small = λ p m. (w.sites.numbers p m).most; one = rising_one (lines_in b) w.sites.rising }
 
--- nor is one open twice
-pub open_sites : (b : List ℕ) → Whole b → Numbered (sites_of (book_of b))
-open_sites b w = open_numbered (closed_in b) (lines_in b) (whole_numbered b w)
-
-pub open_few : (b : List ℕ) → Whole b → length (sites_of (book_of b)) ≤ max_sites
-open_few b w = omega (arith, open_length (closed_in b) (lines_in b), lines_length b, w.sites.few)
-
 -- no more entries than sites
 list_few : (o : Option Leg) (s : List Site) → Numbered s → length (numbers_of (list_of o s)) ≤ length s
 unfolding numbers_of
 list_few none s num = omega arith
 list_few (some l) s num = omega (arith, numbers_length (split_of l s), few l s num (split_of l s) (split_is l s num))
 
-pub standing_few : (b : List ℕ) → Whole b → StandingOk b → length_in b ≤ length (sites_of (book_of b))
-standing_few b w s = omega (arith, standing_length b, ap length s.list, list_few (leg_in b) (sites_of (book_of b)) (open_sites b w))
+pub standing_few : (b : List ℕ) → Whole b → StandingOk b → length_in b ≤ length (lines_in b)
+standing_few b w s = omega (arith, standing_length b, ap length s.list, list_few (leg_in b) (lines_in b) (whole_numbered b w))
 
 pub sound_few : (b : List ℕ) → Sound b → length_in b ≤ max_sites
-sound_few b s = omega (arith, standing_few b s.whole s.standing, open_few b s.whole)
+sound_few b s = omega (arith, standing_few b s.whole s.standing, lines_length b, s.whole.sites.few)
 
--- the lines of a table with their marks as a book, with no standing leg and no tour
+-- the lines of a table as a book, with no standing leg and no tour
 abbrev pub lines_alone : List ℕ → Book
-lines_alone b = record { lines = lines_in b; closed = closed_in b; leg = none; tour = none }
+lines_alone b = record { lines = lines_in b; leg = none; tour = none }
 
 -- WHERE THE FIRST HALF IS KEPT the lines are proper, whatever the standing leg is
 pub whole_proper : (b : List ℕ) → Whole b → Proper (lines_alone b)
@@ -62,7 +53,6 @@ whole_proper b w =
       rising = w.sites.rising;
       numbers = w.sites.numbers;
       on_grid = w.sites.on_grid;
-      marks = closed_ok b w.sites.rising;
       few = omega (arith, lines_length b, w.sites.few);
       leg_ok = tt;
       tour_ok = tt;
@@ -75,7 +65,6 @@ sound_proper b s =
       rising = s.whole.sites.rising;
       numbers = s.whole.sites.numbers;
       on_grid = s.whole.sites.on_grid;
-      marks = closed_ok b s.whole.sites.rising;
       few = omega (arith, lines_length b, s.whole.sites.few);
       leg_ok = s.standing.leg;
       tour_ok = s.whole.tour;

@@ -8,22 +8,18 @@ use Rattle.words.specs.Words.{word_at, Only}
 use Rattle.table_header.specs.Layout.{flag_start, leg_start, length_start, layout_start, tour_start, corner_start, tour_end}
 use Rattle.table_header.specs.Header.{tour_in, ZeroFrom, FlagOk, HeaderOk}
 use Rattle.table_header.proofs.Legs.{unset_is}
-use Rattle.table_sites.specs.Lines.{lines_in, closed_in}
+use Rattle.table_sites.specs.Lines.{lines_in}
 use Rattle.tree_node.specs.Layout.{tree_start}
 use Rattle.table_rules.specs.Table.{Whole}
 use Rattle.table_rules.specs.Fault.{StandingFault}
-use Rattle.table_rules.proofs.Same.{word_same, lines_same, closed_same, sites_same, tour_same, flag_same, tied_below}
+use Rattle.table_rules.proofs.Same.{word_same, lines_same, sites_same, tour_same, flag_same, tied_below}
 
 module _ (b b' : List ℕ) (w : Whole b) (f : StandingFault b b') where
   -- THE LINES STAY
   pub fault_lines : lines_in b' ≡ lines_in b
   fault_lines = lines_same b b' (λ i l h. f.low i (omega arith)) (λ i l h. f.between i (omega arith) (omega arith)) w.sites.few
 
-  -- and so do their marks
-  pub fault_closed : closed_in b' ≡ closed_in b
-  fault_closed = closed_same b b' (λ i l h. f.low i (omega arith)) (λ i l h. f.between i (omega arith) (omega arith)) w.sites.few
-
-  -- and the tour
+  -- and so does the tour
   pub fault_tour : tour_in b' ≡ tour_in b
   fault_tour = tour_same b b' (λ i l h. f.between i (omega arith) (omega arith))
 
@@ -62,6 +58,6 @@ module _ (b b' : List ℕ) (w : Whole b) (f : StandingFault b b') where
         len = f.len ∙ w.len;
         sites = sites_same b b' (λ i l h. f.low i (omega arith)) (λ i l h. f.between i (omega arith) (omega arith)) w.sites;
         header = header_stays;
-        tour = rw (fault_tour, fault_lines, fault_closed) w.tour;
-        tree = tied_below b b' below fault_lines fault_closed w.tree;
+        tour = rw (fault_tour, fault_lines) w.tour;
+        tree = tied_below b b' below fault_lines w.tree;
       }

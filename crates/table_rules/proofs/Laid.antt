@@ -11,20 +11,18 @@ use Rattle.words.specs.Words.{word_at}
 use Rattle.grid.specs.declared.Site.{Site}
 use Rattle.grid.specs.declared.Leg.{Leg}
 use Rattle.book.specs.Tour.{Tour}
-use Rattle.book.specs.Book.{empty_book, open_in, sites_of, list_of}
+use Rattle.book.specs.Book.{empty_book, sites_of, list_of}
 use Rattle.book.specs.Proper.{LegOk, TourOk, Rising}
 use Rattle.table_header.specs.Layout.{flag_start, length_start, tour_start}
 use Rattle.table_header.specs.Header.{count_in, leg_in, tour_in, ZeroFrom, HeaderOk}
-use Rattle.table_sites.specs.Lines.{lines_from, lines_in, marks_in, closed_of, closed_in, MarkBits}
+use Rattle.table_sites.specs.Lines.{lines_from, lines_in, SpareZero}
 use Rattle.table_sites.specs.Rules.{SitesOk}
 use Rattle.table_standing.specs.Layout.{list_start}
 use Rattle.table_standing.specs.Standing.{words_from, standing_in, numbers_of}
 use Rattle.tree_node.specs.Tally.{total}
 use Rattle.table_empty.specs.EmptyTable.{empty_table}
-use Rattle.table_empty.proofs.EmptyTree.{empty_length, empty_low, empty_behind, empty_past, empty_word, empty_layout, empty_rooted, empty_leaves}
-use Rattle.tree_rules.proofs.Sums.{carried}
+use Rattle.table_empty.proofs.EmptyTree.{empty_length, empty_low, empty_behind, empty_word, empty_layout, empty_rooted, empty_leaves}
 use Rattle.tree_check.specs.Leaves.{leaf_entries}
-use Rattle.tree_check.specs.Opens.{opens_start, opens_in}
 use Rattle.table_rules.specs.Table.{book_of, Sound}
 
 no_count : count_in empty_table ≡ 0
@@ -33,14 +31,6 @@ no_count = empty_word 0 (omega arith)
 no_lines : lines_in empty_table ≡ []
 unfolding lines_in lines_from
 no_lines = ap (lines_from empty_table 0) no_count
-
-no_closed : closed_in empty_table ≡ []
-unfolding closed_in closed_of
-no_closed = ap (λ (s : List Site). closed_of s (marks_in empty_table)) no_lines
-
-no_sites : sites_of (book_of empty_table) ≡ []
-unfolding open_in
-no_sites = ap (open_in (closed_in empty_table)) no_lines
 
 no_leg : leg_in empty_table ≡ none
 unfolding leg_in
@@ -57,17 +47,17 @@ no_tour = rw (eq-eqb (word_at empty_table tour_start) 0 no_flag) refl
 
 -- THE EMPTY BOOK
 pub laid_book : book_of empty_table ≡ empty_book
-laid_book = λ i. record { lines = no_lines i; closed = no_closed i; leg = no_leg i; tour = no_tour i }
+laid_book = λ i. record { lines = no_lines i; leg = no_leg i; tour = no_tour i }
 
 laid_sites : SitesOk empty_table
-unfolding MarkBits
+unfolding SpareZero
 laid_sites =
     record {
       few = omega (arith, no_count);
       numbers = λ p m. absurd (Memᴰ.not-nil (subst (λ (s : List Site). Memᴰ p s) no_lines m));
       rising = subst (λ (s : List Site). Rising s) (sym no_lines) tt;
       on_grid = λ p m. absurd (Memᴰ.not-nil (subst (λ (s : List Site). Memᴰ p s) no_lines m));
-      bits = λ k h. absurd (omega (arith, no_count));
+      spare = λ k h. absurd (omega (arith, no_count));
     }
 
 laid_header : HeaderOk empty_table
@@ -84,11 +74,6 @@ no_list : standing_in empty_table ≡ []
 unfolding standing_in words_from
 no_list = ap (words_from empty_table list_start) (empty_word length_start (omega arith))
 
--- no site is open
-no_opens : opens_in empty_table ≡ 0
-unfolding opens_in word_at
-no_opens = omega (arith, empty_past opens_start (omega arith) (omega arith), empty_past (opens_start + 1) (omega arith) (omega arith))
-
 -- THE TABLE JUST LAID OUT IS SOUND
 pub laid_sound : Sound empty_table
 unfolding leaf_entries numbers_of total
@@ -101,12 +86,11 @@ laid_sound =
         tour = subst (λ (o : Option Tour). TourOk o (sites_of (book_of empty_table))) (sym no_tour) tt;
         tree = record {
           rooted = empty_rooted;
-          leaf = λ w. ap (total w) empty_leaves ∙ sym (λ i. total w (leaf_entries (no_closed i) (no_lines i)));
-          opens = no_opens ∙ sym (ap (total carried) empty_leaves);
+          leaf = λ w. ap (total w) empty_leaves ∙ sym (ap (λ (s : List Site). total w (leaf_entries s)) no_lines);
         };
       };
       standing = record {
         leg = subst (λ (o : Option Leg). LegOk o) (sym no_leg) tt;
-        list = no_list ∙ sym (ap numbers_of (λ i. list_of (no_leg i) (no_sites i)));
+        list = no_list ∙ sym (ap numbers_of (λ i. list_of (no_leg i) (no_lines i)));
       };
     }

@@ -2,4 +2,4 @@ pub mod Same
 pub mod Fault
 pub mod Books
 pub mod Laid
-pub mod Carried
+pub mod Earlier

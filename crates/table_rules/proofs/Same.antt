@@ -12,7 +12,7 @@ use Rattle.list_row.specs.Places.{site_at_byte}
 use Rattle.table_header.specs.Layout.{layout_start, flag_start, leg_start, length_start, tour_start, corner_start, last_start, tour_end, kept_end}
 use Rattle.table_header.specs.Header.{count_in, position_words, leg_in, tour_in, ZeroFrom, FlagOk, HeaderOk}
 use Rattle.table_sites.specs.Layout.{site_start, record_start, site_end}
-use Rattle.table_sites.specs.Lines.{line_at, lines_from, lines_in, mark_at, marks_from, marks_in, closed_of, closed_in, MarkBits}
+use Rattle.table_sites.specs.Lines.{line_at, lines_from, lines_in, SpareZero}
 use Rattle.table_sites.specs.Rules.{SitesOk}
 use Rattle.table_standing.specs.Layout.{list_start, list_end}
 use Rattle.table_standing.specs.Standing.{words_from, standing_in}
@@ -20,9 +20,7 @@ use Rattle.tree_node.specs.Layout.{tree_start}
 use Rattle.tree_node.specs.Tally.{total}
 use Rattle.tree_rules.proofs.Outside.{rooted_below, leaves_below}
 use Rattle.tree_check.specs.Leaves.{leaf_entries}
-use Rattle.tree_rules.proofs.Sums.{carried}
 use Rattle.tree_check.specs.Tied.{Tied}
-use Rattle.tree_check.proofs.Opens.{opens_below}
 
 -- the bytes from lo up to hi are the same
 abbrev pub Same : ℕ → ℕ → List ℕ → List ℕ → Type 0
@@ -57,26 +55,9 @@ module _ (b b' : List ℕ) (count : Same 0 2 b b') (records : Same site_start si
   unfolding lines_in
   lines_same few = ap (lines_from b' 0) count_same ∙ from_same 0 (count_in b) (omega arith)
 
-  pub mark_same : (k : ℕ) → k < max_sites → mark_at b' k ≡ mark_at b k
-  mark_same k h = word_same b b' records (record_start k + 6) (omega arith) (omega arith)
-
-  marks_from_same : (k n : ℕ) → k + n ≤ max_sites → marks_from b' k n ≡ marks_from b k n
-  unfolding marks_from
-  marks_from_same k zero h = refl
-  marks_from_same k (suc n) h = ap₂ (λ (m : ℕ) (s : List ℕ). m ∷ s) (mark_same k (omega arith)) (marks_from_same (suc k) n (omega arith))
-
-  marks_same : count_in b ≤ max_sites → marks_in b' ≡ marks_in b
-  unfolding marks_in
-  marks_same few = ap (marks_from b' 0) count_same ∙ marks_from_same 0 (count_in b) (omega arith)
-
-  -- THE MARKS STAY
-  pub closed_same : count_in b ≤ max_sites → closed_in b' ≡ closed_in b
-  unfolding closed_in
-  closed_same few = ap₂ closed_of (lines_same few) (marks_same few)
-
   -- and so do the rules on sites
   pub sites_same : SitesOk b → SitesOk b'
-  unfolding MarkBits
+  unfolding SpareZero
   sites_same h =
       let e = lines_same h.few in
       record {
@@ -84,7 +65,7 @@ module _ (b b' : List ℕ) (count : Same 0 2 b b') (records : Same site_start si
         numbers = λ p m. h.numbers p (subst (λ (s : List Site). Memᴰ p s) e m);
         rising = rw e h.rising;
         on_grid = λ p m. h.on_grid p (subst (λ (s : List Site). Memᴰ p s) e m);
-        bits = λ k l. omega (arith, mark_same k (omega (arith, count_same, h.few)), h.bits k (omega (arith, count_same)));
+        spare = λ k l. word_same b b' records (record_start k + 6) (omega arith) (omega (arith, count_same, h.few)) ∙ h.spare k (omega (arith, count_same));
       }
 
 -- the standing leg
@@ -143,11 +124,10 @@ header_same b b' s k h =
       kept = λ i l u. k i (omega arith) u ∙ h.kept i l u;
     }
 
--- a change below the tree keeps the tree's rules and leaf entries, if the lines and their marks stay
-pub tied_below : {lo : ℕ} (b b' : List ℕ) → Only lo tree_start b b' → lines_in b' ≡ lines_in b → closed_in b' ≡ closed_in b → Tied b → Tied b'
-tied_below b b' o e f t =
+-- a change below the tree keeps the tree's rules and leaf entries, if the lines stay
+pub tied_below : {lo : ℕ} (b b' : List ℕ) → Only lo tree_start b b' → lines_in b' ≡ lines_in b → Tied b → Tied b'
+tied_below b b' o e t =
     record {
       rooted = rooted_below o t.rooted;
-      leaf = λ w. ap (total w) (leaves_below o) ∙ t.leaf w ∙ sym (λ i. total w (leaf_entries (f i) (e i)));
-      opens = opens_below o ∙ t.opens ∙ sym (ap (total carried) (leaves_below o));
+      leaf = λ w. ap (total w) (leaves_below o) ∙ t.leaf w ∙ sym (ap (λ (s : List Site). total w (leaf_entries s)) e);
     }

@@ -8,14 +8,14 @@ use Rattle.limits.specs.Limits.{table_bytes}
 use Rattle.book.specs.Book.{Book, sites_of, standing_list}
 use Rattle.book.specs.Proper.{LegOk, TourOk}
 use Rattle.table_header.specs.Header.{leg_in, tour_in, HeaderOk}
-use Rattle.table_sites.specs.Lines.{lines_in, closed_in}
+use Rattle.table_sites.specs.Lines.{lines_in}
 use Rattle.table_sites.specs.Rules.{SitesOk}
 use Rattle.table_standing.specs.Standing.{standing_in, numbers_of}
 use Rattle.tree_check.specs.Tied.{Tied}
 
--- the book that a table holds: its site array with the marks, its standing leg and its tour
+-- the book that a table holds: its site array, its standing leg and its tour
 abbrev pub book_of : List ℕ → Book
-book_of b = record { lines = lines_in b; closed = closed_in b; leg = leg_in b; tour = tour_in b }
+book_of b = record { lines = lines_in b; leg = leg_in b; tour = tour_in b }
 
 -- the first half: length, sites, header, tour and tree. Where it is broken, 65
 pub record Whole (b : List ℕ) : Type 0 where
@@ -24,11 +24,9 @@ pub record Whole (b : List ℕ) : Type 0 where
   pub sites : SitesOk b
   -- "the docs/ layout": the flag of the standing leg and the zeros without one belong to it
   pub header : HeaderOk b
-  -- "a stored corner off the grid or a remembered site that isn't held counts under 65"; C-19: "a remembered site that
-  -- is closed counts under 65"
+  -- "a stored corner off the grid or a remembered site that isn't held counts under 65"
   pub tour : TourOk (tour_in b) (sites_of (book_of b))
-  -- "a tree rule"; every held site is in one leaf entry, and there is no other; each entry has the number of open sites
-  -- under it
+  -- "a tree rule"; every held site is in one leaf entry, and there is no other
   pub tree : Tied b
 
 -- the second half: the standing leg's grid and the standing list, its stored length included. Where the first half is
@@ -36,7 +34,7 @@ pub record Whole (b : List ℕ) : Type 0 where
 pub record StandingOk (b : List ℕ) : Type 0 where
   -- "the standing leg (off the grid)"
   pub leg : LegOk (leg_in b)
-  -- "The standing list is always the list of the standing leg", and empty while no site is open (C-19)
+  -- "The standing list is always the list of the standing leg, empty while no site is held."
   pub list : standing_in b ≡ numbers_of (standing_list (book_of b))
 
 -- A SOUND TABLE

@@ -6,8 +6,7 @@ use mathlib.Core.List.{List}
 use Prim.Native.Nat.{ℕ, zero, suc, ◌+◌, ◌*◌, ◌-◌, ◌≤◌, ◌<◌}
 use native.Mathlib.Omega.{arith}
 use native.Mathlib.Decide.{dec_lt}
-use lib.ListN.{length, get_or, set, length-set}
-use lib.Seq.{get_or-set_same, get_or-set_other}
+use lib.ListN.{length, get_or}
 use Rattle.limits.specs.Limits.{max_sites}
 use Rattle.words.specs.Words.{word_at, put_word, Only, Copied}
 use Rattle.words.proofs.Frame.{word_low, word_high}
@@ -17,10 +16,10 @@ use Rattle.grid.specs.declared.Site.{Site}
 use Rattle.list_row.specs.Places.{site_at_byte}
 use Rattle.table_header.specs.Layout.{count_start}
 use Rattle.table_header.specs.Header.{count_in}
-use Rattle.table_sites.specs.Layout.{site_start, site_bytes, east_offset, north_offset, mark_offset, record_start}
-use Rattle.table_sites.specs.Lines.{line_at, lines_in, mark_at, marks_in, MarkBits, no_site, number_of, Array}
+use Rattle.table_sites.specs.Layout.{site_start, site_bytes, east_offset, north_offset, spare_offset, record_start}
+use Rattle.table_sites.specs.Lines.{line_at, lines_in, SpareZero, no_site, number_of, Array}
 use Rattle.table_sites.specs.Changes.{inserted, deleted, placed, ArrayChanged, PutPosition, PutSite}
-use Rattle.table_sites.proofs.Reading.{site_is, site_same, lines_length, line_at_lem, number_at_lem, lines_are, marks_length, mark_at_lem, marks_are}
+use Rattle.table_sites.proofs.Reading.{site_is, site_same, lines_length, line_at_lem, number_at_lem, lines_are}
 use Rattle.table_sites.proofs.Insertion.{inserted_length, inserted_before, inserted_at, inserted_after}
 use Rattle.table_sites.proofs.Deletion.{deleted_length, deleted_before, deleted_after}
 use Rattle.table_sites.proofs.Placement.{placed_length, placed_at, placed_other}
@@ -64,19 +63,12 @@ module _ {b b₁ b₂ b₃ : List ℕ} {k n at : ℕ} {p : Site} (a : Array b) (
       (word_high last (at + north_offset) (omega arith))
       ∙ put.site
 
-  mark_here : mark_at b₃ k ≡ 0
-  mark_here =
-      ap (λ (i : ℕ). word_at b₃ (i + mark_offset)) (sym ha) ∙ word_high last (at + mark_offset) (omega arith) ∙ put.mark
-
-  pub insert_done : ArrayChanged (inserted k p (lines_in b)) (inserted k 0 (marks_in b)) b b₃
-  unfolding MarkBits
+  pub insert_done : ArrayChanged (inserted k p (lines_in b)) b b₃
+  unfolding SpareZero
   insert_done =
       let len : length (lines_in b) ≡ count_in b = lines_length b in
       let k≤ : k ≤ length (lines_in b) = omega arith in
       let more : length (inserted k p (lines_in b)) ≡ length (lines_in b) + 1 = inserted_length k p (lines_in b) k≤ in
-      let size : length (marks_in b) ≡ count_in b = marks_length b in
-      let k≤m : k ≤ length (marks_in b) = omega arith in
-      let more_marks : length (inserted k 0 (marks_in b)) ≡ length (marks_in b) + 1 = inserted_length k 0 (marks_in b) k≤m in
       record {
         len = last.len ∙ put.only.len ∙ up.only.len;
         lines =
@@ -87,34 +79,23 @@ module _ {b b₁ b₂ b₃ : List ℕ} {k n at : ℕ} {p : Site} (a : Array b) (
             (low_word _ (omega arith) (omega arith))
             (low_word _ (omega arith) (omega arith))
             ∙ sym (line_at_lem b i no_site (omega arith))
-            ∙ sym (inserted_before no_site k p (lines_in b) i k≤ g))
-            (λ h. line_here ∙ sym (inserted_at no_site k p (lines_in b) k≤))
+            ∙ sym (inserted_before k p (lines_in b) i k≤ g))
+            (λ h. line_here ∙ sym (inserted_at k p (lines_in b) k≤))
             (λ i g h.
             site_same b b₃ (record_start i) (record_start (suc i)) (high_word _ _ (omega arith) (omega arith) (omega arith))
             (high_word _ _ (omega arith) (omega arith) (omega arith))
             (high_word _ _ (omega arith) (omega arith) (omega arith))
             ∙ sym (line_at_lem b i no_site (omega arith))
-            ∙ sym (inserted_after no_site k p (lines_in b) i k≤ g)));
-        marks =
-            marks_are b₃ (inserted k 0 (marks_in b)) (omega (arith, counted))
-            (before_at_after (λ (i : ℕ). i < length (inserted k 0 (marks_in b)) → mark_at b₃ i ≡ get_or (inserted k 0 (marks_in b)) i 0) k
-            (λ i g h. low_word _ (omega arith) (omega arith) ∙ sym (mark_at_lem b i (omega arith)) ∙ sym (inserted_before 0 k 0 (marks_in b) i k≤m g))
-            (λ h. mark_here ∙ sym (inserted_at 0 k 0 (marks_in b) k≤m))
-            (λ i g h.
-            high_word (record_start i + mark_offset) _ (omega arith) (omega arith) (omega arith)
-            ∙ sym (mark_at_lem b i (omega arith))
-            ∙ sym (inserted_after 0 k 0 (marks_in b) i k≤m g)));
+            ∙ sym (inserted_after k p (lines_in b) i k≤ g)));
         few = omega (arith, counted);
-        bits =
-            before_at_after (λ (i : ℕ). i < count_in b₃ → mark_at b₃ i ≤ 1) k
-            (λ i g h. omega (arith, low_word (record_start i + mark_offset) (omega arith) (omega arith), a.bits i (omega arith)))
-            (λ h. omega (arith, mark_here))
+        spare =
+            before_at_after (λ (i : ℕ). i < count_in b₃ → word_at b₃ (record_start i + spare_offset) ≡ 0) k
+            (λ i g h. low_word _ (omega arith) (omega arith) ∙ a.spare i (omega arith))
+            (λ h.
+            ap (λ (i : ℕ). word_at b₃ (i + spare_offset)) (sym ha) ∙ word_high last (at + spare_offset) (omega arith) ∙ put.spare)
             (λ i g h.
-            omega (
-              arith,
-              high_word (record_start i + mark_offset) (record_start (suc i) + mark_offset) (omega arith) (omega arith) (omega (arith, counted)),
-              a.bits i (omega (arith, counted)),
-            ));
+            high_word (record_start i + spare_offset) _ (omega arith) (omega arith) (omega (arith, counted))
+            ∙ a.spare i (omega (arith, counted)));
         header = λ i g h.
             last.high i (omega arith) ∙ put.only.low i (omega arith) ∙ up.only.low i (omega arith);
         above = λ i g.
@@ -138,19 +119,16 @@ module _ {b b₁ b₂ : List ℕ} {k n at : ℕ} (a : Array b) (within : k < cou
   next_word o o' f g h =
       word_high fewer o (omega (arith, ha)) ∙ word_copied down o' o (omega arith) (omega arith) (omega arith)
 
-  pub delete_done : ArrayChanged (deleted k (lines_in b)) (deleted k (marks_in b)) b b₂
-  unfolding MarkBits
+  pub delete_done : ArrayChanged (deleted k (lines_in b)) b b₂
+  unfolding SpareZero
   delete_done =
       let len : length (lines_in b) ≡ count_in b = lines_length b in
-      let less : length (deleted k (lines_in b)) + 1 ≡ length (lines_in b) = deleted_length no_site k (lines_in b) (omega arith) in
-      let size : length (marks_in b) ≡ count_in b = marks_length b in
-      let fewer_marks : length (deleted k (marks_in b)) + 1 ≡ length (marks_in b) = deleted_length 0 k (marks_in b) (omega arith) in
+      let less : length (deleted k (lines_in b)) + 1 ≡ length (lines_in b) = deleted_length k (lines_in b) (omega arith) in
       record {
         len = fewer.len ∙ down.only.len;
         lines = lines_are b₂ (deleted k (lines_in b)) (omega (arith, counted_down)) (λ i h. line i (omega arith) (dec_lt i k));
-        marks = marks_are b₂ (deleted k (marks_in b)) (omega (arith, counted_down)) (λ i h. mark i (omega arith) (dec_lt i k));
         few = omega (arith, counted_down, a.few);
-        bits = λ i h. bit i (omega (arith, counted_down)) (dec_lt i k);
+        spare = λ i h. spare i (omega (arith, counted_down)) (dec_lt i k);
         header = λ i g h. fewer.high i (omega arith) ∙ down.only.low i (omega arith);
         above = λ i g. fewer.high i (omega arith) ∙ down.only.high i (omega (arith, a.few));
       }
@@ -161,49 +139,39 @@ module _ {b b₁ b₂ : List ℕ} {k n at : ℕ} (a : Array b) (within : k < cou
           (same_word _ (omega arith) (omega arith))
           (same_word _ (omega arith) (omega arith))
           ∙ sym (line_at_lem b i no_site (omega arith))
-          ∙ sym (deleted_before no_site k (lines_in b) i g)
+          ∙ sym (deleted_before k (lines_in b) i g)
       line i h (no g) =
           site_same b b₂ (record_start (suc i)) (record_start i) (next_word _ _ (omega arith) (omega arith) (omega arith))
           (next_word _ _ (omega arith) (omega arith) (omega arith))
           (next_word _ _ (omega arith) (omega arith) (omega arith))
           ∙ sym (line_at_lem b (suc i) no_site (omega arith))
-          ∙ sym (deleted_after no_site k (lines_in b) i (omega arith))
+          ∙ sym (deleted_after k (lines_in b) i (omega arith))
 
-      stays : (i : ℕ) → i + 1 < n → i < k → mark_at b₂ i ≡ mark_at b i
-      stays i h g = same_word _ (omega arith) (omega arith)
-
-      comes : (i : ℕ) → i + 1 < n → k ≤ i → mark_at b₂ i ≡ mark_at b (suc i)
-      comes i h g =
-          next_word (record_start i + mark_offset) (record_start (suc i) + mark_offset) (omega arith) (omega arith) (omega arith)
-
-      mark : (i : ℕ) → i + 1 < n → Dec (i < k) → mark_at b₂ i ≡ get_or (deleted k (marks_in b)) i 0
-      mark i h (yes g) = stays i h g ∙ sym (mark_at_lem b i (omega arith)) ∙ sym (deleted_before 0 k (marks_in b) i g)
-      mark i h (no g) = comes i h (omega arith) ∙ sym (mark_at_lem b (suc i) (omega arith)) ∙ sym (deleted_after 0 k (marks_in b) i (omega arith))
-
-      bit : (i : ℕ) → i + 1 < n → Dec (i < k) → mark_at b₂ i ≤ 1
-      bit i h (yes g) = omega (arith, stays i h g, a.bits i (omega arith))
-      bit i h (no g) = omega (arith, comes i h (omega arith), a.bits (suc i) (omega arith))
+      spare : (i : ℕ) → i + 1 < n → Dec (i < k) → word_at b₂ (record_start i + spare_offset) ≡ 0
+      spare i h (yes g) = same_word _ (omega arith) (omega arith) ∙ a.spare i (omega arith)
+      spare i h (no g) =
+          next_word (record_start i + spare_offset) (record_start (suc i) + spare_offset) (omega arith) (omega arith) (omega arith)
+          ∙ a.spare (suc i) (omega arith)
 
 -- record k at another position
 module _ {b b₁ : List ℕ} {k at : ℕ} {p : Position} (a : Array b) (within : k < count_in b) (ha : at ≡ record_start k) (put : PutPosition at p b b₁) where
-  stays : (o : ℕ) → (at + mark_offset ≤ o) ⊎ (o + 2 ≤ at + east_offset) → word_at b₁ o ≡ word_at b o
+  stays : (o : ℕ) → (at + spare_offset ≤ o) ⊎ (o + 2 ≤ at + east_offset) → word_at b₁ o ≡ word_at b o
   stays o (inl h) = word_high put.only o h
   stays o (inr h) = word_low put.only o h
 
   recount : count_in b₁ ≡ count_in b
   recount = stays count_start (inr (omega arith))
 
-  pub place_done : ArrayChanged (placed k p (lines_in b)) (marks_in b) b b₁
-  unfolding MarkBits
+  pub place_done : ArrayChanged (placed k p (lines_in b)) b b₁
+  unfolding SpareZero
   place_done =
       let len : length (lines_in b) ≡ count_in b = lines_length b in
       let same : length (placed k p (lines_in b)) ≡ length (lines_in b) = placed_length k p (lines_in b) in
       record {
         len = put.only.len;
         lines = lines_are b₁ (placed k p (lines_in b)) (omega (arith, recount)) (λ i h. line i (omega arith) (dec_lt i k) (dec_lt k i));
-        marks = marks_are b₁ (marks_in b) (recount ∙ sym (marks_length b)) (λ i h. same_mark i (dec_lt i k) ∙ sym (mark_at_lem b i (omega (arith, marks_length b))));
         few = omega (arith, recount, a.few);
-        bits = λ i h. omega (arith, same_mark i (dec_lt i k), a.bits i (omega (arith, recount)));
+        spare = λ i h. spare i (omega (arith, recount)) (dec_lt i k);
         header = λ i g h. put.only.low i (omega arith);
         above = λ i g. put.only.high i (omega (arith, a.few));
       }
@@ -232,58 +200,6 @@ module _ {b b₁ : List ℕ} {k at : ℕ} {p : Position} (a : Array b) (within :
           let q : i ≡ k = omega arith in
           rw q (here ∙ sym (placed_at k p (lines_in b) (omega (arith, lines_length b))))
 
-      same_mark : (i : ℕ) → Dec (i < k) → mark_at b₁ i ≡ mark_at b i
-      same_mark i (yes g) = stays _ (inr (omega arith))
-      same_mark i (no g) = stays _ (inl (omega arith))
-
--- record k with another mark
-module _ {b b₁ : List ℕ} {k at m : ℕ} (a : Array b) (within : k < count_in b) (small : m ≤ 1) (ha : at ≡ record_start k)
-    (e : b₁ ≡ put_word b (at + mark_offset) m) where
-  once : Only (at + mark_offset) (at + mark_offset + 2) b b₁
-  once = stored_only b b₁ (at + mark_offset) m e
-
-  there : mark_at b₁ k ≡ m
-  there = ap (λ (i : ℕ). word_at b₁ (i + mark_offset)) (sym ha) ∙ stored_word b b₁ (at + mark_offset) m e (omega (arith, a.len, a.few))
-
-  keeps : (o : ℕ) → (at + mark_offset + 2 ≤ o) ⊎ (o + 2 ≤ at + mark_offset) → word_at b₁ o ≡ word_at b o
-  keeps o (inl h) = word_high once o h
-  keeps o (inr h) = word_low once o h
-
-  still : count_in b₁ ≡ count_in b
-  still = keeps count_start (inr (omega arith))
-
-  pub mark_done : ArrayChanged (lines_in b) (set (marks_in b) k m) b b₁
-  unfolding MarkBits
-  mark_done =
-      record {
-        len = once.len;
-        lines = lines_are b₁ (lines_in b) (still ∙ sym (lines_length b)) (λ i h. line i (dec_lt k i) ∙ sym (line_at_lem b i no_site (omega (arith, lines_length b))));
-        marks = marks_are b₁ (set (marks_in b) k m) (still ∙ sym (marks_length b) ∙ sym (length-set (marks_in b) k m))
-            (λ i h. mark i (omega (arith, length-set (marks_in b) k m, marks_length b)) (dec_lt i k) (dec_lt k i));
-        few = omega (arith, still, a.few);
-        bits = λ i h. bit i (omega (arith, still)) (dec_lt i k) (dec_lt k i);
-        header = λ i g h. once.low i (omega arith);
-        above = λ i g. once.high i (omega (arith, a.few));
-      }
-    where
-      line : (i : ℕ) → Dec (k < i) → line_at b₁ i ≡ line_at b i
-      line i (yes g) =
-          site_same b b₁ (record_start i) (record_start i) (keeps _ (inl (omega arith))) (keeps _ (inl (omega arith))) (keeps _ (inl (omega arith)))
-      line i (no g) =
-          site_same b b₁ (record_start i) (record_start i) (keeps _ (inr (omega arith))) (keeps _ (inr (omega arith))) (keeps _ (inr (omega arith)))
-
-      other : (i : ℕ) → (i < k) ⊎ (k < i) → mark_at b₁ i ≡ mark_at b i
-      other i (inl g) = keeps _ (inr (omega arith))
-      other i (inr g) = keeps _ (inl (omega arith))
-
-      mark : (i : ℕ) → i < count_in b → Dec (i < k) → Dec (k < i) → mark_at b₁ i ≡ get_or (set (marks_in b) k m) i 0
-      mark i h (yes f) g = other i (inl f) ∙ sym (mark_at_lem b i h) ∙ sym (get_or-set_other (marks_in b) k i m 0 (λ q. omega arith))
-      mark i h (no f) (yes g) = other i (inr g) ∙ sym (mark_at_lem b i h) ∙ sym (get_or-set_other (marks_in b) k i m 0 (λ q. omega arith))
-      mark i h (no f) (no g) =
-          let q : i ≡ k = omega arith in
-          rw q (there ∙ sym (get_or-set_same (marks_in b) k m 0 (omega (arith, marks_length b))))
-
-      bit : (i : ℕ) → i < count_in b → Dec (i < k) → Dec (k < i) → mark_at b₁ i ≤ 1
-      bit i h (yes f) g = omega (arith, other i (inl f), a.bits i h)
-      bit i h (no f) (yes g) = omega (arith, other i (inr g), a.bits i h)
-      bit i h (no f) (no g) = let q : i ≡ k = omega arith in rw q (omega (arith, there))
+      spare : (i : ℕ) → i < count_in b → Dec (i < k) → word_at b₁ (record_start i + spare_offset) ≡ 0
+      spare i h (yes g) = stays _ (inr (omega arith)) ∙ a.spare i h
+      spare i h (no g) = stays _ (inl (omega arith)) ∙ a.spare i h

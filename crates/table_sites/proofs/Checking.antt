@@ -20,7 +20,7 @@ use Rattle.list_row.specs.Places.{site_at_byte}
 use Rattle.book.specs.Proper.{NumberOk}
 use Rattle.table_header.specs.Header.{count_in}
 use Rattle.table_sites.specs.Layout.{record_start}
-use Rattle.table_sites.specs.Lines.{line_at, lines_in, MarkBits, no_site}
+use Rattle.table_sites.specs.Lines.{line_at, lines_in, SpareZero, no_site}
 use Rattle.table_sites.specs.Rules.{SitesOk, RecordOk, number_before}
 use Rattle.table_sites.proofs.Reading.{lines_length, line_at_lem, number_at_lem}
 use Rattle.table_sites.proofs.Order.{rising_at, rising_of}
@@ -50,7 +50,7 @@ module _ (b : List ℕ) (few : count_in b ≤ max_sites) (ok : RecordsOk b (coun
   rises i h = (ok (suc i) h).higher
 
   pub records_sites : SitesOk b
-  unfolding MarkBits
+  unfolding SpareZero
   records_sites =
       let len : length (lines_in b) ≡ count_in b = lines_length b in
       record {
@@ -61,7 +61,7 @@ module _ (b : List ℕ) (few : count_in b ≤ max_sites) (ok : RecordsOk b (coun
             (λ i h. omega (arith, number_at_lem b i (omega arith), number_at_lem b (suc i) (omega arith), rises i (omega arith)));
         on_grid = every_line (λ (p : Site). OnGrid p.position) (lines_in b)
             (λ i h. rw (line_at_lem b i no_site (omega arith)) (grid_ok i (omega arith)));
-        bits = λ i h. (ok i h).mark;
+        spare = λ i h. (ok i h).spare;
       }
 
 module _ (b : List ℕ) (ok : SitesOk b) where
@@ -80,14 +80,14 @@ module _ (b : List ℕ) (ok : SitesOk b) where
       )
 
   pub sites_records : RecordsOk b (count_in b)
-  unfolding site_at_byte MarkBits
+  unfolding site_at_byte SpareZero
   sites_records i h =
       record {
         higher = above i h;
         most = (ok.numbers (line_at b i) (lies i h)).most;
         east = (ok.on_grid (line_at b i) (lies i h)).east;
         north = (ok.on_grid (line_at b i) (lies i h)).north;
-        mark = ok.bits i h;
+        spare = ok.spare i h;
       }
 
 -- the first k of n records keep the rules, and low is the number of the last of them

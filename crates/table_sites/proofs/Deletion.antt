@@ -12,47 +12,47 @@ use borrow.Author.Tests.{eq-eqb, ne_eqb}
 use Rattle.grid.specs.declared.Site.{Site}
 use Rattle.book.specs.Book.{strike_line}
 use Rattle.book.specs.Proper.{Rising}
-use Rattle.table_sites.specs.Lines.{number_of, StandsAt}
+use Rattle.table_sites.specs.Lines.{no_site, number_of, StandsAt}
 use Rattle.table_sites.specs.Changes.{deleted}
 use Rattle.table_sites.proofs.Order.{rising_tail, rising_cons, rising_at}
 use Rattle.table_sites.proofs.Finding.{Missing, missing_tail, missing_after}
 
 -- the same by recursion
-unfoldable pub without : {A : Type 0} → ℕ → List A → List A
+without : ℕ → List Site → List Site
 without k [] = []
 without zero (q ∷ s) = s
 without (suc k) (q ∷ s) = q ∷ without k s
 
-cut_is : {A : Type 0} (k : ℕ) (s : List A) → take k s ++ drop (suc k) s ≡ without k s
+cut_is : (k : ℕ) (s : List Site) → take k s ++ drop (suc k) s ≡ without k s
 unfolding without
 cut_is zero [] = refl
 cut_is (suc k) [] = refl
 cut_is zero (q ∷ s) = refl
-cut_is {A} (suc k) (q ∷ s) = ap (λ (l : List A). q ∷ l) (cut_is k s)
+cut_is (suc k) (q ∷ s) = ap (λ (l : List Site). q ∷ l) (cut_is k s)
 
-pub deleted_is : {A : Type 0} (k : ℕ) (s : List A) → deleted k s ≡ without k s
+deleted_is : (k : ℕ) (s : List Site) → deleted k s ≡ without k s
 unfolding deleted
 deleted_is k s = rw add-one (cut_is k s)
 
-without_length : {A : Type 0} (k : ℕ) (s : List A) → k < length s → length (without k s) + 1 ≡ length s
+without_length : (k : ℕ) (s : List Site) → k < length s → length (without k s) + 1 ≡ length s
 unfolding without
 without_length k [] h = absurd (omega arith)
 without_length zero (q ∷ s) h = omega arith
 without_length (suc k) (q ∷ s) h = omega (arith, without_length k s (omega arith))
 
-without_before : {A : Type 0} (d : A) (k : ℕ) (s : List A) (i : ℕ) → i < k → get_or (without k s) i d ≡ get_or s i d
+without_before : (k : ℕ) (s : List Site) (i : ℕ) → i < k → get_or (without k s) i no_site ≡ get_or s i no_site
 unfolding without
-without_before d k [] i h = refl
-without_before d zero (q ∷ s) i h = absurd (omega arith)
-without_before d (suc k) (q ∷ s) zero h = refl
-without_before d (suc k) (q ∷ s) (suc i) h = without_before d k s i (omega arith)
+without_before k [] i h = refl
+without_before zero (q ∷ s) i h = absurd (omega arith)
+without_before (suc k) (q ∷ s) zero h = refl
+without_before (suc k) (q ∷ s) (suc i) h = without_before k s i (omega arith)
 
-without_after : {A : Type 0} (d : A) (k : ℕ) (s : List A) (i : ℕ) → k ≤ i → get_or (without k s) i d ≡ get_or s (suc i) d
+without_after : (k : ℕ) (s : List Site) (i : ℕ) → k ≤ i → get_or (without k s) i no_site ≡ get_or s (suc i) no_site
 unfolding without
-without_after d k [] i h = refl
-without_after d zero (q ∷ s) i h = refl
-without_after d (suc k) (q ∷ s) zero h = absurd (omega arith)
-without_after d (suc k) (q ∷ s) (suc i) h = without_after d k s i (omega arith)
+without_after k [] i h = refl
+without_after zero (q ∷ s) i h = refl
+without_after (suc k) (q ∷ s) zero h = absurd (omega arith)
+without_after (suc k) (q ∷ s) (suc i) h = without_after k s i (omega arith)
 
 without_member : (k : ℕ) (s : List Site) (x : Site) → Memᴰ x (without k s) → Memᴰ x s
 unfolding without
@@ -87,17 +87,16 @@ without_struck (suc k) n (q ∷ s) h r =
     rw (ne_eqb q.number n (λ e. omega (arith, h.number)))
     (ap (λ (l : List Site). q ∷ l) (without_struck k n s (record { line = omega (arith, h.line); number = h.number }) (rising_tail q s r)))
 
-module _ {A : Type 0} (d : A) (k : ℕ) (s : List A) where
+module _ (k : ℕ) (s : List Site) where
   pub deleted_length : k < length s → length (deleted k s) + 1 ≡ length s
   deleted_length h = rw (deleted_is k s) (without_length k s h)
 
-  pub deleted_before : (i : ℕ) → i < k → get_or (deleted k s) i d ≡ get_or s i d
-  deleted_before i h = rw (deleted_is k s) (without_before d k s i h)
+  pub deleted_before : (i : ℕ) → i < k → get_or (deleted k s) i no_site ≡ get_or s i no_site
+  deleted_before i h = rw (deleted_is k s) (without_before k s i h)
 
-  pub deleted_after : (i : ℕ) → k ≤ i → get_or (deleted k s) i d ≡ get_or s (suc i) d
-  deleted_after i h = rw (deleted_is k s) (without_after d k s i h)
+  pub deleted_after : (i : ℕ) → k ≤ i → get_or (deleted k s) i no_site ≡ get_or s (suc i) no_site
+  deleted_after i h = rw (deleted_is k s) (without_after k s i h)
 
-module _ (k : ℕ) (s : List Site) where
   -- each line is an old one
   pub deleted_member : (x : Site) → Memᴰ x (deleted k s) → Memᴰ x s
   deleted_member x m = without_member k s x (rw (deleted_is k s) at m)

@@ -11,35 +11,35 @@ use borrow.Author.Tests.{lt-ltb, le-ltb}
 use Rattle.grid.specs.declared.Site.{Site}
 use Rattle.book.specs.Book.{write_line}
 use Rattle.book.specs.Proper.{Rising}
-use Rattle.table_sites.specs.Lines.{number_of, StandsNowhere}
+use Rattle.table_sites.specs.Lines.{no_site, number_of, StandsNowhere}
 use Rattle.table_sites.specs.Changes.{inserted}
 use Rattle.table_sites.proofs.Order.{rising_tail, rising_cons}
 
-pub inserted_length : {A : Type 0} (k : ℕ) (p : A) (s : List A) → k ≤ length s → length (inserted k p s) ≡ length s + 1
+pub inserted_length : (k : ℕ) (p : Site) (s : List Site) → k ≤ length s → length (inserted k p s) ≡ length s + 1
 unfolding inserted
 inserted_length zero p s h = omega arith
 inserted_length (suc k) p [] h = absurd (omega arith)
 inserted_length (suc k) p (q ∷ s) h = omega (arith, inserted_length k p s (omega arith))
 
-pub inserted_before : {A : Type 0} (d : A) (k : ℕ) (p : A) (s : List A) (i : ℕ) → k ≤ length s → i < k → get_or (inserted k p s) i d ≡ get_or s i d
+pub inserted_before : (k : ℕ) (p : Site) (s : List Site) (i : ℕ) → k ≤ length s → i < k → get_or (inserted k p s) i no_site ≡ get_or s i no_site
 unfolding inserted
-inserted_before d zero p s i h g = absurd (omega arith)
-inserted_before d (suc k) p [] i h g = absurd (omega arith)
-inserted_before d (suc k) p (q ∷ s) zero h g = refl
-inserted_before d (suc k) p (q ∷ s) (suc i) h g = inserted_before d k p s i (omega arith) (omega arith)
+inserted_before zero p s i h g = absurd (omega arith)
+inserted_before (suc k) p [] i h g = absurd (omega arith)
+inserted_before (suc k) p (q ∷ s) zero h g = refl
+inserted_before (suc k) p (q ∷ s) (suc i) h g = inserted_before k p s i (omega arith) (omega arith)
 
-pub inserted_at : {A : Type 0} (d : A) (k : ℕ) (p : A) (s : List A) → k ≤ length s → get_or (inserted k p s) k d ≡ p
+pub inserted_at : (k : ℕ) (p : Site) (s : List Site) → k ≤ length s → get_or (inserted k p s) k no_site ≡ p
 unfolding inserted
-inserted_at d zero p s h = refl
-inserted_at d (suc k) p [] h = absurd (omega arith)
-inserted_at d (suc k) p (q ∷ s) h = inserted_at d k p s (omega arith)
+inserted_at zero p s h = refl
+inserted_at (suc k) p [] h = absurd (omega arith)
+inserted_at (suc k) p (q ∷ s) h = inserted_at k p s (omega arith)
 
-pub inserted_after : {A : Type 0} (d : A) (k : ℕ) (p : A) (s : List A) (i : ℕ) → k ≤ length s → k ≤ i → get_or (inserted k p s) (suc i) d ≡ get_or s i d
+pub inserted_after : (k : ℕ) (p : Site) (s : List Site) (i : ℕ) → k ≤ length s → k ≤ i → get_or (inserted k p s) (suc i) no_site ≡ get_or s i no_site
 unfolding inserted
-inserted_after d zero p s i h g = refl
-inserted_after d (suc k) p [] i h g = absurd (omega arith)
-inserted_after d (suc k) p (q ∷ s) zero h g = absurd (omega arith)
-inserted_after d (suc k) p (q ∷ s) (suc i) h g = inserted_after d k p s i (omega arith) (omega arith)
+inserted_after zero p s i h g = refl
+inserted_after (suc k) p [] i h g = absurd (omega arith)
+inserted_after (suc k) p (q ∷ s) zero h g = absurd (omega arith)
+inserted_after (suc k) p (q ∷ s) (suc i) h g = inserted_after k p s i (omega arith) (omega arith)
 
 -- each line is the new one or an old one
 pub inserted_member : (k : ℕ) (p : Site) (s : List Site) (x : Site) → Memᴰ x (inserted k p s) → (x ≡ p) ⊎ Memᴰ x s

@@ -4,7 +4,6 @@ pub mod Finding
 pub mod Insertion
 pub mod Deletion
 pub mod Placement
-pub mod Closed
 pub mod Stores
 pub mod Changing
 pub mod Checking

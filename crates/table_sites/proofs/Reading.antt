@@ -11,7 +11,7 @@ use Rattle.grid.specs.declared.Site.{Site}
 use Rattle.list_row.specs.Places.{site_at_byte}
 use Rattle.table_header.specs.Header.{count_in}
 use Rattle.table_sites.specs.Layout.{record_start, east_offset, north_offset}
-use Rattle.table_sites.specs.Lines.{line_at, lines_from, lines_in, mark_at, marks_from, marks_in, no_site}
+use Rattle.table_sites.specs.Lines.{line_at, lines_from, lines_in, no_site}
 
 -- a site is its three words
 pub site_is : (t : List ℕ) (i n e o : ℕ) → n ≡ word_at t i → e ≡ word_at t (i + east_offset) → o ≡ word_at t (i + north_offset)
@@ -58,36 +58,3 @@ pub lines_are : (b : List ℕ) (s : List Site) → count_in b ≡ length s → (
 lines_are b s e h =
     ext_get_or no_site (lines_in b) s (lines_length b ∙ e)
     (λ k g. line_at_lem b k no_site (omega (arith, lines_length b)) ∙ h k (omega (arith, lines_length b)))
-
--- ---- the marks
-
-marks_from_length : (b : List ℕ) (k n : ℕ) → length (marks_from b k n) ≡ n
-unfolding marks_from
-marks_from_length b k zero = refl
-marks_from_length b k (suc n) = ap suc (marks_from_length b (suc k) n)
-
-marks_from_at : (b : List ℕ) (k n i : ℕ) → i < n → get_or (marks_from b k n) i 0 ≡ mark_at b (k + i)
-unfolding marks_from
-marks_from_at b k zero i h = absurd (omega arith)
-marks_from_at b k (suc n) zero h = let e : k ≡ k + 0 = omega arith in ap (λ (j : ℕ). mark_at b j) e
-marks_from_at b k (suc n) (suc i) h =
-    let e : suc k + i ≡ k + suc i = omega arith in
-    marks_from_at b (suc k) n i (omega arith) ∙ ap (λ (j : ℕ). mark_at b j) e
-
--- there are as many marks as lines
-pub marks_length : (b : List ℕ) → length (marks_in b) ≡ count_in b
-unfolding marks_in
-marks_length b = marks_from_length b 0 (count_in b)
-
--- mark k is that of record k
-pub mark_at_lem : (b : List ℕ) (k : ℕ) → k < count_in b → get_or (marks_in b) k 0 ≡ mark_at b k
-unfolding marks_in
-mark_at_lem b k h =
-    let e : 0 + k ≡ k = omega arith in
-    marks_from_at b 0 (count_in b) k h ∙ ap (λ (j : ℕ). mark_at b j) e
-
--- the marks are these, if each record's is
-pub marks_are : (b ms : List ℕ) → count_in b ≡ length ms → ((k : ℕ) → k < length ms → mark_at b k ≡ get_or ms k 0) → marks_in b ≡ ms
-marks_are b ms e h =
-    ext_get_or 0 (marks_in b) ms (marks_length b ∙ e)
-    (λ k g. mark_at_lem b k (omega (arith, marks_length b)) ∙ h k (omega (arith, marks_length b)))

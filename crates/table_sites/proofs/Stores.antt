@@ -9,7 +9,7 @@ use Rattle.words.specs.Words.{word_at, put_word, Only}
 use Rattle.words.proofs.Frame.{only_trans, only_wider, only_put_word, word_put_word, word_low}
 use Rattle.grid.specs.declared.Position.{Position}
 use Rattle.grid.specs.declared.Site.{Site}
-use Rattle.table_sites.specs.Layout.{site_bytes, east_offset, north_offset, mark_offset}
+use Rattle.table_sites.specs.Layout.{site_bytes, east_offset, north_offset, spare_offset}
 use Rattle.table_sites.specs.Changes.{PutPosition, PutSite}
 use Rattle.table_sites.proofs.Reading.{site_is}
 
@@ -33,11 +33,11 @@ position_put i p b b₁ b₂ room e₁ e₂ =
     }
 
 pub site_put : (i : ℕ) (p : Site) (b b₁ b₂ b₃ : List ℕ) → i + site_bytes ≤ length b → b₁ ≡ put_word b i p.number
-    → PutPosition i p.position b₁ b₂ → b₃ ≡ put_word b₂ (i + mark_offset) 0 → PutSite i p b b₃
+    → PutPosition i p.position b₁ b₂ → b₃ ≡ put_word b₂ (i + spare_offset) 0 → PutSite i p b b₃
 site_put i p b b₁ b₂ b₃ room e₁ q e₃ =
     let o₁ : Only i (i + 2) b b₁ = stored_only b b₁ _ _ e₁ in
-    let o₂ : Only (i + east_offset) (i + mark_offset) b₁ b₂ = q.only in
-    let o₃ : Only (i + mark_offset) ((i + mark_offset) + 2) b₂ b₃ = stored_only b₂ b₃ _ _ e₃ in
+    let o₂ : Only (i + east_offset) (i + spare_offset) b₁ b₂ = q.only in
+    let o₃ : Only (i + spare_offset) ((i + spare_offset) + 2) b₂ b₃ = stored_only b₂ b₃ _ _ e₃ in
     record {
       only =
           only_trans (only_wider (omega arith) (omega arith) o₁)
@@ -48,5 +48,5 @@ site_put i p b b₁ b₂ b₃ room e₁ q e₃ =
           (sym (word_low o₃ i (omega arith) ∙ word_low o₂ i (omega arith) ∙ stored_word b b₁ _ _ e₁ (omega arith)))
           (sym (word_low o₃ (i + east_offset) (omega arith) ∙ q.east))
           (sym (word_low o₃ (i + north_offset) (omega arith) ∙ q.north)));
-      mark = stored_word b₂ b₃ _ _ e₃ (omega (arith, o₁.len, o₂.len));
+      spare = stored_word b₂ b₃ _ _ e₃ (omega (arith, o₁.len, o₂.len));
     }

@@ -3,7 +3,7 @@
 use Rattle.std.specs.Prelude.{ℕ, ◌+◌, ◌*◌}
 use Rattle.limits.specs.Limits.{max_sites}
 
--- the records: number, east, north and the mark, 16 bits each
+-- the records: number, east, north and a word that is 0, 16 bits each
 abbrev pub site_start : ℕ
 site_start = 64
 
@@ -19,9 +19,9 @@ east_offset = 2
 abbrev pub north_offset : ℕ
 north_offset = 4
 
--- where in a record its mark stands: 0 where the site is open, 1 where it is closed (document 02, C-19)
-abbrev pub mark_offset : ℕ
-mark_offset = 6
+-- where in a record the word that is 0 stands
+abbrev pub spare_offset : ℕ
+spare_offset = 6
 
 -- where record k begins
 abbrev pub record_start : ℕ → ℕ

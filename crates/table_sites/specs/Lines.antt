@@ -1,14 +1,13 @@
--- The site array as the book's lines: "each a site number and a position", in rising order of number; and their marks:
--- document 02, C-19, "Each site now has an open mark".
+-- The site array as the book's lines: "each a site number and a position", in rising order of number.
 -- Assumes nothing.
-use Rattle.std.specs.Prelude.{◌≡◌, cond, List, [], ◌∷◌, ℕ, zero, suc, ◌+◌, ◌≤◌, ◌<◌, eqb, length, get_or}
+use Rattle.std.specs.Prelude.{◌≡◌, List, [], ◌∷◌, ℕ, zero, suc, ◌+◌, ◌≤◌, ◌<◌, length, get_or}
 use Rattle.limits.specs.Limits.{max_sites, table_bytes}
 use Rattle.words.specs.Words.{word_at}
 use Rattle.grid.specs.declared.Site.{Site}
 use Rattle.list_row.specs.Places.{site_at_byte}
 use Rattle.book.specs.Proper.{Rising}
 use Rattle.table_header.specs.Header.{count_in}
-use Rattle.table_sites.specs.Layout.{mark_offset, record_start}
+use Rattle.table_sites.specs.Layout.{spare_offset, record_start}
 use Rattle.table_sites.specs.declared.Found.{Found}
 
 -- the site of record k
@@ -24,39 +23,16 @@ lines_from b k (suc n) = line_at b k ∷ lines_from b (suc k) n
 unfoldable pub lines_in : List ℕ → List Site
 lines_in b = lines_from b 0 (count_in b)
 
--- the mark of record k
-abbrev pub mark_at : List ℕ → ℕ → ℕ
-mark_at b k = word_at b (record_start k + mark_offset)
-
--- the n marks from record k on
-unfoldable pub marks_from : List ℕ → ℕ → ℕ → List ℕ
-marks_from b k zero = []
-marks_from b k (suc n) = mark_at b k ∷ marks_from b (suc k) n
-
--- the marks of the table's lines
-unfoldable pub marks_in : List ℕ → List ℕ
-marks_in b = marks_from b 0 (count_in b)
-
--- the numbers of the lines whose mark is not 0
-unfoldable pub closed_of : List Site → List ℕ → List ℕ
-closed_of [] ms = []
-closed_of (p ∷ s) [] = []
-closed_of (p ∷ s) (m ∷ ms) = cond (eqb m 0) (closed_of s ms) (p.number ∷ closed_of s ms)
-
--- the closed numbers of the table
-unfoldable pub closed_in : List ℕ → List ℕ
-closed_in b = closed_of (lines_in b) (marks_in b)
-
--- the mark of each of the first n records is 0 or 1
-unfoldable pub MarkBits : List ℕ → ℕ → Type 0
-MarkBits b n = (k : ℕ) → k < n → mark_at b k ≤ 1
+-- the last word of each of the first n records is 0: it is kept for later
+unfoldable pub SpareZero : List ℕ → ℕ → Type 0
+SpareZero b n = (k : ℕ) → k < n → word_at b (record_start k + spare_offset) ≡ 0
 
 -- the array may be searched and changed: lines in rising order of number, no more than there is room for
 pub record Array (b : List ℕ) : Type 0 where
   pub len : length b ≡ table_bytes
   pub few : count_in b ≤ max_sites
   pub rising : Rising (lines_in b)
-  pub bits : MarkBits b (count_in b)
+  pub spare : SpareZero b (count_in b)
 
 -- what stands past the last line: no site has the number 0
 abbrev pub no_site : Site

@@ -9,8 +9,8 @@ use Rattle.grid.specs.declared.Site.{Site}
 use Rattle.split.specs.SplitList.{SitesOnGrid}
 use Rattle.book.specs.Proper.{Rising, NumberOk}
 use Rattle.table_header.specs.Header.{count_in}
-use Rattle.table_sites.specs.Layout.{record_start, east_offset, north_offset, mark_offset}
-use Rattle.table_sites.specs.Lines.{lines_in, MarkBits}
+use Rattle.table_sites.specs.Layout.{record_start, east_offset, north_offset, spare_offset}
+use Rattle.table_sites.specs.Lines.{lines_in, SpareZero}
 
 -- "in the table .. a rule on sites (number 0 or held twice, position off the grid, over 512), the docs/ layout"
 pub record SitesOk (b : List ℕ) : Type 0 where
@@ -18,7 +18,7 @@ pub record SitesOk (b : List ℕ) : Type 0 where
   pub numbers : (p : Site) → Memᴰ p (lines_in b) → NumberOk p
   pub rising : Rising (lines_in b)
   pub on_grid : SitesOnGrid (lines_in b)
-  pub bits : MarkBits b (count_in b)
+  pub spare : SpareZero b (count_in b)
 
 -- the record at byte i keeps the rules, where the record before it has the number low;
 -- that the number is at most 65,535 needs no test, since a word is read as 16 bits
@@ -27,7 +27,7 @@ pub record RecordOk (b : List ℕ) (i low : ℕ) : Type 0 where
   pub most : word_at b i ≤ max_number
   pub east : word_at b (i + east_offset) ≤ grid_width
   pub north : word_at b (i + north_offset) ≤ grid_width
-  pub mark : word_at b (i + mark_offset) ≤ 1
+  pub spare : word_at b (i + spare_offset) ≡ 0
 
 -- the number of the record before record k, 0 before the first
 unfoldable pub number_before : List ℕ → ℕ → ℕ

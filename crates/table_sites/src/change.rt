@@ -1,12 +1,12 @@
-// Changes of the site array: a record is put between others, taken out, or given another position or mark.
-ghost use Rattle.std.specs.Prelude.{◌+◌, ◌<◌, ◌≤◌, length, set};
+// Changes of the site array: a record is put between others, taken out, or given another position.
+ghost use Rattle.std.specs.Prelude.{◌+◌, ◌<◌, ◌≤◌, length};
 ghost use Rattle.limits.specs.Limits.{max_sites};
 ghost use Rattle.table_header.specs.Header.{count_in};
 ghost use Rattle.table_sites.specs.Layout.{site_bytes};
-ghost use Rattle.table_sites.specs.Lines.{lines_in, marks_in, Array};
+ghost use Rattle.table_sites.specs.Lines.{lines_in, Array};
 ghost use Rattle.table_sites.specs.Changes.{inserted, deleted, placed, ArrayChanged, PutPosition, PutSite};
 
-use crate::{EAST_OFFSET, MARK_OFFSET, NORTH_OFFSET, SITE_BYTES, SITE_START};
+use crate::{EAST_OFFSET, NORTH_OFFSET, SITE_BYTES, SITE_START, SPARE_OFFSET};
 use grid::{Position, Site};
 
 // Gives the record at byte i a position.
@@ -18,21 +18,20 @@ fn put_position(t: &mut [u8], i: usize, position: Position)
     words::put_word(t, i + NORTH_OFFSET, position.north);
 }
 
-// Stores a site in the record at byte i: it is open.
+// Stores a site in the record at byte i.
 fn put_site(t: &mut [u8], i: usize, site: Site)
     requires { i + site_bytes ≤ length t.old }
     ensures { PutSite i site t.old t.new }
 {
     words::put_word(t, i, site.number);
     put_position(t, i, site.position);
-    words::put_word(t, i + MARK_OFFSET, 0);
+    words::put_word(t, i + SPARE_OFFSET, 0);
 }
 
 // Puts a site before record k: the records from k on go up by one.
 pub fn insert(t: &mut [u8], k: usize, site: Site)
     requires { Array t.old × (count_in t.old < max_sites) × (k ≤ count_in t.old) }
-    ensures { ArrayChanged (inserted k site (lines_in t.old))
-        (inserted k 0 (marks_in t.old)) t.old t.new }
+    ensures { ArrayChanged (inserted k site (lines_in t.old)) t.old t.new }
 {
     let n = table_header::count(t);
     let to = SITE_START + SITE_BYTES * k;
@@ -45,8 +44,7 @@ pub fn insert(t: &mut [u8], k: usize, site: Site)
 // Takes record k out: the records behind it go down by one.
 pub fn delete(t: &mut [u8], k: usize)
     requires { Array t.old × (k < count_in t.old) }
-    ensures { ArrayChanged (deleted k (lines_in t.old))
-        (deleted k (marks_in t.old)) t.old t.new }
+    ensures { ArrayChanged (deleted k (lines_in t.old)) t.old t.new }
 {
     let n = table_header::count(t);
     let rest = n - 1;
@@ -59,19 +57,8 @@ pub fn delete(t: &mut [u8], k: usize)
 // Gives record k another position.
 pub fn place(t: &mut [u8], k: usize, position: Position)
     requires { Array t.old × (k < count_in t.old) }
-    ensures { ArrayChanged (placed k position (lines_in t.old))
-        (marks_in t.old) t.old t.new }
+    ensures { ArrayChanged (placed k position (lines_in t.old)) t.old t.new }
 {
     let at = SITE_START + SITE_BYTES * k;
     put_position(t, at, position);
-}
-
-// Gives record k another mark: 0 for open, 1 for closed.
-pub fn mark(t: &mut [u8], k: usize, m: u16)
-    requires { Array t.old × (k < count_in t.old) × (m ≤ 1) }
-    ensures { ArrayChanged (lines_in t.old)
-        (set (marks_in t.old) k m) t.old t.new }
-{
-    let at = SITE_START + SITE_BYTES * k;
-    words::put_word(t, at + MARK_OFFSET, m);
 }

@@ -1,10 +1,10 @@
 // The site array of the table, sorted by site number: it is the site book's lines. Document 01, "The site book";
-// docs/LAYOUT.md. A record is a site's number, its easting and its northing, and its mark, 16 bits each.
+// docs/LAYOUT.md. A record is a site's number, its easting and its northing, and a word that is 0, 16 bits each.
 ghost use Rattle.std.specs.Prelude.{◌≡◌, ◌*◌, ◌-◌, ◌<◌, ◌≤◌, length};
 ghost use Rattle.limits.specs.Limits.{max_sites, table_bytes};
 ghost use Rattle.words.specs.Words.{word_at};
 ghost use Rattle.table_sites.specs.Layout.{record_start};
-ghost use Rattle.table_sites.specs.Lines.{lines_in, line_at, mark_at, Array, FoundAs, Narrowed};
+ghost use Rattle.table_sites.specs.Lines.{lines_in, line_at, Array, FoundAs, Narrowed};
 
 use grid::{Position, Site};
 
@@ -16,12 +16,12 @@ const SITE_START: usize = 64;
 
 const SITE_BYTES: usize = 8;
 
-// Where in a record its easting, its northing and its mark stand.
+// Where in a record its easting, its northing and the word that is 0 stand.
 const EAST_OFFSET: usize = 2;
 
 const NORTH_OFFSET: usize = 4;
 
-const MARK_OFFSET: usize = 6;
+const SPARE_OFFSET: usize = 6;
 
 // Where a number stands: at a record, or in none, and then where it would go.
 #[derive(Drop)]
@@ -55,15 +55,6 @@ pub fn line(t: &[u8], k: usize) -> Site
             north: north,
         },
     }
-}
-
-// The mark of record k: 0 where its site is open, 1 where it is closed. Document 02, C-19.
-pub fn mark(t: &[u8], k: usize) -> u16
-    requires { (length t.now ≡ table_bytes) × (k < max_sites) }
-    ensures { result ≡ mark_at t.now k }
-{
-    let i = SITE_START + SITE_BYTES * k;
-    words::word(t, i + MARK_OFFSET)
 }
 
 // The place of record k: half the byte at which it begins.

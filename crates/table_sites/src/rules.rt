@@ -5,7 +5,7 @@ ghost use Rattle.grid.specs.Says.{Says};
 ghost use Rattle.table_sites.specs.Layout.{site_bytes};
 ghost use Rattle.table_sites.specs.Rules.{SitesOk, RecordOk};
 
-use crate::{EAST_OFFSET, MARK_OFFSET, NORTH_OFFSET, SITE_BYTES, SITE_START};
+use crate::{EAST_OFFSET, NORTH_OFFSET, SITE_BYTES, SITE_START, SPARE_OFFSET};
 
 // Whether the record at byte i keeps the rules, where the record before it has the number low.
 fn record_ok(t: &[u8], i: usize, low: u16) -> bool
@@ -15,7 +15,7 @@ fn record_ok(t: &[u8], i: usize, low: u16) -> bool
     let number = words::word(t, i);
     let east = words::word(t, i + EAST_OFFSET);
     let north = words::word(t, i + NORTH_OFFSET);
-    let mark = words::word(t, i + MARK_OFFSET);
+    let spare = words::word(t, i + SPARE_OFFSET);
     if number <= low {
         return false;
     }
@@ -25,7 +25,7 @@ fn record_ok(t: &[u8], i: usize, low: u16) -> bool
     if limits::GRID_WIDTH < north {
         return false;
     }
-    if 1 < mark {
+    if spare != 0 {
         return false;
     }
     true

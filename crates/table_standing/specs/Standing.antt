@@ -1,5 +1,5 @@
 -- The standing list in the table's bytes. Document 01: "The standing list is always the list of the standing
--- leg"; document 02, C-19: empty while no site is open.
+-- leg, empty while no site is held."
 -- Assumes nothing.
 use Rattle.std.specs.Prelude.{◌≡◌, List, [], ◌∷◌, ℕ, zero, suc, ◌+◌, ◌*◌, ◌≤◌, ◌<◌, length, get_or}
 use Rattle.words.specs.Words.{word_at, Only}

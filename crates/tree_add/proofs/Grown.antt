@@ -9,10 +9,9 @@ use Rattle.tree_node.specs.declared.NodeEntry.{NodeEntry}
 use Rattle.tree_node.specs.Boxes.{grow, hull, InBox}
 use Rattle.tree_node.specs.Tally.{total}
 use Rattle.tree_node.proofs.Counting.{total_append}
-use Rattle.tree_node.proofs.Hulls.{hull_reference, hull_sum, in_refl, in_trans, in_grow, in_grown}
+use Rattle.tree_node.proofs.Hulls.{hull_reference, in_refl, in_trans, in_grow, in_grown}
 use Rattle.tree_node.proofs.Telling.{entry_eq}
 use Rattle.tree_rules.specs.Tree.{Store, joined, leaves, Each, SoundUnder}
-use Rattle.tree_rules.proofs.Sums.{carried, each_sum}
 
 -- how far p's box stands out of q's
 unfoldable out : NodeEntry → NodeEntry → ℕ
@@ -35,6 +34,11 @@ hull_capped : (c : ℕ) (l : List NodeEntry) → Capped (hull c l)
 unfolding hull grow
 hull_capped c [] = omega arith
 hull_capped c (p ∷ l) = omega (arith, hull_capped c l)
+
+hull_spare : (c : ℕ) (l : List NodeEntry) → (hull c l).spare ≡ 0
+unfolding hull grow
+hull_spare c [] = refl
+hull_spare c (p ∷ l) = hull_spare c l
 
 -- q holds the smallest box of a list where nothing of the list stands out of q
 none_out : (c : ℕ) (q : NodeEntry) (l : List NodeEntry) → InBox (hull c l) q → total (out q) l ≡ 0
@@ -108,11 +112,6 @@ module _ (E E' : Store) (h c : ℕ) (e : NodeEntry) (l l' : List NodeEntry) (s :
       all_in c H l cap (joined_up E H cap (SoundUnder E h) (leaves E h) l (leaves_up E H cap h) s (omega (arith, leaf (out H)))) in
       omega arith
 
-  -- the number is the sum over the leaf entries, of which there is one more
-  grown_sum : (grow e (hull c l)).opens ≡ (hull c l').opens
-  unfolding grow
-  grown_sum = omega (arith, hull_sum c l, hull_sum c l', each_sum E h l s, each_sum E' h l' s', leaf carried)
-
   pub hull_grown : grow e (hull c l) ≡ hull c l'
   unfolding grow
   hull_grown =
@@ -124,4 +123,4 @@ module _ (E E' : Store) (h c : ℕ) (e : NodeEntry) (l l' : List NodeEntry) (s :
       (omega arith)
       (omega arith)
       (omega arith)
-      grown_sum
+      (hull_spare c l ∙ sym (hull_spare c l'))

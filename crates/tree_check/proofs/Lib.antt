@@ -6,4 +6,3 @@ pub mod RootPassing
 pub mod Shares
 pub mod Pool
 pub mod Tying
-pub mod Opens

@@ -13,7 +13,8 @@ use Rattle.grid.specs.declared.Site.{Site}
 use Rattle.grid.specs.Says.{Says}
 use Rattle.grid.proofs.Says.{says_yes, says_no}
 use Rattle.table_sites.specs.declared.Found.{Found}
-use Rattle.table_sites.specs.Lines.{lines_in, line_at, mark_at, closed_in, no_site, Array, StandsAt, FoundAs}
+use Rattle.table_sites.specs.Lines.{lines_in, line_at, no_site, Array, StandsAt, FoundAs}
+use Rattle.table_sites.proofs.Reading.{line_at_lem}
 use Rattle.table_sites.proofs.Finding.{found_at, found_absent, absent_missing, at_counted}
 use Rattle.tree_node.specs.declared.NodeEntry.{NodeEntry}
 use Rattle.tree_node.specs.Boxes.{hull}
@@ -27,10 +28,10 @@ use Rattle.tree_rules.specs.Tree.{joined, leaves, nodes, Each, Child, SoundUnder
 use Rattle.tree_rules.proofs.Every.{each_append, each_left, each_right}
 use Rattle.tree_rules.proofs.Totals.{total_cons}
 use Rattle.tree_check.specs.Marks.{mark_bytes, record_mark, Fresh, Marked, Bits, Prepared}
-use Rattle.tree_check.specs.Leaves.{opens_by, opens_of, leaf_with, leaf_entry, index_of, Known}
+use Rattle.tree_check.specs.Leaves.{leaf_entry, index_of, Known}
 use Rattle.tree_check.specs.Walk.{asked_for, met, Pass, Fits}
 use Rattle.tree_check.proofs.Marking.{marked_both, fresh_first, fresh_then, fresh_both, marked_set, fresh_at, fresh_hit, prepared_on, fresh_none, marked_none}
-use Rattle.tree_check.proofs.Leaves.{index_of_lem, known_number, leaf_own}
+use Rattle.tree_check.proofs.Leaves.{index_of_lem, known_number}
 
 -- an answer that says more
 told_both : {r : Bool} {A B C D : Type 0} → (A → C) → (C → A) → (A → B → D) → Told r A B → Told r C D
@@ -86,7 +87,7 @@ module _ (b : List ℕ) (h : ℕ) (o : List ℕ) where
     pass_head p =
         record {
           sound = (p.sound.0, tt);
-          known = each_append (Known (closed_in b) (lines_in b)) (leaves (entries b) h e) [] (each_left (Known (closed_in b) (lines_in b)) (leaves (entries b) h e) _ p.known) tt;
+          known = each_append (Known (lines_in b)) (leaves (entries b) h e) [] (each_left (Known (lines_in b)) (leaves (entries b) h e) _ p.known) tt;
           fresh = fresh_first (met b h (e ∷ [])) (met b h l) (met b h (e ∷ l)) o o (met_cons b h e l) p.fresh;
         }
 
@@ -96,7 +97,7 @@ module _ (b : List ℕ) (h : ℕ) (o : List ℕ) where
       pass_tail p =
           record {
             sound = p.sound.1;
-            known = each_right (Known (closed_in b) (lines_in b)) (leaves (entries b) h e) (joined (leaves (entries b) h) l) p.known;
+            known = each_right (Known (lines_in b)) (leaves (entries b) h e) (joined (leaves (entries b) h) l) p.known;
             fresh = fresh_then (met b h (e ∷ [])) (met b h l) (met b h (e ∷ l)) o o₁ (met_cons b h e l) r p.fresh;
           }
 
@@ -107,10 +108,10 @@ module _ (b : List ℕ) (h : ℕ) (o : List ℕ) where
             sound = (p.sound.0, q.sound);
             known =
                 each_append
-                (Known (closed_in b) (lines_in b))
+                (Known (lines_in b))
                 (leaves (entries b) h e)
                 (joined (leaves (entries b) h) l)
-                (each_left (Known (closed_in b) (lines_in b)) (leaves (entries b) h e) [] p.known)
+                (each_left (Known (lines_in b)) (leaves (entries b) h e) [] p.known)
                 q.known;
             fresh = fresh_both (met b h (e ∷ [])) (met b h l) (met b h (e ∷ l)) o o₁ (met_cons b h e l) r q.fresh;
           }
@@ -151,7 +152,7 @@ leaf_in b x k n f q a = omega (arith, at_counted b (found_at q f), a.few)
 
 -- a leaf entry
 module _ (b o : List ℕ) (e : NodeEntry) where
-  leaf_known : Pass b 0 (e ∷ []) o → Known (closed_in b) (lines_in b) e
+  leaf_known : Pass b 0 (e ∷ []) o → Known (lines_in b) e
   unfolding joined leaves Each
   leaf_known p = p.known.0
 
@@ -161,7 +162,7 @@ module _ (b o : List ℕ) (e : NodeEntry) where
         told_no
         (λ p.
         let y = leaf_known p in
-        absent_missing (found_absent q f) (index_of (lines_in b) e.reference) y.held (known_number (closed_in b) (lines_in b) e y))
+        absent_missing (found_absent q f) (index_of (lines_in b) e.reference) y.held (known_number (lines_in b) e y))
 
     module _ (q : x ≡ Found.At k) (s : Prepared b o) where
       stands : StandsAt k e.reference (lines_in b)
@@ -170,14 +171,13 @@ module _ (b o : List ℕ) (e : NodeEntry) where
       is_index : index_of (lines_in b) e.reference ≡ k
       is_index = index_of_lem (lines_in b) s.array.rising k e.reference stands.line stands.number
 
-      module _ (p : Site) (m : ℕ) (d : NodeEntry) (qp : p ≡ line_at b k) (qm : m ≡ mark_at b k) (qd : d ≡ leaf_with (opens_by m) p)
-          (r : Bool) (t : Told r (e ≡ d) (e ≡ d)) where
-        own : d ≡ leaf_entry (closed_in b) (get_or (lines_in b) k no_site)
-        own = qd ∙ leaf_own b k e.reference stands s.array.rising p m qp qm
+      module _ (p : Site) (d : NodeEntry) (qp : p ≡ line_at b k) (qd : d ≡ leaf_entry p) (r : Bool) (t : Told r (e ≡ d) (e ≡ d)) where
+        own : d ≡ leaf_entry (get_or (lines_in b) k no_site)
+        own = qd ∙ ap leaf_entry (qp ∙ sym (line_at_lem b k no_site (at_counted b stands)))
 
         pub leaf_other : {B : Type 0} → r ≡ false → Told false (Pass b 0 (e ∷ []) o) B
         leaf_other z =
-            told_no (λ v. t.no z ((leaf_known v).leaf ∙ ap (λ (j : ℕ). leaf_entry (closed_in b) (get_or (lines_in b) j no_site)) is_index ∙ sym own))
+            told_no (λ v. t.no z ((leaf_known v).leaf ∙ ap (λ (j : ℕ). leaf_entry (get_or (lines_in b) j no_site)) is_index ∙ sym own))
 
         pub leaf_told : (u : Bool) (o₁ : List ℕ) → r ≡ true → Told u (get_or o (max_nodes + k) 0 ≡ 0) (o₁ ≡ set o (max_nodes + k) 1)
             → Told u (Pass b 0 (e ∷ []) o) (Marked (met b 0 (e ∷ [])) o o₁)
@@ -231,7 +231,7 @@ module _ (b : List ℕ) (g : ℕ) (o : List ℕ) (e : NodeEntry) where
         record {
           sound =
               (record { id = lt; box = f.box; least = f.least; most = eight b e.reference; below = p.sound }, tt);
-          known = each_append (Known (closed_in b) (lines_in b)) (joined (leaves (entries b) g) (entries b e.reference)) [] p.known tt;
+          known = each_append (Known (lines_in b)) (joined (leaves (entries b) g) (entries b e.reference)) [] p.known tt;
           fresh =
               fresh_both (λ m. hit m e.reference) (met b g (entries b e.reference)) (met b (suc g) (e ∷ [])) o o₁ (met_node b g e) one p.fresh;
         }
@@ -241,7 +241,7 @@ module _ (b : List ℕ) (g : ℕ) (o : List ℕ) (e : NodeEntry) where
     pass_down p =
         record {
           sound = (child p).below;
-          known = each_left (Known (closed_in b) (lines_in b)) (joined (leaves (entries b) g) (entries b e.reference)) [] p.known;
+          known = each_left (Known (lines_in b)) (joined (leaves (entries b) g) (entries b e.reference)) [] p.known;
           fresh =
               fresh_then (λ m. hit m e.reference) (met b g (entries b e.reference)) (met b (suc g) (e ∷ [])) o o₁ (met_node b g e) one p.fresh;
         }

@@ -122,12 +122,12 @@ length_spread n l w =
     omega (arith, total_one l, total_spread (λ _. 1) n l w)
 
 -- a total over the leaf entries of lines, line by line
-pub total_known : (c : List ℕ) (s : List Site) (w : NodeEntry → ℕ) (l : List NodeEntry) → Each (Known c s) l
-    → total w l ≡ sum (λ k. total (λ e. hit k (index_of s e.reference)) l * w (leaf_entry c (get_or s k no_site))) (length s)
+pub total_known : (s : List Site) (w : NodeEntry → ℕ) (l : List NodeEntry) → Each (Known s) l
+    → total w l ≡ sum (λ k. total (λ e. hit k (index_of s e.reference)) l * w (leaf_entry (get_or s k no_site))) (length s)
 unfolding total Each
-total_known c s w [] p = let z = sum_zero (λ k. 0 * w (leaf_entry c (get_or s k no_site))) (length s) (λ k h. omega arith) in omega arith
-total_known c s w (e ∷ l) p =
-    let v : ℕ → ℕ = λ k. w (leaf_entry c (get_or s k no_site)) in
+total_known s w [] p = let z = sum_zero (λ k. 0 * w (leaf_entry (get_or s k no_site))) (length s) (λ k h. omega arith) in omega arith
+total_known s w (e ∷ l) p =
+    let v : ℕ → ℕ = λ k. w (leaf_entry (get_or s k no_site)) in
     let f : ℕ → ℕ = λ k. hit k (index_of s e.reference) in
     let g : ℕ → ℕ = λ k. total (λ d. hit k (index_of s d.reference)) l in
     let q = sum_ext (λ k. (f k + g k) * v k) (λ k. f k * v k + g k * v k) (length s) (λ k h. omega arith) in
@@ -137,11 +137,11 @@ total_known c s w (e ∷ l) p =
       sum_add (λ k. f k * v k) (λ k. g k * v k) (length s),
       sum_hit v (length s) (index_of s e.reference) p.0.held,
       ap w p.0.leaf,
-      total_known c s w l p.1,
+      total_known s w l p.1,
     )
 
 -- a total over the leaf entries of all lines
-pub total_lines : (w : NodeEntry → ℕ) (c : List ℕ) (s : List Site) → total w (leaf_entries c s) ≡ sum (λ k. w (leaf_entry c (get_or s k no_site))) (length s)
+pub total_lines : (w : NodeEntry → ℕ) (s : List Site) → total w (leaf_entries s) ≡ sum (λ k. w (leaf_entry (get_or s k no_site))) (length s)
 unfolding total leaf_entries sum
-total_lines w c [] = refl
-total_lines w c (p ∷ s) = omega (arith, sum_first (λ k. w (leaf_entry c (get_or (p ∷ s) k no_site))) (length s), total_lines w c s)
+total_lines w [] = refl
+total_lines w (p ∷ s) = omega (arith, sum_first (λ k. w (leaf_entry (get_or (p ∷ s) k no_site))) (length s), total_lines w s)

@@ -14,7 +14,7 @@ use Rattle.grid.specs.Says.{Says}
 use Rattle.grid.proofs.Says.{says_map}
 use Rattle.book.specs.Proper.{Rising}
 use Rattle.table_header.specs.Header.{count_in}
-use Rattle.table_sites.specs.Lines.{lines_in, closed_in, no_site, number_of, Array}
+use Rattle.table_sites.specs.Lines.{lines_in, no_site, number_of, Array}
 use Rattle.table_sites.proofs.Reading.{lines_length}
 use Rattle.tree_node.specs.declared.NodeEntry.{NodeEntry}
 use Rattle.tree_node.specs.declared.Root.{Root}
@@ -30,21 +30,21 @@ use Rattle.tree_rules.proofs.Members.{same_each}
 use Rattle.tree_rules.proofs.Roots.{root_levels}
 use Rattle.tree_check.specs.Marks.{record_mark, Blank, Full, Fresh, Marked, FreePass}
 use Rattle.tree_check.specs.Leaves.{leaf_entry, leaf_entries, index_of, Known}
-use Rattle.tree_check.specs.Tied.{Joined}
+use Rattle.tree_check.specs.Tied.{Tied}
 use Rattle.tree_check.specs.Walk.{asked_for, Low, root_met, RootPass}
 use Rattle.tree_check.proofs.Marking.{hit_not}
 use Rattle.tree_check.proofs.Shares.{sum, sum_ext, sum_one, sum_add, sum_full, hits_high, hits_in, length_spread, total_known, total_lines}
 use Rattle.tree_check.proofs.Pool.{root_pool}
-use Rattle.tree_check.proofs.Leaves.{joined_count, own_index, own_known}
+use Rattle.tree_check.proofs.Leaves.{tied_count, own_index, own_known}
 
 -- the marks that the leaf entries L ask for, where s are the lines
 abbrev leaf_hits : List Site → List NodeEntry → ℕ → ℕ
 leaf_hits s L m = total (λ e. hit m (record_mark (index_of s e.reference))) L
 
 -- the lines ask for one mark each
-line_hits : (c : List ℕ) (s : List Site) → Rising s → (m : ℕ) → leaf_hits s (leaf_entries c s) m ≡ sum (λ k. hit m (max_nodes + k)) (length s)
-line_hits c s r m =
-    total_lines (λ e. hit m (record_mark (index_of s e.reference))) c s
+line_hits : (s : List Site) → Rising s → (m : ℕ) → leaf_hits s (leaf_entries s) m ≡ sum (λ k. hit m (max_nodes + k)) (length s)
+line_hits s r m =
+    total_lines (λ e. hit m (record_mark (index_of s e.reference))) s
     ∙ sum_ext
     (λ k. hit m (record_mark (index_of s (number_of s k))))
     (λ k. hit m (max_nodes + k))
@@ -96,19 +96,19 @@ few : (b : List ℕ) → Array b → held b ≤ max_sites
 few b a = omega (arith, a.few, lines_length b)
 
 -- what a tied table asks for
-module _ (b : List ℕ) (a : Array b) (t : Joined b) where
-  leaf_total : (w : NodeEntry → ℕ) → total w (tree_leaves (entries b) (root_in b)) ≡ total w (leaf_entries (closed_in b) (lines_in b))
+module _ (b : List ℕ) (a : Array b) (t : Tied b) where
+  leaf_total : (w : NodeEntry → ℕ) → total w (tree_leaves (entries b) (root_in b)) ≡ total w (leaf_entries (lines_in b))
   unfolding leaves_in
   leaf_total w = t.leaf w
 
-  tied_known : Each (Known (closed_in b) (lines_in b)) (tree_leaves (entries b) (root_in b))
+  tied_known : Each (Known (lines_in b)) (tree_leaves (entries b) (root_in b))
   tied_known =
       same_each
       (tree_leaves (entries b) (root_in b))
-      (leaf_entries (closed_in b) (lines_in b))
+      (leaf_entries (lines_in b))
       leaf_total
-      (Known (closed_in b) (lines_in b))
-      (own_known (lines_in b) a.rising (closed_in b))
+      (Known (lines_in b))
+      (own_known (lines_in b) a.rising)
 
   node_met : (m : ℕ) → m < max_nodes → root_met b (root_in b) m ≡ tally m (tree_nodes (entries b) (root_in b))
   unfolding root_met
@@ -125,7 +125,7 @@ module _ (b : List ℕ) (a : Array b) (t : Joined b) where
       (λ some. t.rooted.within m (omega arith))
       le
       ∙ leaf_total (λ e. hit m (record_mark (index_of (lines_in b) e.reference)))
-      ∙ line_hits (closed_in b) (lines_in b) a.rising m
+      ∙ line_hits (lines_in b) a.rising m
 
   record_free : (m : ℕ) → max_nodes ≤ m → tally m (free b) ≡ 0
   record_free m le =
@@ -178,7 +178,7 @@ module _ (b : List ℕ) (a : Array b) (t : Joined b) where
   -- "There are at most six levels"
   tied_levels : Low (root_in b)
   unfolding leaves_in
-  tied_levels = tied_low (root_in b) t.rooted (omega (arith, joined_count b t, few b a))
+  tied_levels = tied_low (root_in b) t.rooted (omega (arith, tied_count b t, few b a))
 
   -- so the test of a tied table goes through
   module _ (o : List ℕ) (z : Blank o) where
@@ -282,32 +282,32 @@ module _ (b o o₁ o₂ : List ℕ) (ar : Array b) (z : Blank o) (a : RootPass b
             (tree_leaves (entries b) (root_in b)),
       )
 
-  passed_tied : Joined b
+  passed_tied : Tied b
   unfolding leaves_in
   passed_tied =
       record {
         rooted = passed_rooted;
         leaf = λ w.
-            total_known (closed_in b) (lines_in b) w (tree_leaves (entries b) (root_in b)) a.known
+            total_known (lines_in b) w (tree_leaves (entries b) (root_in b)) a.known
             ∙ sum_ext
-            (λ k. total (λ e. hit k (index_of (lines_in b) e.reference)) (tree_leaves (entries b) (root_in b)) * w (leaf_entry (closed_in b) (get_or (lines_in b) k no_site)))
-            (λ k. w (leaf_entry (closed_in b) (get_or (lines_in b) k no_site)))
+            (λ k. total (λ e. hit k (index_of (lines_in b) e.reference)) (tree_leaves (entries b) (root_in b)) * w (leaf_entry (get_or (lines_in b) k no_site)))
+            (λ k. w (leaf_entry (get_or (lines_in b) k no_site)))
             (held b)
             (λ k lt. rw (record_once k lt) (omega arith))
-            ∙ sym (total_lines w (closed_in b) (lines_in b));
+            ∙ sym (total_lines w (lines_in b));
       }
 
 -- the answers of `check`
 module _ (b : List ℕ) (ar : Array b) (o : List ℕ) (z : Blank o) where
-  pub check_root_no : {B : Type 0} (r : Bool) → Told r (RootPass b (root_in b) o) B → r ≡ false → ¬ Joined b
+  pub check_root_no : {B : Type 0} (r : Bool) → Told r (RootPass b (root_in b) o) B → r ≡ false → ¬ Tied b
   check_root_no r a w t = a.no w (tied_root b ar t o z)
 
   module _ (o₁ : List ℕ) (r : Bool) (a : Told r (RootPass b (root_in b) o) (Marked (root_met b (root_in b)) o o₁)) (went : r ≡ true) where
-    pub check_free_no : {B : Type 0} (s : Bool) → Told s (FreePass b o₁) B → s ≡ false → ¬ Joined b
+    pub check_free_no : {B : Type 0} (s : Bool) → Told s (FreePass b o₁) B → s ≡ false → ¬ Tied b
     check_free_no s f w t = f.no w (tied_free b ar t o z o₁ (a.yes went).1)
 
     pub check_told : (s u : Bool) (n : ℕ) (o₂ : List ℕ) → n ≡ count_in b → Told s (FreePass b o₁) (Marked (λ m. tally m (free b)) o₁ o₂) → s ≡ true
-        → Says u (Full (max_nodes + n) o₂) → Says u (Joined b)
+        → Says u (Full (max_nodes + n) o₂) → Says u (Tied b)
     check_told s u n o₂ c f too w =
         let x = a.yes went in
         let y = f.yes too in

@@ -1,5 +1,4 @@
 pub mod Leaves
-pub mod Opens
 pub mod Tied
 pub mod Marks
 pub mod Walk

@@ -3,7 +3,7 @@
 use Rattle.std.specs.Prelude.{List, ◌≡◌, ℕ, ◌+◌, ◌≤◌, length}
 use Rattle.limits.specs.Limits.{min_entries, max_levels}
 use Rattle.grid.specs.declared.Site.{Site}
-use Rattle.table_sites.specs.Lines.{lines_in, closed_in}
+use Rattle.table_sites.specs.Lines.{lines_in}
 use Rattle.tree_node.specs.declared.NodeEntry.{NodeEntry}
 use Rattle.tree_node.specs.declared.Root.{Root}
 use Rattle.tree_node.specs.Boxes.{hull}
@@ -26,7 +26,7 @@ met b h l = asked_for (lines_in b) (joined (nodes (entries b) h) l) (joined (lea
 -- is met twice
 pub record Pass (b : List ℕ) (h : ℕ) (l : List NodeEntry) (o : List ℕ) : Type 0 where
   pub sound : Each (SoundUnder (entries b) h) l
-  pub known : Each (Known (closed_in b) (lines_in b)) (joined (leaves (entries b) h) l)
+  pub known : Each (Known (lines_in b)) (joined (leaves (entries b) h) l)
   pub fresh : Fresh (met b h l) o
 
 -- e's child node keeps the rules on nodes, but for what its entries refer to
@@ -56,5 +56,5 @@ root_met b r = asked_for (lines_in b) (tree_nodes (entries b) r) (tree_leaves (e
 pub record RootPass (b : List ℕ) (r : Root) (o : List ℕ) : Type 0 where
   pub top : RootSound (entries b) r
   pub low : Low r
-  pub known : Each (Known (closed_in b) (lines_in b)) (tree_leaves (entries b) r)
+  pub known : Each (Known (lines_in b)) (tree_leaves (entries b) r)
   pub fresh : Fresh (root_met b r) o

@@ -4,15 +4,14 @@
 pub mod free;
 pub mod hints;
 pub mod marks;
-pub mod root;
 pub mod walk;
 
 ghost use Rattle.std.specs.Prelude.{◌≡◌, length};
 ghost use Rattle.grid.specs.Says.{Says};
 ghost use Rattle.table_sites.specs.Lines.{Array};
-ghost use Rattle.tree_check.specs.Leaves.{opens_by, leaf_with};
+ghost use Rattle.tree_check.specs.Leaves.{leaf_entry};
 ghost use Rattle.tree_check.specs.Marks.{seen_bytes};
-ghost use Rattle.tree_check.specs.Tied.{Joined, Tied};
+ghost use Rattle.tree_check.specs.Tied.{Tied};
 
 use grid::Site;
 use limits::MAX_NODES;
@@ -21,21 +20,10 @@ use tree_node::NodeEntry;
 // What has to be lent beside the table: the marks, and behind them the hints.
 pub const SEEN_BYTES: usize = marks::MARK_BYTES + hints::HINT_BYTES;
 
-// How many open sites a leaf entry has under it, by its site's mark.
-fn opens_by(mark: u16) -> u16
-    ensures { result ≡ opens_by mark }
+// The leaf entry of a site.
+pub fn leaf_entry(p: Site) -> NodeEntry
+    ensures { result ≡ leaf_entry p }
 {
-    if mark == 0 {
-        return 1;
-    }
-    0
-}
-
-// The leaf entry of a site with this mark.
-pub fn leaf_entry(p: Site, mark: u16) -> NodeEntry
-    ensures { result ≡ leaf_with (opens_by mark) p }
-{
-    let opens = opens_by(mark);
     let east = p.position.east;
     let north = p.position.north;
     NodeEntry {
@@ -44,15 +32,15 @@ pub fn leaf_entry(p: Site, mark: u16) -> NodeEntry
         south: north,
         east: east,
         north: north,
-        opens: opens,
+        spare: 0,
     }
 }
 
 // Whether the tree in the table keeps its rules and has the leaf entries of the site array, whose numbers rise.
 // The bytes of `seen` are changed.
-fn check_tree(t: &[u8], seen: &mut [u8]) -> bool
+pub fn check(t: &[u8], seen: &mut [u8]) -> bool
     requires { Array t.now × (length seen.old ≡ seen_bytes) }
-    ensures { Says result (Joined t.now) }
+    ensures { Says result (Tied t.now) }
 {
     let n = table_header::count(t);
     hints::note(t, n, seen);
@@ -61,19 +49,6 @@ fn check_tree(t: &[u8], seen: &mut [u8]) -> bool
         if free::check_free(t, seen) {
             return marks::full(seen, MAX_NODES + n);
         }
-    }
-    false
-}
-
-// The same, and whether the number of open sites is stored that the tree has (C-20).
-pub fn check(t: &[u8], seen: &mut [u8]) -> bool
-    requires { Array t.now × (length seen.old ≡ seen_bytes) }
-    ensures { Says result (Tied t.now) }
-{
-    if check_tree(t, seen) {
-        let n = root::counted(t);
-        let o = root::stored(t);
-        return n == o;
     }
     false
 }

@@ -25,7 +25,7 @@ fn check_leaf(t: &[u8], e: NodeEntry, seen: &mut [u8]) -> bool
     match f {
         Found::Absent(_) => false,
         Found::At(k) => {
-            let p = leaf_entry(table_sites::line(t, k), table_sites::mark(t, k));
+            let p = leaf_entry(table_sites::line(t, k));
             if boxes::same(e, p) {
                 return marks::mark(seen, MAX_NODES + k);
             }

@@ -89,9 +89,9 @@ pub entry_read : (b : List ℕ) (n k i : ℕ) (e : NodeEntry) → k < length (en
 entry_read b n k i e h at q = q ∙ ap (entry_at b) at ∙ sym (get_d_entries b n k h)
 
 -- an entry is its six numbers
-pub words_read : (b : List ℕ) (i reference west south east north opens : ℕ) → reference ≡ word_at b i → west ≡ word_at b (i + 2) → south ≡ word_at b (i + 4)
-    → east ≡ word_at b (i + 6) → north ≡ word_at b (i + 8) → opens ≡ word_at b (i + 10)
-    → record { reference = reference; west = west; south = south; east = east; north = north; opens = opens } ≡ entry_at b i
+pub words_read : (b : List ℕ) (i reference west south east north spare : ℕ) → reference ≡ word_at b i → west ≡ word_at b (i + 2) → south ≡ word_at b (i + 4)
+    → east ≡ word_at b (i + 6) → north ≡ word_at b (i + 8) → spare ≡ word_at b (i + 10)
+    → record { reference = reference; west = west; south = south; east = east; north = north; spare = spare } ≡ entry_at b i
 unfolding entry_at
-words_read b i reference west south east north opens r w s e n z =
-    λ j. record { reference = r j; west = w j; south = s j; east = e j; north = n j; opens = z j }
+words_read b i reference west south east north spare r w s e n z =
+    λ j. record { reference = r j; west = w j; south = s j; east = e j; north = n j; spare = z j }

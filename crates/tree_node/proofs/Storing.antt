@@ -28,7 +28,7 @@ module _ {lo hi : ℕ} {b b' : List ℕ} (p : Only lo hi b b') where
         south = word_low p (o + 4) (omega arith) i;
         east = word_low p (o + 6) (omega arith) i;
         north = word_low p (o + 8) (omega arith) i;
-        opens = word_low p (o + 10) (omega arith) i;
+        spare = word_low p (o + 10) (omega arith) i;
       }
 
   pub entry_high : (o : ℕ) → hi ≤ o → entry_at b' o ≡ entry_at b o
@@ -40,7 +40,7 @@ module _ {lo hi : ℕ} {b b' : List ℕ} (p : Only lo hi b b') where
         south = word_high p (o + 4) (omega arith) i;
         east = word_high p (o + 6) (omega arith) i;
         north = word_high p (o + 8) (omega arith) i;
-        opens = word_high p (o + 10) (omega arith) i;
+        spare = word_high p (o + 10) (omega arith) i;
       }
 
 pub only_put_entry : (b : List ℕ) (o : ℕ) (e : NodeEntry) → Only o (o + node_entry_bytes) b (put_entry b o e)
@@ -56,7 +56,7 @@ only_put_entry b o e =
     (only_wider (omega arith) (omega arith) (only_put_word _ (o + 6) e.east))
     (only_trans
     (only_wider (omega arith) (omega arith) (only_put_word _ (o + 8) e.north))
-    (only_wider (omega arith) (omega arith) (only_put_word _ (o + 10) e.opens))))))
+    (only_wider (omega arith) (omega arith) (only_put_word _ (o + 10) e.spare))))))
 
 -- what is stored is read
 pub entry_put_entry : (b : List ℕ) (o : ℕ) (e : NodeEntry) → o + node_entry_bytes ≤ length b → entry_at (put_entry b o e) o ≡ e
@@ -72,7 +72,7 @@ entry_put_entry b o e h =
     let p₃ = only_put_word b₂ (o + 4) e.south in
     let p₄ = only_put_word b₃ (o + 6) e.east in
     let p₅ = only_put_word b₄ (o + 8) e.north in
-    let p₆ = only_put_word b₅ (o + 10) e.opens in
+    let p₆ = only_put_word b₅ (o + 10) e.spare in
     λ i. record {
       reference =
           (word_low p₆ o (omega arith) ∙ word_low p₅ o (omega arith) ∙ word_low p₄ o (omega arith) ∙ word_low p₃ o (omega arith)
@@ -86,7 +86,7 @@ entry_put_entry b o e h =
       east =
           (word_low p₆ (o + 6) (omega arith) ∙ word_low p₅ (o + 6) (omega arith) ∙ word_put_word b₃ (o + 6) e.east (omega arith)) i;
       north = (word_low p₆ (o + 8) (omega arith) ∙ word_put_word b₄ (o + 8) e.north (omega arith)) i;
-      opens = word_put_word b₅ (o + 10) e.opens (omega arith) i;
+      spare = word_put_word b₅ (o + 10) e.spare (omega arith) i;
     }
 
 -- a change of node n's bytes leaves every other node

@@ -42,9 +42,9 @@ east_edge = 6
 abbrev pub north_edge : ℕ
 north_edge = 8
 
--- the number of open sites under it: at a leaf 1 where the site is open, 0 where it is closed (C-19)
-abbrev pub entry_opens : ℕ
-entry_opens = 10
+-- the number that is 0
+abbrev pub entry_spare : ℕ
+entry_spare = 10
 
 -- the number of a node's entries, before them
 abbrev pub count_bytes : ℕ

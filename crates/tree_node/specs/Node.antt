@@ -4,7 +4,7 @@ use Rattle.std.specs.Prelude.{◌≡◌, List, [], ◌∷◌, ◌++◌, ℕ, zer
 use Rattle.limits.specs.Limits.{max_entries, table_bytes}
 use Rattle.words.specs.Words.{word_at, put_word, Only}
 use Rattle.tree_node.specs.declared.NodeEntry.{NodeEntry}
-use Rattle.tree_node.specs.Layout.{pool_start, node_bytes, base, entry_start, up_to, west_edge, south_edge, east_edge, north_edge, entry_opens}
+use Rattle.tree_node.specs.Layout.{pool_start, node_bytes, base, entry_start, up_to, west_edge, south_edge, east_edge, north_edge, entry_spare}
 
 -- the entry that starts at byte i
 unfoldable pub entry_at : List ℕ → ℕ → NodeEntry
@@ -15,7 +15,7 @@ entry_at b i =
       south = word_at b (i + south_edge);
       east = word_at b (i + east_edge);
       north = word_at b (i + north_edge);
-      opens = word_at b (i + entry_opens);
+      spare = word_at b (i + entry_spare);
     }
 
 -- e stored from byte i on
@@ -29,8 +29,8 @@ put_entry b i e =
     e.east)
     (i + north_edge)
     e.north)
-    (i + entry_opens)
-    e.opens
+    (i + entry_spare)
+    e.spare
 
 -- f 0, f 1, ..: n of them
 unfoldable pub firsts : (ℕ → NodeEntry) → ℕ → List NodeEntry
@@ -43,7 +43,7 @@ entries b n = firsts (λ k. entry_at b (entry_start n k)) (up_to max_entries (wo
 
 -- what stands past a node's last entry
 abbrev pub no_entry : NodeEntry
-no_entry = record { reference = 0; west = 0; south = 0; east = 0; north = 0; opens = 0 }
+no_entry = record { reference = 0; west = 0; south = 0; east = 0; north = 0; spare = 0 }
 
 -- l without its entry k: the last one takes its place
 unfoldable pub swap_out : List NodeEntry → ℕ → List NodeEntry

@@ -1,8 +1,8 @@
 // The boxes of entries: widened, compared, and the smallest one of a node.
-ghost use Rattle.std.specs.Prelude.{◌≡◌, [], ◌∷◌, ◌++◌, ◌+◌, ◌<◌, min, max, length};
+ghost use Rattle.std.specs.Prelude.{◌≡◌, [], ◌∷◌, ◌++◌, ◌<◌, min, max, length};
 ghost use Rattle.limits.specs.Limits.{max_entries, max_nodes, table_bytes};
 ghost use Rattle.tree_node.specs.Node.{entries, Wrote};
-ghost use Rattle.tree_node.specs.Boxes.{grow, widen, summed, hull};
+ghost use Rattle.tree_node.specs.Boxes.{grow, hull};
 ghost use Rattle.tree_node.specs.Told.{Told};
 
 use crate::{NodeEntry, pool};
@@ -19,15 +19,7 @@ fn larger(a: u16, b: u16) -> u16
     if a <= b { b } else { a }
 }
 
-// a and b together, 65535 where that is more.
-pub fn both(a: u16, b: u16) -> u16
-    ensures { result ≡ min 65535 (a + b) }
-{
-    let room = 65535 - a;
-    if b <= room { a + b } else { 65535 }
-}
-
-// The entry f, its box widened to hold the box of e, and its number raised by that of e.
+// The entry f, its box widened to hold the box of e.
 pub fn grown(e: NodeEntry, f: NodeEntry) -> NodeEntry
     ensures { result ≡ grow e f }
 {
@@ -37,54 +29,11 @@ pub fn grown(e: NodeEntry, f: NodeEntry) -> NodeEntry
         south: lesser(e.south, f.south),
         east: larger(e.east, f.east),
         north: larger(e.north, f.north),
-        opens: both(e.opens, f.opens),
+        spare: f.spare,
     }
 }
 
-// The entry f, its box alone widened to hold the box of e.
-fn widened(e: NodeEntry, f: NodeEntry) -> NodeEntry
-    ensures { result ≡ widen e f }
-{
-    NodeEntry {
-        reference: f.reference,
-        west: lesser(e.west, f.west),
-        south: lesser(e.south, f.south),
-        east: larger(e.east, f.east),
-        north: larger(e.north, f.north),
-        opens: f.opens,
-    }
-}
-
-// A number as a wider one.
-fn wide(x: u16) -> u32
-    ensures { (result ≡ x) × (result < 65536) }
-{
-    x as u32
-}
-
-// A sum, 65535 where it is more.
-fn most(s: u32) -> u16
-    ensures { result ≡ min 65535 s }
-{
-    if s <= 65535 { s as u16 } else { 65535 }
-}
-
-// The entry f with the number s, of at most 65535.
-fn with_sum(f: NodeEntry, s: u32) -> NodeEntry
-    ensures { result ≡ summed f s }
-{
-    NodeEntry {
-        reference: f.reference,
-        west: f.west,
-        south: f.south,
-        east: f.east,
-        north: f.north,
-        opens: most(s),
-    }
-}
-
-// The entry for node n: the smallest box of its entries, and the sum of their numbers. That is taken beside the box, in
-// more bits, since a bound on each partial sum takes longer than the sum.
+// The entry for node n: the smallest box of its entries.
 pub fn hull_of(table: &[u8], n: usize) -> NodeEntry
     requires { (length table.now ≡ table_bytes) × (n < max_nodes) }
     ensures { result ≡ hull n (entries table.now n) }
@@ -95,17 +44,15 @@ pub fn hull_of(table: &[u8], n: usize) -> NodeEntry
         south: 65535,
         east: 0,
         north: 0,
-        opens: 0,
+        spare: 0,
     };
-    let mut sum: u32 = 0;
     let mut k = pool::count(table, n);
     while 0 < k {
         k -= 1;
         let e = pool::entry_at(table, n, k);
-        f = widened(e, f);
-        sum += wide(e.opens);
+        f = grown(e, f);
     }
-    with_sum(f, sum)
+    f
 }
 
 // Adds the entry of node c to node n, which has room for it.
@@ -138,7 +85,7 @@ pub fn same(a: NodeEntry, b: NodeEntry) -> bool
     if a.north != b.north {
         return false;
     }
-    if a.opens != b.opens {
+    if a.spare != b.spare {
         return false;
     }
     true

@@ -26,7 +26,7 @@ const ENTRY_BYTES: usize = 12;
 // The bytes of a node's count, behind which its entries stand.
 const COUNT_BYTES: usize = 2;
 
-// Where in an entry its edges and its number of open sites stand, behind the reference.
+// Where in an entry its edges and its spare number stand, behind the reference.
 const WEST_EDGE: usize = 2;
 
 const SOUTH_EDGE: usize = 4;
@@ -35,11 +35,11 @@ const EAST_EDGE: usize = 6;
 
 const NORTH_EDGE: usize = 8;
 
-const ENTRY_OPENS: usize = 10;
+const ENTRY_SPARE: usize = 10;
 
 // An entry of a node: at a leaf the number of a site, above the leaves the child node's id, and the smallest box of
-// what lies under it. Coordinates are counted from the grid's south-west corner. Then the number of open sites under
-// it, at a leaf 1 or 0 (C-19). The box comes first, so that a copied entry's box lies in one machine word.
+// what lies under it. Coordinates are counted from the grid's south-west corner. The spare number is 0. The box comes
+// first, so that a copied entry's box lies in one machine word.
 #[derive(Drop)]
 pub struct NodeEntry {
     pub west: u16,
@@ -47,7 +47,7 @@ pub struct NodeEntry {
     pub east: u16,
     pub north: u16,
     pub reference: u16,
-    pub opens: u16,
+    pub spare: u16,
 }
 
 // The tree: nothing, or the height at which the root's entries stand, 0 where they are leaf entries, and the root's

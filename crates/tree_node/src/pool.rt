@@ -5,7 +5,7 @@ ghost use Rattle.tree_node.specs.Layout.{node_entry_bytes, base, entry_start};
 ghost use Rattle.tree_node.specs.Node.{entry_at, put_entry, entries, no_entry, swap_out, Wrote};
 
 use crate::{
-    COUNT_BYTES, EAST_EDGE, ENTRY_BYTES, ENTRY_OPENS, NODE_BYTES, NORTH_EDGE, NodeEntry,
+    COUNT_BYTES, EAST_EDGE, ENTRY_BYTES, ENTRY_SPARE, NODE_BYTES, NORTH_EDGE, NodeEntry,
     POOL_START, SOUTH_EDGE, WEST_EDGE,
 };
 use limits::MAX_ENTRIES;
@@ -21,7 +21,7 @@ fn get_entry(table: &[u8], i: usize) -> NodeEntry
         south: words::word(table, i + SOUTH_EDGE),
         east: words::word(table, i + EAST_EDGE),
         north: words::word(table, i + NORTH_EDGE),
-        opens: words::word(table, i + ENTRY_OPENS),
+        spare: words::word(table, i + ENTRY_SPARE),
     }
 }
 
@@ -35,7 +35,7 @@ fn set_entry(table: &mut [u8], i: usize, e: NodeEntry)
     words::put_word(table, i + SOUTH_EDGE, e.south);
     words::put_word(table, i + EAST_EDGE, e.east);
     words::put_word(table, i + NORTH_EDGE, e.north);
-    words::put_word(table, i + ENTRY_OPENS, e.opens);
+    words::put_word(table, i + ENTRY_SPARE, e.spare);
 }
 
 // Where node n starts.

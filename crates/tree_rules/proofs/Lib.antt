@@ -8,4 +8,3 @@ pub mod Roots
 pub mod Outside
 pub mod Descent
 pub mod Perms
-pub mod Sums

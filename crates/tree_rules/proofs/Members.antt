@@ -41,7 +41,7 @@ unfoldable differ : NodeEntry → NodeEntry → ℕ
 differ x e =
     apart x.reference e.reference + apart x.west e.west + apart x.south e.south + apart x.east e.east
     + apart x.north e.north
-    + apart x.opens e.opens
+    + apart x.spare e.spare
 
 differ_zero : (x e : NodeEntry) → differ x e ≡ 0 → x ≡ e
 unfolding differ
@@ -52,7 +52,7 @@ differ_zero x e h =
     (apart_zero x.south e.south (omega arith))
     (apart_zero x.east e.east (omega arith))
     (apart_zero x.north e.north (omega arith))
-    (apart_zero x.opens e.opens (omega arith))
+    (apart_zero x.spare e.spare (omega arith))
 
 differ_itself : (x : NodeEntry) → differ x x ≡ 0
 unfolding differ apart

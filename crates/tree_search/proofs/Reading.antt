@@ -5,7 +5,6 @@ use mathlib.Core.Bool.{Bool, true}
 use mathlib.Core.List.{List, ◌++◌}
 use Prim.Native.Nat.{ℕ, suc, ◌+◌, ◌*◌, ◌-◌, ◌≤◌, ◌<◌}
 use native.Mathlib.Omega.{arith}
-use native.Mathlib.Decide.{ℕ_discrete}
 use lib.ListN.{length}
 use Rattle.limits.specs.Limits.{max_sites}
 use Rattle.grid.specs.declared.Position.{Position}
@@ -35,12 +34,12 @@ use Rattle.tree_rules.proofs.Totals.{leaves_under}
 use Rattle.permutation.proofs.Perms.{perm_sym}
 use Rattle.tree_search.specs.declared.descent.Progress.{Progress}
 use Rattle.tree_search.specs.Sites.{site_of, LeafPoint, sites, area_of, BoxOnGrid}
-use Rattle.tree_search.specs.Searching.{entry_of, under, ComesNext, OpenCorner, Readable, Ahead, Searched, Progressed}
+use Rattle.tree_search.specs.Searching.{entry_of, under, ComesNext, Readable, Ahead, Searched, Progressed}
 use Rattle.tree_search.proofs.Orders.{perm_joined}
 use Rattle.tree_search.proofs.OnGrid.{each_placed}
 use Rattle.tree_search.proofs.Corners.{corner_skips}
 use Rattle.tree_search.proofs.Around.{around, follows_in, follow, around_none, around_step, around_all}
-use Rattle.tree_search.proofs.Searching.{searched_none, searched_leaf, searched_closed, searched_skip, searched_perm, searched_then, ahead_first, ahead_rest, ahead_perm}
+use Rattle.tree_search.proofs.Searching.{searched_none, searched_leaf, searched_skip, searched_perm, searched_then, ahead_first, ahead_rest, ahead_perm}
 
 -- entry i of node n, at height h
 module _ (t : List ℕ) (h n i : ℕ) (rd : Readable t h n) (lt : i < length (entries t n)) where
@@ -53,9 +52,6 @@ module _ (t : List ℕ) (h n i : ℕ) (rd : Readable t h n) (lt : i < length (en
     entry_skipped {w} q b e f =
         searched_skip (entries t) h (entry_of t n i) entry_sound ah.points ah.held (corner_skips l t r k (entry_of t n i) w q (if_true b e f))
 
-pub still_open : (t : List ℕ) (n i : ℕ) (e : NodeEntry) → e ≡ entry_of t n i → (e.opens ≡ 0 → ⊥) → (entry_of t n i).opens ≡ 0 → ⊥
-still_open t n i e q o z = o (ap (λ (d : NodeEntry). d.opens) q ∙ z)
-
 -- The returns of `search_entry`: the list has sites more, and the edge that was looked at is still known.
 pub step_on : {l : Leg} {t r r' : List ℕ} {k m : ℕ} {q : List NodeEntry} {e : Edge} → Ahead l t r k q → Knows e (stack l t r k) → Searched l t r k q r' m
     → Progressed l t r k q r' (record { k = m; edge = e })
@@ -67,28 +63,14 @@ step_leaf {l} {t} {r} {r'} {k} {m} d h z ah kn s =
     let f : Searched l t r k (leaves (entries t) h d) r' m = rw z s in
     step_on ah kn f
 
-module _ (t : List ℕ) (h n i : ℕ) (rd : Readable t h n) (lt : i < length (entries t n)) {l : Leg} {r : List ℕ} {k : ℕ} (ah : Ahead l t r k (leaves (entries t) h (entry_of t n i))) where
-  -- nothing is open under the entry
-  entry_closed : (entry_of t n i).opens ≡ 0 → Searched l t r k (leaves (entries t) h (entry_of t n i)) r k
-  entry_closed z = searched_closed (entries t) h (entry_of t n i) (entry_sound t h n i rd lt) z ah.held
-
-  pub step_closed : {e : Edge} (d : NodeEntry) → d ≡ entry_of t n i → d.opens ≡ 0 → Knows e (stack l t r k)
+module _ (t : List ℕ) (h n i : ℕ) (rd : Readable t h n) (lt : i < length (entries t n)) {l : Leg} {r : List ℕ} {k : ℕ} (ah : Ahead l t r k (leaves (entries t) h (entry_of t n i)))
+    {w : Corner} (c : IsCorner l (area_of (entry_of t n i)) w) where
+  pub step_known : {e : Edge} → Knows e (stack l t r k) → (b : Bool) → b ≡ true → If b (EdgeShuts e w.a w.c)
       → Progressed l t r k (leaves (entries t) h (entry_of t n i)) r (record { k = k; edge = e })
-  step_closed d q z kn = step_on ah kn (entry_closed (sym (ap (λ (y : NodeEntry). y.opens) q) ∙ z))
+  step_known kn b q f = step_on ah kn (entry_skipped t h n i rd lt ah c true refl (kn.shuts w c.small (if_true b q f)))
 
-  module _ {w : Corner} (c : OpenCorner l (entry_of t n i) w) where
-    -- shut out by what is known of the list, or nothing is open under it
-    pub step_known : {e : Edge} → Knows e (stack l t r k) → (b : Bool) → b ≡ true → If b (EdgeShuts e w.a w.c)
-        → Progressed l t r k (leaves (entries t) h (entry_of t n i)) r (record { k = k; edge = e })
-    step_known {e} kn b q f = step_on ah kn (go (ℕ_discrete (entry_of t n i).opens 0))
-      where
-        go : Dec ((entry_of t n i).opens ≡ 0) → Searched l t r k (leaves (entries t) h (entry_of t n i)) r k
-        go (yes z) = entry_closed z
-        go (no o) = entry_skipped t h n i rd lt ah (c.is o) true refl (kn.shuts w c.small (if_true b q f))
-
-    pub step_shut : {s : Seen} (d : NodeEntry) → d ≡ entry_of t n i → (d.opens ≡ 0 → ⊥) → Looked l t r k w s → s.shut ≡ true
-        → Progressed l t r k (leaves (entries t) h (entry_of t n i)) r (record { k = k; edge = s.edge })
-    step_shut {s} d e o v q = step_on ah v.knows (entry_skipped t h n i rd lt ah (c.is (still_open t n i d e o)) s.shut q v.shut)
+  pub step_shut : {s : Seen} → Looked l t r k w s → s.shut ≡ true → Progressed l t r k (leaves (entries t) h (entry_of t n i)) r (record { k = k; edge = s.edge })
+  step_shut {s} o q = step_on ah o.knows (entry_skipped t h n i rd lt ah c s.shut q o.shut)
 
 byte_site : (t : List ℕ) (x : ℕ) → site_at_byte t x ≡ site_of (entry_at t x)
 unfolding site_at_byte entry_at
@@ -138,8 +120,8 @@ module _ (t : List ℕ) (n i p : ℕ) (lt : i < length (entries t n)) (at : 2 * 
     pub leaf_space : Space l t r k p
     leaf_space full = absurd (omega (arith, leaf_room ah))
 
-    pub leaf_searched : {r' : List ℕ} {m : ℕ} → ((entry_of t n i).opens ≡ 0 → ⊥) → Dealt l t r k p r' m → Searched l t r k (leaves (entries t) 0 (entry_of t n i)) r' m
-    leaf_searched o d = searched_leaf (entries t) (entry_of t n i) o leaf_site d
+    pub leaf_searched : {r' : List ℕ} {m : ℕ} → Dealt l t r k p r' m → Searched l t r k (leaves (entries t) 0 (entry_of t n i)) r' m
+    leaf_searched d = searched_leaf (entries t) (entry_of t n i) leaf_site d
 
 -- the leaf entries under node n are those under its entries, from any one on
 pub node_order : (t : List ℕ) (h n first all : ℕ) → first < length (entries t n) → all ≡ length (entries t n)

@@ -18,16 +18,14 @@ use Rattle.list_row.specs.Vertices.{Held, Lists}
 use Rattle.list_row.proofs.Listing.{lists_skipped}
 use Rattle.list_skip.specs.Skipping.{Dealt}
 use Rattle.tree_node.specs.declared.NodeEntry.{NodeEntry}
-use Rattle.tree_node.specs.Tally.{total}
 use Rattle.tree_rules.specs.Tree.{Store, leaves, Each, SoundUnder}
 use Rattle.permutation.specs.Perm.{Perm}
 use Rattle.tree_rules.proofs.Every.{each_left, each_right}
-use Rattle.tree_rules.proofs.Sums.{carried, leaves_sum}
 use Rattle.permutation.proofs.Perms.{perm_sym, perm_length, perm_flip}
 use Rattle.tree_rules.proofs.Perms.{perm_each}
 use Rattle.tree_search.specs.Sites.{site_of, LeafPoint, sites, area_of}
 use Rattle.tree_search.specs.Searching.{Skips, Ahead, Searched}
-use Rattle.tree_search.proofs.Members.{open_yes, none_open, sites_append, sites_perm, hull_same}
+use Rattle.tree_search.proofs.Members.{sites_append, sites_perm, hull_same}
 use Rattle.tree_search.proofs.OnGrid.{site_inside}
 
 sites_more : (a b : List NodeEntry) (s : List Site) → Perm a b → (p : Site) → Memᴰ p (sites a ++ s) → Memᴰ p (sites b ++ s)
@@ -43,21 +41,15 @@ module _ {l : Leg} {t : List ℕ} where
   searched_none hd = record { within = omega arith; held = hd; lists = λ s d. d; only = only_refl }
 
   -- the site of a leaf entry is dealt with
-  pub searched_leaf : {r r' : List ℕ} {k p n : ℕ} (E : Store) (e : NodeEntry) → (e.opens ≡ 0 → ⊥) → site_at t p ≡ site_of e → Dealt l t r k p r' n → Searched l t r k (leaves E 0 e) r' n
+  pub searched_leaf : {r r' : List ℕ} {k p n : ℕ} (E : Store) (e : NodeEntry) → site_at t p ≡ site_of e → Dealt l t r k p r' n → Searched l t r k (leaves E 0 e) r' n
   unfolding sites leaves
-  searched_leaf {r} {r'} {k} {p} {n} E e o q d =
+  searched_leaf {r} {r'} {k} {p} {n} E e q d =
       record {
         within = d.within;
         held = d.held;
-        lists = λ s i. rw (open_yes e o) (subst (λ (x : Site). Lists l t r' n (x ∷ s)) q (d.lists s i));
+        lists = λ s i. subst (λ (x : Site). Lists l t r' n (x ∷ s)) q (d.lists s i);
         only = d.only;
       }
-
-  -- no site under the entry is open
-  pub searched_closed : {r : List ℕ} {k : ℕ} (E : Store) (h : ℕ) (e : NodeEntry) → SoundUnder E h e → e.opens ≡ 0 → Held l t r k → Searched l t r k (leaves E h e) r k
-  searched_closed E h e so z hd =
-      let none : total carried (leaves E h e) ≡ 0 = omega (arith, leaves_sum E h e so) in
-      record { within = omega arith; held = hd; lists = λ s d. rw (none_open (leaves E h e) none) d; only = only_refl }
 
   -- SKIPPED: the list shuts out the box
   pub searched_skip : {r : List ℕ} {k : ℕ} (E : Store) (h : ℕ) (e : NodeEntry) → SoundUnder E h e → Each LeafPoint (leaves E h e) → Held l t r k → Skips l t r k e

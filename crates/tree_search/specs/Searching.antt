@@ -8,12 +8,11 @@ use Rattle.words.specs.Words.{Only}
 use Rattle.grid.specs.declared.Site.{Site}
 use Rattle.grid.specs.declared.Position.{Position}
 use Rattle.grid.specs.declared.Leg.{Leg}
-use Rattle.grid.specs.declared.Corner.{Corner}
 use Rattle.grid.specs.Position.{LegOnGrid}
 use Rattle.grid.specs.Area.{area_distance}
 use Rattle.split.specs.Skip.{ShutOut}
 use Rattle.list_row.specs.Vertices.{row_bytes, stack, Held, Lists}
-use Rattle.list_skip.specs.Skipping.{SmallCorner, Knows, IsCorner}
+use Rattle.list_skip.specs.Skipping.{Knows}
 use Rattle.tree_node.specs.declared.NodeEntry.{NodeEntry}
 use Rattle.tree_node.specs.Node.{entries, no_entry}
 use Rattle.tree_rules.specs.Tree.{joined, leaves, Each, SoundUnder}
@@ -34,19 +33,10 @@ pub record ComesNext (m i j : ℕ) : Type 0 where
   pub inner : i + 1 < m → j ≡ i + 1
   pub last : m ≤ i + 1 → j ≡ 0
 
--- x is how far q is from the box of e, squared, where a site is open under e; in any case 31 bits hold it
-pub record Seems (q : Position) (e : NodeEntry) (x : ℕ) : Type 0 where
-  pub is : (e.opens ≡ 0 → ⊥) → x ≡ area_distance (area_of e) q
-  pub small : x < 2 ^ 31
-
--- the first m numbers of far are how far from q the entries of node n seem
+-- the first m numbers of far are how far q is from the boxes of node n's entries, squared
 pub record Measured (q : Position) (t : List ℕ) (n m : ℕ) (far : List ℕ) : Type 0 where
-  pub seems : (i : ℕ) → i < m → Seems q (entry_of t n i) (get_or far i 0)
-
--- k is the corner of the box of e where a site is open under e; in any case 31 bits hold its numbers
-pub record OpenCorner (l : Leg) (e : NodeEntry) (k : Corner) : Type 0 where
-  pub is : (e.opens ≡ 0 → ⊥) → IsCorner l (area_of e) k
-  pub small : SmallCorner k
+  pub is : (i : ℕ) → i < m → get_or far i 0 ≡ area_distance (area_of (entry_of t n i)) q
+  pub small : (i : ℕ) → i < m → get_or far i 0 < 2 ^ 31
 
 -- the row shuts out all that lies in e's box
 abbrev pub Skips : Leg → List ℕ → List ℕ → ℕ → NodeEntry → Type 0

@@ -1,8 +1,7 @@
 -- Leaf entries as sites, and the boxes of entries as areas of the grid.
--- Document 01, "The tree": "Every held site is in one leaf entry." Document 02, C-19: "Closed sites .. lie in the tree,
--- but appear in no list".
+-- Document 01, "The tree": "Every held site is in one leaf entry."
 -- Assumes nothing.
-use Rattle.std.specs.Prelude.{◌≡◌, cond, List, [], ◌∷◌, ◌++◌, eqb}
+use Rattle.std.specs.Prelude.{◌≡◌, List, [], ◌∷◌}
 use Rattle.grid.specs.declared.Site.{Site}
 use Rattle.grid.specs.declared.Area.{Area}
 use Rattle.grid.specs.Position.{OnGrid}
@@ -19,14 +18,10 @@ pub record LeafPoint (e : NodeEntry) : Type 0 where
   pub north : e.north ≡ e.south
   pub on_grid_lem : OnGrid (site_of e).position
 
--- the site of a leaf entry if it is open: if its number is not 0
-unfoldable pub open_site : NodeEntry → List Site
-open_site e = cond (eqb e.opens 0) [] (site_of e ∷ [])
-
--- the open sites of leaf entries
+-- the sites of leaf entries
 unfoldable pub sites : List NodeEntry → List Site
 sites [] = []
-sites (e ∷ l) = open_site e ++ sites l
+sites (e ∷ l) = site_of e ∷ sites l
 
 -- the box of an entry
 abbrev pub area_of : NodeEntry → Area

@@ -3,10 +3,11 @@
 ghost use Rattle.std.specs.Prelude.{◌≡◌, ◌^◌, ◌<◌, length};
 ghost use Rattle.limits.specs.Limits.{max_entries, max_nodes, table_bytes};
 ghost use Rattle.grid.specs.Position.{OnGrid, LegOnGrid};
+ghost use Rattle.grid.specs.Area.{area_distance};
 ghost use Rattle.tree_node.specs.Node.{entries};
 ghost use Rattle.tree_rules.specs.Tree.{Each};
 ghost use Rattle.tree_search.specs.Sites.{area_of, BoxOnGrid};
-ghost use Rattle.tree_search.specs.Searching.{entry_of, Seems, Measured};
+ghost use Rattle.tree_search.specs.Searching.{entry_of, Measured};
 
 use grid::{Area, Leg, Position};
 use tree_node::NodeEntry;
@@ -27,26 +28,11 @@ fn area_of(e: NodeEntry) -> Area
 fn distance_at(t: &[u8], q: Position, n: usize, i: usize) -> u32
     requires t_len { (length t.now ≡ table_bytes) × (n < max_nodes) × (i < length (entries t.now n)) }
     requires on_grid { OnGrid q × Each BoxOnGrid (entries t.now n) }
-    ensures { Seems q (entry_of t.now n i) result }
+    ensures { (result ≡ area_distance (area_of (entry_of t.now n i)) q) × (result < 2 ^ 31) }
 {
     let e = tree_node::pool::entry_at(t, n, i);
     let area = area_of(e);
     grid::distance::from_area(area, q) as u32
-}
-
-// No squared distance is more.
-const FAR: u32 = 2147483647;
-
-// The same, but where no site is open under the entry it seems as far off as can be (C-19), so that what is known of
-// the list shuts it out, and other entries are read first.
-fn seeming_at(t: &[u8], q: Position, n: usize, i: usize) -> u32
-    requires t_len { (length t.now ≡ table_bytes) × (n < max_nodes) × (i < length (entries t.now n)) }
-    requires on_grid { OnGrid q × Each BoxOnGrid (entries t.now n) }
-    ensures { Seems q (entry_of t.now n i) result }
-{
-    let d = distance_at(t, q, n, i);
-    let e = tree_node::pool::entry_at(t, n, i);
-    if e.opens == 0 { FAR } else { d }
 }
 
 // More than any sum of two squared distances.
@@ -62,7 +48,7 @@ fn wide(x: u32) -> u64
 // Measures the boxes of node n from the leg's two ends, and gives the entry to be read first: the one whose box is
 // nearest to both together. That makes the search two to three times as quick, since a good list early shuts out
 // more; any answer would do, so the contract says no more than that there is such an entry.
-fn measure(
+pub fn measure(
     t: &[u8],
     leg: Leg,
     n: usize,
@@ -94,64 +80,4 @@ fn measure(
         i += 1;
     }
     best
-}
-
-// The same, for a node with closed sites under it.
-fn measure_open(
-    t: &[u8],
-    leg: Leg,
-    n: usize,
-    a: &mut [u32; limits::MAX_ENTRIES],
-    c: &mut [u32; limits::MAX_ENTRIES],
-) -> usize
-    requires t_len { (length t.now ≡ table_bytes) × (n < max_nodes) × (0 < length (entries t.now n)) }
-    requires leg_on_grid { LegOnGrid leg × Each BoxOnGrid (entries t.now n) × (length a.old ≡ max_entries)
-        × (length c.old ≡ max_entries) }
-    ensures first { result < length (entries t.now n) }
-    ensures starts { Measured leg.s t.now n (length (entries t.now n))
-        a.new }
-    ensures ends { Measured leg.e t.now n (length (entries t.now n)) c.new }
-{
-    let m = tree_node::pool::count(t, n);
-    let mut best: usize = 0;
-    let mut least = FARTHEST;
-    let mut i: usize = 0;
-    while i < m {
-        let x = seeming_at(t, leg.s, n, i);
-        let y = seeming_at(t, leg.e, n, i);
-        let far = wide(x) + wide(y);
-        a[i] = x;
-        c[i] = y;
-        if far < least {
-            best = i;
-            least = far;
-        }
-        i += 1;
-    }
-    best
-}
-
-// The same for either, told by the number of open sites under the node: where it is less than that of the entries some
-// site is closed. Only speed depends on it.
-pub fn survey(
-    t: &[u8],
-    leg: Leg,
-    n: usize,
-    opens: usize,
-    a: &mut [u32; limits::MAX_ENTRIES],
-    c: &mut [u32; limits::MAX_ENTRIES],
-) -> usize
-    requires t_len { (length t.now ≡ table_bytes) × (n < max_nodes) × (0 < length (entries t.now n)) }
-    requires leg_on_grid { LegOnGrid leg × Each BoxOnGrid (entries t.now n) × (length a.old ≡ max_entries)
-        × (length c.old ≡ max_entries) }
-    ensures first { result < length (entries t.now n) }
-    ensures starts { Measured leg.s t.now n (length (entries t.now n))
-        a.new }
-    ensures ends { Measured leg.e t.now n (length (entries t.now n)) c.new }
-{
-    let m = tree_node::pool::count(t, n);
-    if opens < m {
-        return measure_open(t, leg, n, a, c);
-    }
-    measure(t, leg, n, a, c)
 }

@@ -8,8 +8,7 @@ ghost use Rattle.tree_node.specs.Layout.{entry_start};
 ghost use Rattle.tree_node.specs.Node.{entries};
 ghost use Rattle.tree_rules.specs.Tree.{leaves};
 ghost use Rattle.tree_search.specs.Sites.{area_of};
-ghost use Rattle.tree_search.specs.Searching.{entry_of, under, ComesNext, OpenCorner, Readable, Ahead, Searched};
-ghost use Rattle.tree_search.specs.Searching.{Progressed};
+ghost use Rattle.tree_search.specs.Searching.{entry_of, under, ComesNext, Readable, Ahead, Searched, Progressed};
 
 use crate::boxes;
 use grid::{Corner, Leg};
@@ -35,8 +34,8 @@ fn after(i: usize, m: usize) -> usize
     0
 }
 
-// Deals with the site of entry i of the leaf n, which is open and whose cut is known. Its box is a point, so the corner
-// has its distances.
+// Deals with the site of entry i of the leaf n, whose cut is known. Its box is a point, so the corner has its
+// distances.
 fn search_leaf(
     t: &[u8],
     leg: Leg,
@@ -51,7 +50,6 @@ fn search_leaf(
         × IsCorner leg (area_of (entry_of t.now n i)) corner }
     requires ahead { Ahead leg t.now work.old k (leaves (entries t.now) 0 (entry_of t.now n i))
         × Cut leg t.now work.old k corner.a cut }
-    requires fact { (entry_of t.now n i).opens ≡ 0 → ⊥ }
     ensures { Searched leg t.now work.old k
         (leaves (entries t.now) 0 (entry_of t.now n i)) work.new result }
 {
@@ -71,9 +69,8 @@ struct Progress {
     edge: Edge,
 }
 
-// Deals with every open site under entry i of node n, whose entries stand at height h. What the edge shuts out is
-// skipped with no look at the list, and so is an entry under which no site is open (C-19): that one seems far off, so
-// mostly the edge shuts it out too.
+// Deals with every site under entry i of node n, whose entries stand at height h. What the edge shuts out is skipped
+// with no look at the list.
 #[cycle(search_entry_search_node)]
 fn search_entry(
     t: &[u8],
@@ -88,17 +85,13 @@ fn search_entry(
     edge: Edge,
 ) -> Progress
     requires readable { Readable t.now h n × (i < length (entries t.now n))
-        × OpenCorner leg (entry_of t.now n i) corner }
+        × IsCorner leg (area_of (entry_of t.now n i)) corner }
     requires ahead { Ahead leg t.now work.old k (leaves (entries t.now) h (entry_of t.now n i))
         × Knows edge (stack leg t.now work.old k) }
     ensures { Progressed leg t.now work.old k
         (leaves (entries t.now) h (entry_of t.now n i)) work.new result }
 {
     if list_skip::shuts(edge, corner) {
-        return Progress { k: k, edge: edge };
-    }
-    let e = tree_node::pool::entry_at(t, n, i);
-    if e.opens == 0 {
         return Progress { k: k, edge: edge };
     }
     let seen = list_skip::covers(t, work, leg, k, corner, near);
@@ -110,21 +103,20 @@ fn search_entry(
         let m = search_leaf(t, leg, n, i, corner, work, k, seen.cut);
         return Progress { k: m, edge: known };
     }
+    let e = tree_node::pool::entry_at(t, n, i);
     let child = e.reference as usize;
-    let opens = e.opens as usize;
-    let m = search_node(t, leg, h - 1, child, opens, work, k, seen.cut, known);
+    let m = search_node(t, leg, h - 1, child, work, k, seen.cut, known);
     Progress { k: m, edge: known }
 }
 
-// Deals with every open site under node n, whose entries stand at height h: from the nearest one on, the first after the
-// last. Of `opens`, how many are open under it, only speed depends.
+// Deals with every site under node n, whose entries stand at height h: from the nearest one on, the first after the
+// last.
 #[cycle(search_entry_search_node)]
 pub fn search_node(
     t: &[u8],
     leg: Leg,
     h: usize,
     n: usize,
-    opens: usize,
     work: &mut [u8],
     k: usize,
     near: usize,
@@ -139,7 +131,7 @@ pub fn search_node(
     let mut a: [u32; limits::MAX_ENTRIES] = [0; limits::MAX_ENTRIES];
     let mut c: [u32; limits::MAX_ENTRIES] = [0; limits::MAX_ENTRIES];
     let all = tree_node::pool::count(t, n);
-    let mut i = boxes::survey(t, leg, n, opens, &mut a, &mut c);
+    let mut i = boxes::measure(t, leg, n, &mut a, &mut c);
     let mut left = all;
     let mut kept = k;
     let mut known = edge;

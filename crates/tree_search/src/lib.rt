@@ -30,7 +30,7 @@ pub fn search(t: &[u8], leg: Leg, work: &mut [u8]) -> usize
         Root::Empty => 0,
         Root::Top(g, n) => {
             let edge = list_skip::no_edge();
-            descent::search_node(t, leg, g, n, limits::MAX_SITES, work, 0, 0, edge)
+            descent::search_node(t, leg, g, n, work, 0, 0, edge)
         }
     }
 }

@@ -1,5 +1,5 @@
 //! The site book of document 01 ("The site book", "Causes and numbers"), with the tour of document
-//! 02, C-13, the readings of C-15 and the open marks of C-19.
+//! 02, C-13, and the readings of C-15.
 //!
 //! The book has no table, so it never answers 65 or 69; a table of wrong length is not its matter.
 
@@ -8,7 +8,7 @@ use crate::grid::{Leg, MOST_SITES, Position, REPORT_LEN, Site, WORK_LEN};
 use crate::record::Record;
 use crate::split::Entry;
 use crate::{grid, hull, split};
-use std::collections::{BTreeMap, BTreeSet};
+use std::collections::BTreeMap;
 
 pub const ALL_USED: u8 = 0;
 pub const WRONG_LENGTH: u8 = 64;
@@ -27,8 +27,7 @@ pub enum Cause {
     NumberHeld = 3,
     NumberNotHeld = 4,
     TableFull = 5,
-    /// "no site open" (document 02, C-19).
-    NoSiteOpen = 6,
+    NoSite = 6,
     NoStandingLeg = 7,
     NoTour = 8,
     /// Document 02, C-15.
@@ -73,12 +72,10 @@ impl Tour {
     }
 }
 
-/// Lines by number, those of them that are closed, the standing leg or none, and the tour or none.
+/// Lines by number, the standing leg or none, and the tour or none.
 #[derive(Clone, Debug, Default, PartialEq, Eq)]
 pub struct Book {
     pub lines: BTreeMap<u16, Position>,
-    /// The numbers of the lines without the open mark.
-    pub closed: BTreeSet<u16>,
     pub leg: Option<Leg>,
     pub tour: Option<Tour>,
 }
@@ -89,26 +86,17 @@ impl Book {
         Book::default()
     }
 
-    /// With these lines, all of them open, and this leg, and without a tour.
+    /// With these lines and this leg, and without a tour.
     pub fn of(sites: &[Site], leg: Option<Leg>) -> Self {
         let line = |site: &Site| (site.number, site.position);
-        Book {
-            lines: sites.iter().map(line).collect(),
-            leg,
-            ..Book::default()
-        }
+        let lines = sites.iter().map(line).collect();
+        let tour = None;
+        Book { lines, leg, tour }
     }
 
     pub fn sites(&self) -> Vec<Site> {
         let site = |(&number, &position)| Site { number, position };
         self.lines.iter().map(site).collect()
-    }
-
-    /// The sites with the open mark.
-    pub fn open_sites(&self) -> Vec<Site> {
-        let mut sites = self.sites();
-        sites.retain(|site| !self.closed.contains(&site.number));
-        sites
     }
 
     /// One batch call: its commands and the lengths of its work and report buffers.
@@ -186,7 +174,7 @@ impl Book {
             Cause::NumberHeld => command.number().is_some_and(held),
             Cause::NumberNotHeld => !command.number().is_some_and(held),
             Cause::TableFull => self.lines.len() >= MOST_SITES,
-            Cause::NoSiteOpen => self.open_sites().is_empty(),
+            Cause::NoSite => self.lines.is_empty(),
             Cause::NoStandingLeg => self.leg.is_none(),
             Cause::NoTour => self.tour.is_none(),
             Cause::NotFinite => command.readings().is_some_and(|r| !r.are_finite()),
@@ -198,7 +186,6 @@ impl Book {
         match *command {
             Command::Add(_) | Command::Remove(_) | Command::Move(_) => Record::Accepted,
             Command::AddReadings(..) | Command::MoveReadings(..) => Record::Accepted,
-            Command::Close(_) | Command::Open(_) => Record::Accepted,
             Command::Stand(_) | Command::Begin(_) => Record::Accepted,
             Command::List(leg) => Record::List(self.split_list(&leg)),
             Command::Print => {
@@ -226,16 +213,7 @@ impl Book {
             }
             Command::Remove(number) => {
                 self.lines.remove(&number);
-                self.closed.remove(&number);
                 self.tour = None;
-            }
-            Command::Close(number) => {
-                let changed = self.closed.insert(number);
-                self.after_mark(changed);
-            }
-            Command::Open(number) => {
-                let changed = self.closed.remove(&number);
-                self.after_mark(changed);
             }
             Command::Stand(leg) => self.leg = Some(leg),
             Command::List(_) | Command::Print => {}
@@ -244,14 +222,7 @@ impl Book {
         }
     }
 
-    /// "A change of mark ends a tour": where the mark was that already, nothing changes.
-    fn after_mark(&mut self, changed: bool) {
-        if changed {
-            self.tour = None;
-        }
-    }
-
-    /// Writes an open line, or gives one another position: "a move keeps the mark".
+    /// Writes a line, or gives it another position.
     fn put(&mut self, site: Site) {
         self.lines.insert(site.number, site.position);
         self.tour = None;
@@ -266,9 +237,9 @@ impl Book {
         }
     }
 
-    /// The split list of a leg over the open lines.
+    /// The split list of a leg over the lines.
     pub fn split_list(&self, leg: &Leg) -> Vec<Entry> {
-        let sites = self.open_sites();
+        let sites = self.sites();
         if sites.len() <= FEW_SITES {
             split::split_list(leg, &sites)
         } else {
@@ -278,20 +249,19 @@ impl Book {
 }
 
 /// The last column of document 01's table of commands; of 42 and 43 what document 02, C-13, says, and
-/// of 61 and 6D what C-15 says: "tested after 1 and before 2"; of 58 and 4F what C-19 says.
+/// of 61 and 6D what C-15 says: "tested after 1 and before 2".
 fn tests_in_order(command: &Command) -> &'static [Cause] {
     use Cause::*;
     match command {
         Command::Add(_) => &[NumberZero, OffGrid, NumberHeld, TableFull],
         Command::Remove(_) => &[NumberZero, NumberNotHeld],
         Command::Move(_) => &[NumberZero, OffGrid, NumberNotHeld],
-        Command::List(_) => &[OffGrid, NoSiteOpen],
+        Command::List(_) => &[OffGrid, NoSite],
         Command::Stand(_) => &[OffGrid],
-        Command::Print => &[NoStandingLeg, NoSiteOpen],
+        Command::Print => &[NoStandingLeg, NoSite],
         Command::Begin(_) => &[OffGrid],
-        Command::Corner(_) => &[NoTour, OffGrid, NoSiteOpen],
+        Command::Corner(_) => &[NoTour, OffGrid, NoSite],
         Command::AddReadings(..) => &[NumberZero, NotFinite, OffGrid, NumberHeld, TableFull],
         Command::MoveReadings(..) => &[NumberZero, NotFinite, OffGrid, NumberNotHeld],
-        Command::Close(_) | Command::Open(_) => &[NumberZero, NumberNotHeld],
     }
 }

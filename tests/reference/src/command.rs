@@ -1,5 +1,5 @@
-//! The six commands of document 01 ("Buffers and batches"), those of document 02, C-13, C-15 and C-19,
-//! and their bytes.
+//! The six commands of document 01 ("Buffers and batches"), those of document 02, C-13 and C-15, and
+//! their bytes.
 
 use crate::grid::{Leg, Position, Site};
 use crate::reading::{Reading, Readings};
@@ -16,12 +16,9 @@ pub const CORNER: u8 = 0x43;
 /// Document 02, C-15.
 pub const ADD_READINGS: u8 = 0x61;
 pub const MOVE_READINGS: u8 = 0x6D;
-/// Document 02, C-19.
-pub const CLOSE: u8 = 0x58;
-pub const OPEN: u8 = 0x4F;
 
 /// Every mark.
-pub const MARKS: [u8; 12] = [
+pub const MARKS: [u8; 10] = [
     ADD,
     REMOVE,
     MOVE,
@@ -32,8 +29,6 @@ pub const MARKS: [u8; 12] = [
     CORNER,
     ADD_READINGS,
     MOVE_READINGS,
-    CLOSE,
-    OPEN,
 ];
 
 #[derive(Clone, Copy, Debug, PartialEq, Eq)]
@@ -51,9 +46,6 @@ pub enum Command {
     /// "Commands 61 and 6D do what 41 and 4D do", with readings for the position.
     AddReadings(u16, Readings),
     MoveReadings(u16, Readings),
-    /// "Command 58 with a number closes it, 4F opens it"
-    Close(u16),
-    Open(u16),
 }
 
 /// Why no command can be read.
@@ -69,9 +61,7 @@ impl Command {
         match *self {
             Command::Add(site) | Command::Move(site) => Some(site.number),
             Command::AddReadings(number, _) | Command::MoveReadings(number, _) => Some(number),
-            Command::Remove(number) | Command::Close(number) | Command::Open(number) => {
-                Some(number)
-            }
+            Command::Remove(number) => Some(number),
             Command::List(_) | Command::Stand(_) | Command::Print => None,
             Command::Begin(_) | Command::Corner(_) => None,
         }
@@ -110,8 +100,7 @@ impl Command {
             }
             Command::List(leg) | Command::Stand(leg) => [of(leg.s), of(leg.e)].concat(),
             Command::Begin(position) | Command::Corner(position) => of(position).to_vec(),
-            Command::Remove(_) | Command::Close(_) | Command::Open(_) => vec![],
-            Command::Print => vec![],
+            Command::Remove(_) | Command::Print => vec![],
         }
     }
 
@@ -127,7 +116,7 @@ impl Command {
 fn operand_length(mark: u8) -> Option<usize> {
     match mark {
         ADD | MOVE => Some(6),
-        REMOVE | CLOSE | OPEN => Some(2),
+        REMOVE => Some(2),
         LIST | STAND => Some(8),
         BEGIN | CORNER => Some(4),
         ADD_READINGS | MOVE_READINGS => Some(10),
@@ -165,8 +154,6 @@ fn from_operands(mark: u8, operands: &[u8]) -> Command {
         CORNER => Command::Corner(position(0)),
         ADD_READINGS => Command::AddReadings(number(), readings()),
         MOVE_READINGS => Command::MoveReadings(number(), readings()),
-        CLOSE => Command::Close(number()),
-        OPEN => Command::Open(number()),
         _ => unreachable!("a mark with an operand length is a command"),
     }
 }
@@ -176,7 +163,8 @@ pub fn add(site: Site) -> Vec<u8> {
 }
 
 pub fn remove(number: u16) -> Vec<u8> {
-    number_operand(REMOVE, number)
+    let [low, high] = number.to_le_bytes();
+    vec![REMOVE, low, high]
 }
 
 /// Named for what it does, since `move` is a keyword.
@@ -210,19 +198,6 @@ pub fn add_readings(number: u16, readings: Readings) -> Vec<u8> {
 
 pub fn move_readings(number: u16, readings: Readings) -> Vec<u8> {
     reading_operands(MOVE_READINGS, number, readings)
-}
-
-pub fn close(number: u16) -> Vec<u8> {
-    number_operand(CLOSE, number)
-}
-
-pub fn open(number: u16) -> Vec<u8> {
-    number_operand(OPEN, number)
-}
-
-fn number_operand(mark: u8, number: u16) -> Vec<u8> {
-    let [low, high] = number.to_le_bytes();
-    vec![mark, low, high]
 }
 
 fn reading_operands(mark: u8, number: u16, readings: Readings) -> Vec<u8> {

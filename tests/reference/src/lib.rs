@@ -10,7 +10,6 @@ pub mod grid;
 pub mod hull;
 pub mod layout;
 pub mod listener;
-pub mod marks;
 pub mod random;
 pub mod reading;
 pub mod readings;

@@ -8,7 +8,7 @@ use crate::grid::{LARGEST_DENOMINATOR, Leg, Position, Site};
 use crate::hull;
 use crate::record::Record;
 use crate::split::{Entry, deciding_fractions, name_at};
-use std::collections::{BTreeMap, BTreeSet};
+use std::collections::BTreeMap;
 
 const NO_TOUR: Record = Record::Refused(Cause::NoTour as u8);
 
@@ -58,41 +58,6 @@ impl Told {
     }
 }
 
-/// What was heard of marks (document 02, C-19).
-#[derive(Clone, Debug, Default, PartialEq, Eq)]
-pub struct Marked {
-    /// Accepted 58 and 4F that changed a mark, and those that did not.
-    pub closed: usize,
-    pub opened: usize,
-    pub left_closed: usize,
-    pub left_open: usize,
-    /// Tours that a change of mark ended.
-    pub tours_ended: usize,
-    /// Those that were under way when a 58 or 4F left the mark, and so went on.
-    pub tours_left: usize,
-}
-
-impl Marked {
-    /// Of marks.
-    pub fn changes(&self) -> usize {
-        self.closed + self.opened
-    }
-
-    /// Accepted, and nothing changed.
-    pub fn left(&self) -> usize {
-        self.left_closed + self.left_open
-    }
-
-    pub fn add(&mut self, other: &Marked) {
-        self.closed += other.closed;
-        self.opened += other.opened;
-        self.left_closed += other.left_closed;
-        self.left_open += other.left_open;
-        self.tours_ended += other.tours_ended;
-        self.tours_left += other.tours_left;
-    }
-}
-
 /// A tour as it was heard.
 #[derive(Clone, Debug)]
 struct Heard {
@@ -125,12 +90,9 @@ impl Heard {
 pub struct Listener {
     /// What the accepted 41, 44 and 4D, 61 and 6D leave.
     lines: BTreeMap<u16, Position>,
-    /// What the accepted 58 and 4F leave of them closed.
-    closed: BTreeSet<u16>,
     tour: Option<Heard>,
     calls: usize,
     pub told: Told,
-    pub marked: Marked,
 }
 
 impl Listener {
@@ -139,13 +101,9 @@ impl Listener {
         Listener::default()
     }
 
-    /// From a table on that holds these sites, some of them closed. Of a tour under way it is told
-    /// the corner, and a record that ends with the site that was named last.
-    pub fn joining(
-        sites: &[Site],
-        closed: &BTreeSet<u16>,
-        tour: Option<(Position, Option<u16>)>,
-    ) -> Self {
+    /// From a table on that holds these sites. Of a tour under way it is told the corner, and a
+    /// record that ends with the site that was named last.
+    pub fn joining(sites: &[Site], tour: Option<(Position, Option<u16>)>) -> Self {
         let record = |last: u16| vec![Entry::new(last, 0, 1)];
         let heard = |(corner, last): (Position, Option<u16>)| Heard {
             records: last.map(record).into_iter().collect(),
@@ -153,7 +111,6 @@ impl Listener {
         };
         Listener {
             lines: sites.iter().map(|s| (s.number, s.position)).collect(),
-            closed: closed.clone(),
             tour: tour.map(heard),
             ..Listener::default()
         }
@@ -180,11 +137,10 @@ impl Listener {
         ensure(commands.is_empty(), Fault::Unreadable)
     }
 
-    /// A command and its record. 4C would list the open lines that were heard.
+    /// A command and its record. 4C would list the lines that were heard.
     pub fn hear(&mut self, command: &Command, record: &Record) -> Result<(), Fault> {
         let site = |(&number, &position)| Site { number, position };
-        let open = |site: &Site| !self.closed.contains(&site.number);
-        let sites = || self.lines.iter().map(site).filter(open).collect::<Vec<_>>();
+        let sites = || self.lines.iter().map(site).collect::<Vec<_>>();
         let listed = self
             .leg_to(command)
             .map(|leg| hull::split_list(&leg, &sites()));
@@ -223,11 +179,8 @@ impl Listener {
             }
             (Command::Remove(number), Record::Accepted) => {
                 self.lines.remove(&number);
-                self.closed.remove(&number);
                 self.tour = None;
             }
-            (Command::Close(number), Record::Accepted) => self.hear_mark(number, true),
-            (Command::Open(number), Record::Accepted) => self.hear_mark(number, false),
             (Command::Stand(_), Record::Accepted) => {}
             (Command::List(_) | Command::Print, Record::List(_)) => {}
             (Command::Begin(corner), Record::Accepted) => self.hear_beginning(corner),
@@ -243,18 +196,6 @@ impl Listener {
     fn hear_site(&mut self, site: Site) {
         self.lines.insert(site.number, site.position);
         self.tour = None;
-    }
-
-    /// "A change of mark ends a tour": whether this was one follows from what was heard before.
-    fn hear_mark(&mut self, number: u16, closed: bool) {
-        let changed = match closed {
-            true => self.closed.insert(number),
-            false => self.closed.remove(&number),
-        };
-        self.marked.count(closed, changed, self.tour.is_some());
-        if changed {
-            self.tour = None;
-        }
     }
 
     fn hear_beginning(&mut self, corner: Position) {
@@ -281,22 +222,6 @@ impl Listener {
         tour.legs += 1;
         tour.records.push(record.to_vec());
         Ok(())
-    }
-}
-
-impl Marked {
-    fn count(&mut self, closed: bool, changed: bool, in_a_tour: bool) {
-        *match (closed, changed) {
-            (true, true) => &mut self.closed,
-            (false, true) => &mut self.opened,
-            (true, false) => &mut self.left_closed,
-            (false, false) => &mut self.left_open,
-        } += 1;
-        let tours = match changed {
-            true => &mut self.tours_ended,
-            false => &mut self.tours_left,
-        };
-        *tours += usize::from(in_a_tour);
     }
 }
 

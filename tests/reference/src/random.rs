@@ -123,15 +123,7 @@ pub fn move_site(random: &mut Random, site: Site) -> Vec<u8> {
     }
 }
 
-/// Closes this number, or opens it: more often the former, so that some are closed at any time.
-pub fn mark(random: &mut Random, number: u16) -> Vec<u8> {
-    match random.between(1, 5) {
-        1..=3 => command::close(number),
-        _ => command::open(number),
-    }
-}
-
-/// Commands of all twelve kinds, whole and known; every refusal but 5 comes up, and tours go on over
+/// Commands of all ten kinds, whole and known; every refusal but 5 comes up, and tours go on over
 /// several legs.
 pub fn commands(random: &mut Random, count: usize) -> Vec<Vec<u8>> {
     let mut commands = Vec::new();
@@ -151,7 +143,7 @@ fn command(random: &mut Random) -> Vec<u8> {
     let number = u16::try_from(random.between(0, 40)).expect("a number has 16 bits");
     let position = near_or_off(random);
     let site = Site { number, position };
-    match random.between(1, 24) {
+    match random.between(1, 18) {
         1..=4 => command::add(site),
         5 | 6 => command::remove(number),
         7 | 8 => command::move_site(site),
@@ -161,8 +153,7 @@ fn command(random: &mut Random) -> Vec<u8> {
         13 => command::begin(position),
         14 => command::corner(position),
         15 | 16 => command::add_readings(number, readings(random, position)),
-        17 | 18 => command::move_readings(number, readings(random, position)),
-        _ => mark(random, number),
+        _ => command::move_readings(number, readings(random, position)),
     }
 }
 
@@ -183,12 +174,10 @@ fn tour(random: &mut Random) -> Vec<Vec<u8>> {
     commands
 }
 
-/// A command that changes no site: it asks, sets the standing leg, or is refused. Now and then one that
-/// closes or opens a site, which ends the tour only where the mark was another.
+/// A command that changes no site: it asks, sets the standing leg, or is refused.
 fn leaving_a_tour(random: &mut Random) -> Vec<u8> {
     let position = near_or_off(random);
-    let number = u16::try_from(random.between(0, 40)).expect("a number has 16 bits");
-    match random.between(1, 11) {
+    match random.between(1, 9) {
         1 => command::list(leg(random)),
         2 => command::stand(leg(random)),
         3 => command::print(),
@@ -200,7 +189,6 @@ fn leaving_a_tour(random: &mut Random) -> Vec<u8> {
         6 => command::move_site(Site::new(1, HALF_WIDTH + 1, 0)),
         7 => command::begin(Position::new(0, -HALF_WIDTH - 1)),
         8 => command::add_readings(0, readings(random, position)),
-        9 | 10 => mark(random, number),
         _ => command::move_readings(1, refused_readings(random, position)),
     }
 }

@@ -2,8 +2,7 @@
 
 use reference::book::{ALL_USED, Book, CUT_COMMAND, NO_ROOM, Reply, UNKNOWN_COMMAND, WRONG_LENGTH};
 use reference::command::{
-    MARKS, add, add_readings, begin, close, corner, list, move_readings, move_site, open, print,
-    remove, stand,
+    MARKS, add, add_readings, begin, corner, list, move_readings, move_site, print, remove, stand,
 };
 use reference::grid::{HALF_WIDTH, Leg, Position, REPORT_LEN, Site, WORK_LEN, WRONG_WORK};
 use reference::reading::Readings;
@@ -60,13 +59,11 @@ fn a_work_buffer_of_wrong_length_gives_64_before_all_else() {
 }
 
 #[test]
-fn each_of_the_other_244_bytes_is_unknown() {
-    let known = [
-        0x41, 0x44, 0x4D, 0x4C, 0x53, 0x50, 0x42, 0x43, 0x61, 0x6D, 0x58, 0x4F,
-    ];
+fn each_of_the_other_246_bytes_is_unknown() {
+    let known = [0x41, 0x44, 0x4D, 0x4C, 0x53, 0x50, 0x42, 0x43, 0x61, 0x6D];
     assert_eq!(MARKS, known);
     let unknown: Vec<u8> = (0..=255).filter(|byte| !known.contains(byte)).collect();
-    assert_eq!(unknown.len(), 244);
+    assert_eq!(unknown.len(), 246);
     for byte in unknown {
         // Long enough for any command, and alone.
         let expected = reply(UNKNOWN_COMMAND, 0, &[]);
@@ -97,11 +94,9 @@ fn operands_cut_short_at_any_byte_give_67() {
         corner(LEG.e),
         add_readings(2, metres(100, 100)),
         move_readings(1, metres(200, 300)),
-        close(1),
-        open(1),
     ];
     let lengths = commands.each_ref().map(Vec::len);
-    assert_eq!(lengths, [7, 3, 7, 9, 9, 5, 5, 11, 11, 3, 3]);
+    assert_eq!(lengths, [7, 3, 7, 9, 9, 5, 5, 11, 11]);
     for command in commands {
         for length in 1..command.len() {
             let cut = &command[..length];
@@ -125,8 +120,6 @@ fn a_cut_command_gives_67_before_its_tests_and_before_68() {
         add_readings(0, metres(0, 0)),
         add_readings(2, Readings::new(INFINITY, ZERO)),
         move_readings(1, Readings::new(ZERO, FIRST_OFF_GRID)),
-        close(0),
-        open(2),
     ];
     for command in refused_when_whole {
         let cut = &command[..command.len() - 1];
@@ -144,7 +137,6 @@ fn without_room_for_2b_a_change_is_not_done() {
         begin(LEG.s),
         add_readings(2, metres(100, 100)),
         move_readings(1, metres(900, 900)),
-        close(1),
     ];
     for change in changes {
         assert_left(&one_site(), &change, 0, reply(NO_ROOM, 0, &[]));
@@ -171,10 +163,6 @@ fn refusal_records_need_room_for_two_bytes() {
         (move_readings(1, Readings::new(FIRST_OFF_GRID, ZERO)), 2),
         (add_readings(1, metres(0, 0)), 3),
         (move_readings(2, metres(0, 0)), 4),
-        (close(0), 1),
-        (open(0), 1),
-        (close(2), 4),
-        (open(2), 4),
     ];
     for (command, number) in refused {
         for room in [0, 1] {

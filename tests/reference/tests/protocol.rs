@@ -3,8 +3,7 @@
 use reference::batch_program;
 use reference::book::Book;
 use reference::command::{
-    Command, add, add_readings, begin, close, corner, list, move_readings, move_site, open, print,
-    remove, stand,
+    Command, add, add_readings, begin, corner, list, move_readings, move_site, print, remove, stand,
 };
 use reference::grid::{HALF_WIDTH, Leg, Position, Site};
 use reference::reading::Readings;
@@ -87,8 +86,6 @@ fn refused(mark: u8, book: &mut Book) -> Vec<(u8, Vec<u8>)> {
             (1, move_readings(0, not_finite)),
         ],
         0x44 => vec![(4, remove(9)), (1, remove(0))],
-        0x58 => vec![(4, close(9)), (1, close(0))],
-        0x4F => vec![(4, open(9)), (1, open(0))],
         0x4D => vec![
             (4, move_site(Site::new(9, 0, 0))),
             (2, move_site(Site::new(9, 0, HALF_WIDTH + 1))),
@@ -145,9 +142,7 @@ fn commands_have_these_lengths_and_refusals_in_this_order() {
         marks.push(mark);
     }
     marks.sort();
-    let known = [
-        0x41, 0x42, 0x43, 0x44, 0x4C, 0x4D, 0x4F, 0x50, 0x53, 0x58, 0x61, 0x6D,
-    ];
+    let known = [0x41, 0x42, 0x43, 0x44, 0x4C, 0x4D, 0x50, 0x53, 0x61, 0x6D];
     assert_eq!(marks, known);
 }
 

@@ -403,7 +403,7 @@ fn random_commands_have_readings() {
     let mut refused = [0; 12];
     let mut accepted = 0;
     let mut book = Book::new();
-    for command in random::commands(&mut random, 25_000) {
+    for command in random::commands(&mut random, 20_000) {
         let of_readings = [ADD_READINGS, MOVE_READINGS].contains(&command[0]);
         match book.records(&[command])[0] {
             Refused(number) if of_readings => refused[usize::from(number)] += 1,

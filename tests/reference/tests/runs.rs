@@ -1,7 +1,7 @@
 //! Runs of commands: what the site book promises of every list of batch calls.
 
 use reference::book::{Book, Tour};
-use reference::command::{Command, add, close, list, print, stand};
+use reference::command::{Command, add, list, print, stand};
 use reference::grid::{Leg, WORK_LEN};
 use reference::hull;
 use reference::layout::{LAYOUTS, case};
@@ -40,19 +40,6 @@ fn changed(mut book: Book, command: &[u8]) -> Book {
         }
         Ok((Command::Remove(number), 3)) => {
             book.lines.remove(&number).unwrap();
-            book.closed.remove(&number);
-        }
-        Ok((Command::Close(number), 3)) => {
-            assert!(book.lines.contains_key(&number));
-            if !book.closed.insert(number) {
-                return book;
-            }
-        }
-        Ok((Command::Open(number), 3)) => {
-            assert!(book.lines.contains_key(&number));
-            if !book.closed.remove(&number) {
-                return book;
-            }
         }
         Ok((Command::Stand(leg), 9)) => {
             book.leg = Some(leg);
@@ -64,7 +51,7 @@ fn changed(mut book: Book, command: &[u8]) -> Book {
         }
         other => panic!("2B was written for {other:?}"),
     }
-    // A site came, went or moved, or its mark changed.
+    // A site came, went or moved.
     book.tour = None;
     book
 }
@@ -73,9 +60,7 @@ fn changed(mut book: Book, command: &[u8]) -> Book {
 fn asked(mut book: Book, command: &[u8]) -> Book {
     if let Ok((Command::Corner(corner), 5)) = Command::read(command) {
         let leg = book.tour.unwrap().leg_to(corner);
-        let remembered = hull::split_list(&leg, &book.open_sites())
-            .last()
-            .map(|e| e.site);
+        let remembered = hull::split_list(&leg, &book.sites()).last().map(|e| e.site);
         book.tour = Some(Tour { corner, remembered });
     }
     book
@@ -114,7 +99,7 @@ fn only_accepted_changes_change_the_book() {
 fn the_standing_list_is_the_list_of_the_standing_leg() {
     let mut random = Random::new(42);
     let mut lists = 0;
-    for _ in 0..48 {
+    for _ in 0..40 {
         let mut book = Book::new();
         for command in random::commands(&mut random, 200) {
             book.records(&[command]);
@@ -124,7 +109,7 @@ fn the_standing_list_is_the_list_of_the_standing_leg() {
             };
             let printed = book.records(&[print()]);
             assert_eq!(printed, book.records(&[list(leg)]));
-            let sites = book.open_sites();
+            let sites = book.sites();
             match &printed[..] {
                 [Refused(6)] => assert!(sites.is_empty()),
                 [List(list)] => assert!(is_split_list(&leg, &sites, list), "{leg:?}"),
@@ -140,7 +125,7 @@ fn the_standing_list_is_the_list_of_the_standing_leg() {
 #[test]
 fn a_fresh_book_with_the_same_lines_lists_the_same() {
     let mut random = Random::new(43);
-    let (mut compared, mut compared_with_closed) = (0, 0);
+    let mut compared = 0;
     for _ in 0..300 {
         let mut book = run(&mut random, 150);
         let mut sites = book.sites();
@@ -148,13 +133,9 @@ fn a_fresh_book_with_the_same_lines_lists_the_same() {
         let mut fresh = Book::new();
         let additions: Vec<Vec<u8>> = sites.iter().map(|site| add(*site)).collect();
         assert_eq!(fresh.records(&additions), vec![Accepted; sites.len()]);
-        let closings: Vec<Vec<u8>> = book.closed.iter().map(|number| close(*number)).collect();
-        assert_eq!(fresh.records(&closings), vec![Accepted; closings.len()]);
-        let open = book.open_sites();
-        compared_with_closed += usize::from(!closings.is_empty());
         for leg in [some_leg(&mut random), some_leg(&mut random)] {
             let listed = book.records(&[list(leg)]);
-            assert_eq!(listed, [List(split_list(&leg, &open))]);
+            assert_eq!(listed, [List(split_list(&leg, &sites))]);
             assert_eq!(fresh.records(&[list(leg)]), listed);
             assert_eq!(fresh.records(&[stand(leg), print()])[1..], listed);
             compared += 1;
@@ -162,7 +143,6 @@ fn a_fresh_book_with_the_same_lines_lists_the_same() {
     }
     println!("lists compared with a fresh book: {compared}");
     assert_eq!(compared, 600);
-    assert!(compared_with_closed >= 200);
 }
 
 #[test]

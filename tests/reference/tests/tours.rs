@@ -14,7 +14,6 @@ use reference::record::Record::{self, Accepted, List, Refused};
 use reference::split::{Entry, name_at, split_list};
 use reference::ties::{mirror_image, tie};
 use reference::tours::{self, at, listed};
-use std::collections::BTreeSet;
 
 #[test]
 fn tours_to_try() {
@@ -330,7 +329,7 @@ fn a_listener_hears_each_wrong_record() {
 
 #[test]
 fn a_listener_hears_what_is_no_tours() {
-    let mut listener = Listener::joining(&[Site::new(1, 0, 0)], &BTreeSet::new(), None);
+    let mut listener = Listener::joining(&[Site::new(1, 0, 0)], None);
     let (from, to) = (Command::Begin(at(0, 0)), Command::Corner(at(3, 3)));
     let (whole, nothing) = (listed(&[(1, 0, 1)]), listed(&[]));
     let untold = Fault::Misnamed(Leg::new((0, 0), (3, 3)), Fraction::new(1, 2));

@@ -28,8 +28,6 @@ static size_t put(uint8_t *to, size_t room, char mark, const long v[4])
     case 'B': return stops_put_begin(to, room, v[0], v[1]);
     case 'C': return stops_put_corner(to, room, v[0], v[1]);
     case 'a': return stops_put_add_readings(to, room, v[0], reading(v[1]), reading(v[2]));
-    case 'X': return stops_put_close(to, room, v[0]);
-    case 'O': return stops_put_open(to, room, v[0]);
     case 'm': return stops_put_move_readings(to, room, v[0], reading(v[1]), reading(v[2]));
     default: return stops_put_print(to, room);
     }

@@ -3,7 +3,6 @@
 pub use binding::layout::*;
 use reference::book::{Book, Tour};
 use reference::grid::{self, Leg, Position, Site};
-use std::collections::BTreeSet;
 
 /// From steps counted from the south-west corner.
 pub fn position(east: u16, north: u16) -> Position {
@@ -26,19 +25,6 @@ pub fn sites(table: &[u8]) -> Vec<Site> {
     records(table).map(site).collect()
 }
 
-/// The numbers of the held records that are closed.
-pub fn closed(table: &[u8]) -> BTreeSet<u16> {
-    let closed = records(table).filter(|record| record.mark == CLOSED);
-    closed.map(|record| record.number).collect()
-}
-
-/// The held records that are not closed.
-pub fn open_sites(table: &[u8]) -> Vec<Site> {
-    let (mut sites, closed) = (sites(table), closed(table));
-    sites.retain(|site| !closed.contains(&site.number));
-    sites
-}
-
 pub fn leg(table: &[u8]) -> Option<Leg> {
     let leg = |[s_east, s_north, e_east, e_north]: [u16; 4]| Leg {
         s: position(s_east, s_north),
@@ -55,19 +41,18 @@ pub fn tour(table: &[u8]) -> Option<Tour> {
     tour_words(table).map(tour)
 }
 
-/// The held records with their marks, the standing leg and the tour.
+/// The held records, the standing leg and the tour.
 pub fn book(table: &[u8]) -> Book {
     Book {
-        closed: closed(table),
         tour: tour(table),
         ..Book::of(&sites(table), leg(table))
     }
 }
 
 /// A site's entry at a leaf.
-pub fn leaf_entry(site: &Site, is_open: bool) -> Entry {
+pub fn leaf_entry(site: &Site) -> Entry {
     let (east, north) = steps(site.position);
-    Entry::of_site(site.number, east, north, is_open)
+    Entry::of_site(site.number, east, north)
 }
 
 /// The lengths and the grid of documents 01 and 02 are those of the layout and the header.

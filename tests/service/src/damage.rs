@@ -2,12 +2,11 @@
 
 use crate::bytes::{
     EARLIER_HALF_WIDTH, ENTRIES_LISTED, ENTRY_LEN, FREE_NODES, HALF_WIDTH, LAYOUT, LEG_FLAG,
-    LEG_WORDS, LEVELS, MOST_NODES, OPEN, OPEN_SITES, RECORD_LEN, ROOT, SITE_ARRAY, SITES_HELD,
-    STACK, STANDING_LIST, TOUR, TREE_END, WIDE_GRID_LAYOUT, closed, entry_at, free_at, leg, listed,
-    listed_at, node_at, number, open_sites, put_word, record_at, sites, word,
+    LEG_WORDS, LEVELS, MOST_NODES, RECORD_LEN, ROOT, SITE_ARRAY, SITES_HELD, STACK, STANDING_LIST,
+    TOUR, entry_at, free_at, leg, listed, listed_at, node_at, number, put_word, record_at, sites,
+    word,
 };
 use crate::desk::{Desk, Lent};
-use crate::shape;
 use crate::table::{Rule, meaning, reason};
 use crate::{BROKEN_STANDING, Service};
 use reference::book::WRONG_LENGTH;
@@ -102,7 +101,6 @@ pub fn regions(table: &[u8]) -> Vec<Region> {
         ("standing list", STANDING_LIST..listed),
         ("tree header", LEVELS..STACK),
         ("stack", STACK..free),
-        ("open sites", OPEN_SITES..TREE_END),
     ];
     for node in nodes(table) {
         let (count, entries) = (node_at(node), node_at(node) + 2);
@@ -149,7 +147,7 @@ pub fn flipped(table: &[u8], at: usize, bit: usize) -> Vec<u8> {
 /// The sound table with the standing list that this tie rule gives.
 pub fn stored_by(rule: TieRule, table: &[u8]) -> Vec<u8> {
     let mut other = table.to_vec();
-    let (sites, listed) = (open_sites(table), listed(table));
+    let (sites, listed) = (sites(table), listed(table));
     for (i, number) in listed.into_iter().enumerate() {
         let leg = leg(table).expect("a list is that of a leg");
         put_word(&mut other, listed_at(i), first(&leg, &sites, number, rule));
@@ -157,50 +155,21 @@ pub fn stored_by(rule: TieRule, table: &[u8]) -> Vec<u8> {
     other
 }
 
-/// The sound table in an earlier layout: there are no marks, so that all sites are open. Before
-/// layout 2 coordinates are counted from the corner of a smaller grid, and there are no tours. A
-/// position that this does not have is off it there, too.
+/// The table in an earlier layout: coordinates are counted from the corner of a smaller grid, and
+/// there are no tours. A position that this does not have is off it there, too.
 pub fn aged(table: &[u8], layout: u16) -> Vec<u8> {
-    let mut aged = without_marks(table);
-    if layout < WIDE_GRID_LAYOUT {
-        for at in coordinates(table) {
-            let counted = word(table, at).wrapping_sub(HALF_WIDTH - EARLIER_HALF_WIDTH);
-            put_word(&mut aged, at, counted);
-        }
-        aged[TOUR].fill(0);
-    }
-    put_word(&mut aged, LAYOUT, layout);
-    aged
-}
-
-/// Zeros for the marks and the numbers of open sites; the standing list is that of all sites.
-fn without_marks(table: &[u8]) -> Vec<u8> {
-    let mut without = table.to_vec();
-    if !closed(table).is_empty() {
-        shape::write_standing(&mut without, &sites(table), leg(table));
-    }
-    for k in 0..number(table, SITES_HELD) {
-        put_word(&mut without, record_at(k) + 6, OPEN);
-    }
-    for at in entries(table) {
-        put_word(&mut without, at + 10, 0);
-    }
-    put_word(&mut without, OPEN_SITES, 0);
-    without
-}
-
-/// Where the entries of a sound table's tree stand.
-fn entries(table: &[u8]) -> Vec<usize> {
-    let of_node = |node| (0..number(table, node_at(node))).map(move |i| entry_at(node, i));
-    nodes(table).into_iter().flat_map(of_node).collect()
-}
-
-/// Where coordinates stand in a sound table, but for the tour's.
-fn coordinates(table: &[u8]) -> Vec<usize> {
     let sites = 0..number(table, SITES_HELD);
     let sites = sites.flat_map(|k| [2, 4].map(|offset| record_at(k) + offset));
     let leg = LEG_WORDS.into_iter().filter(|_| word(table, LEG_FLAG) == 1);
-    let edges = |at| [2, 4, 6, 8].map(|offset| at + offset);
-    let edges = entries(table).into_iter().flat_map(edges);
-    sites.chain(leg).chain(edges).collect()
+    let entries = |node| (0..number(table, node_at(node))).map(move |i| entry_at(node, i));
+    let entries = nodes(table).into_iter().flat_map(entries);
+    let edges = entries.flat_map(|at| [2, 4, 6, 8].map(|offset| at + offset));
+    let mut aged = table.to_vec();
+    for at in sites.chain(leg).chain(edges) {
+        let counted = word(table, at).wrapping_sub(HALF_WIDTH - EARLIER_HALF_WIDTH);
+        put_word(&mut aged, at, counted);
+    }
+    aged[TOUR].fill(0);
+    put_word(&mut aged, LAYOUT, layout);
+    aged
 }

@@ -3,14 +3,14 @@
 //! Every call is compared in all that document 01 says of it: reason, counts, written bytes, and
 //! what stands in each lent buffer afterwards. A listener hears what the service reports.
 
-use crate::bytes::{OPEN_SITES, TOUR, empty_table, number};
+use crate::bytes::{TOUR, empty_table};
 use crate::damage::stored_by;
 use crate::table::{Meaning, meaning};
 use crate::{Answer, Service};
 use reference::book::{ALL_USED, Book, Reply, WRONG_LENGTH};
 use reference::command::{CORNER, Command, LIST, PRINT};
 use reference::grid::{MOST_SITES, TABLE_LEN, WORK_LEN};
-use reference::listener::{Listener, Marked, Told};
+use reference::listener::{Listener, Told};
 use reference::record::{ENTRY_LEN, Record};
 use reference::ties::number_alone;
 use std::collections::BTreeMap;
@@ -47,8 +47,7 @@ pub struct Tally {
     pub most_levels: usize,
     pub most_nodes: usize,
     pub tours: Told,
-    pub marks: Marked,
-    /// Commands that change sites, a mark or the standing leg, or the tour alone.
+    /// Commands that change sites or the standing leg, or the tour alone.
     changes: usize,
     tour_changes: usize,
 }
@@ -73,7 +72,7 @@ impl<'s, S: Service> Desk<'s, S> {
         Desk {
             service,
             table,
-            listener: Listener::joining(&book.sites(), &book.closed, tour),
+            listener: Listener::joining(&book.sites(), tour),
             book,
             tally: Tally::default(),
         }
@@ -101,11 +100,8 @@ impl<'s, S: Service> Desk<'s, S> {
             .hear_call(&commands[..used], lent.written(written));
         assert_eq!(heard, Ok(()), "heard of {commands:02X?}");
         let (changes, tour_changes) = (self.tally.changes, self.tally.tour_changes);
-        let marks = self.tally.marks.changes();
         self.tally.count(commands, &expected);
         self.tally.tours = self.listener.told.clone();
-        self.tally.marks = self.listener.marked.clone();
-        self.tally.changes += self.tally.marks.changes() - marks;
         let tour_changed = self.tally.tour_changes > tour_changes;
         if self.tally.changes > changes {
             self.assert_sound();
@@ -148,8 +144,6 @@ impl<'s, S: Service> Desk<'s, S> {
                     book == *expected,
                     "the table holds {book:?}, not {expected:?}"
                 );
-                let open = number(&self.table, OPEN_SITES);
-                assert_eq!(open, expected.open_sites().len(), "the root's number");
                 self.tally.checked += 1;
                 let by_number = stored_by(number_alone, &self.table);
                 self.tally.sided += usize::from(by_number != self.table);
@@ -175,8 +169,6 @@ impl Tally {
                 (Command::Begin(_), Record::Accepted) | (Command::Corner(_), Record::List(_)) => {
                     self.tour_changes += 1;
                 }
-                // Whether that changed the mark, the listener knows.
-                (Command::Close(_) | Command::Open(_), Record::Accepted) => {}
                 (_, Record::Accepted) => self.changes += 1,
                 _ => {}
             }
@@ -208,7 +200,6 @@ impl Tally {
         self.most_levels = self.most_levels.max(other.most_levels);
         self.most_nodes = self.most_nodes.max(other.most_nodes);
         self.tours.add(&other.tours);
-        self.marks.add(&other.marks);
         self.changes += other.changes;
         self.tour_changes += other.tour_changes;
     }

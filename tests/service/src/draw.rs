@@ -56,15 +56,7 @@ impl Pool {
         numbers.into_iter().map(addition).collect()
     }
 
-    /// Closes some of the numbers, in any order.
-    pub fn closings(&self, random: &mut Random) -> Vec<Vec<u8>> {
-        let mut numbers = self.numbers.clone();
-        random.shuffle(&mut numbers);
-        numbers.truncate(random.index(numbers.len() + 1));
-        numbers.into_iter().map(command::close).collect()
-    }
-
-    /// Whole and known commands of all twelve kinds; tours go on over several legs.
+    /// Whole and known commands of all ten kinds; tours go on over several legs.
     pub fn commands(&self, random: &mut Random, count: usize) -> Vec<Vec<u8>> {
         let mut commands = Vec::new();
         while commands.len() < count {
@@ -94,7 +86,7 @@ impl Pool {
             number,
             position: self.position(random),
         };
-        match random.between(1, 24) {
+        match random.between(1, 20) {
             1..=5 => command::add(site),
             6 | 7 => command::remove(number),
             8 | 9 => command::move_site(site),
@@ -104,8 +96,7 @@ impl Pool {
             15 => command::begin(self.any_leg(random).s),
             16 => command::corner(self.any_leg(random).e),
             17 | 18 => command::add_readings(number, random::readings(random, site.position)),
-            19 | 20 => command::move_readings(number, random::readings(random, site.position)),
-            _ => random::mark(random, number),
+            _ => command::move_readings(number, random::readings(random, site.position)),
         }
     }
 
@@ -132,15 +123,14 @@ impl Pool {
         commands
     }
 
-    /// A command that changes no site: it asks, sets the standing leg, or is refused. Now and then one
-    /// that closes or opens a site, which ends the tour only where the mark was another.
+    /// A command that changes no site: it asks, sets the standing leg, or is refused.
     fn leaving_a_tour(&self, random: &mut Random) -> Vec<u8> {
         let off_grid = Position::new(random.pick(&OFF_GRID), 0);
         let site = Site {
             number: self.number(random),
             position: off_grid,
         };
-        match random.between(1, 11) {
+        match random.between(1, 9) {
             1 => command::list(self.any_leg(random)),
             2 => command::stand(self.any_leg(random)),
             3 => command::print(),
@@ -149,7 +139,6 @@ impl Pool {
             6 => command::move_site(site),
             7 => command::begin(off_grid),
             8 => command::add_readings(site.number, self.refused_readings(random)),
-            9 | 10 => random::mark(random, site.number),
             _ => command::move_readings(site.number, self.refused_readings(random)),
         }
     }

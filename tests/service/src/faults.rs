@@ -3,12 +3,11 @@
 
 use crate::bytes::{
     CORNER_WORDS, ENTRIES_LISTED, FAR_EDGE, HEADER_KEPT, LAYOUT, LAYOUT_NUMBER, LEG_FLAG,
-    LEG_WORDS, LEVELS, MOST_SITES, REMEMBERED, ROOT, SITES_HELD, TOUR_FLAG, closed, leg, listed,
-    listed_at, number, open_sites, put_number, put_word, sites, tour, word,
+    LEG_WORDS, LEVELS, MOST_SITES, REMEMBERED, ROOT, SITES_HELD, TOUR_FLAG, leg, listed, listed_at,
+    number, put_number, put_word, sites, tour, word,
 };
 use crate::damage::regions;
 use crate::shape;
-use reference::grid::Site;
 use reference::hull;
 use reference::random::Random;
 
@@ -29,8 +28,6 @@ pub enum Standing {
     Zero,
     /// that of another held site,
     Held,
-    /// that of a closed one,
-    Closed,
     /// that of no held site,
     NotHeld,
     /// that of the entry beside it,
@@ -39,15 +36,11 @@ pub enum Standing {
     Bit,
     /// Two listed numbers have changed places.
     Swapped,
-    /// The list is that without one of its sites,
+    /// The list is that without one of its sites.
     Outdated,
-    /// or that of all sites, closed ones too,
-    OverAll,
-    /// or of the open ones and one closed one.
-    OverOneMore,
 }
 
-pub const STANDING: [Standing; 15] = [
+pub const STANDING: [Standing; 12] = [
     Standing::LegOff,
     Standing::LegMoved,
     Standing::Shorter,
@@ -55,14 +48,11 @@ pub const STANDING: [Standing; 15] = [
     Standing::Past512,
     Standing::Zero,
     Standing::Held,
-    Standing::Closed,
     Standing::NotHeld,
     Standing::Neighbour,
     Standing::Bit,
     Standing::Swapped,
     Standing::Outdated,
-    Standing::OverAll,
-    Standing::OverOneMore,
 ];
 
 impl Standing {
@@ -73,8 +63,6 @@ impl Standing {
             Standing::Shorter | Standing::Longer | Standing::Past512 => self.length(random, table),
             Standing::Swapped => swapped(random, table),
             Standing::Outdated => outdated(random, table),
-            Standing::OverAll => over(table, &sites(table)),
-            Standing::OverOneMore => over_one_more(random, table),
             _ => self.entry(random, table),
         }
     }
@@ -89,7 +77,7 @@ impl Standing {
             return Some(damaged);
         }
         put_number(&mut damaged, at, random.index(usize::from(FAR_EDGE) + 1));
-        let list = hull::split_list(&leg(&damaged)?, &open_sites(table));
+        let list = hull::split_list(&leg(&damaged)?, &sites(table));
         let other = list.iter().map(|entry| entry.site).ne(listed(table));
         other.then_some(damaged)
     }
@@ -124,12 +112,10 @@ impl Standing {
             others.collect::<Vec<_>>()
         };
         let held = others(sites(table).iter().map(|site| site.number).collect());
-        let closed: Vec<u16> = closed(table).into_iter().collect();
         let beside = others(list[i.saturating_sub(1)..list.len().min(i + 2)].to_vec());
         let number = match self {
             Standing::Zero => 0,
             Standing::Held if !held.is_empty() => random.pick(&held),
-            Standing::Closed if !closed.is_empty() => random.pick(&closed),
             Standing::NotHeld => not_held(random, table),
             Standing::Neighbour if !beside.is_empty() => random.pick(&beside),
             Standing::Bit => list[i] ^ 1 << random.index(16),
@@ -159,30 +145,12 @@ fn outdated(random: &mut Random, table: &[u8]) -> Option<Vec<u8>> {
     let list = listed(table);
     (!list.is_empty()).then(|| {
         let gone = random.pick(&list);
-        let mut fewer = open_sites(table);
+        let mut fewer = sites(table);
         fewer.retain(|site| site.number != gone);
         let mut damaged = table.to_vec();
         shape::write_standing(&mut damaged, &fewer, leg(table));
         damaged
     })
-}
-
-/// With the list over these sites, where that is another.
-fn over(table: &[u8], sites: &[Site]) -> Option<Vec<u8>> {
-    let mut damaged = table.to_vec();
-    shape::write_standing(&mut damaged, sites, leg(table));
-    (listed(&damaged) != listed(table)).then_some(damaged)
-}
-
-/// As if one had been opened.
-fn over_one_more(random: &mut Random, table: &[u8]) -> Option<Vec<u8>> {
-    let mut closed = closed(table);
-    let numbers: Vec<u16> = closed.iter().copied().collect();
-    let opened = (!numbers.is_empty()).then(|| random.pick(&numbers))?;
-    closed.remove(&opened);
-    let mut more = sites(table);
-    more.retain(|site| !closed.contains(&site.number));
-    over(table, &more)
 }
 
 /// One step off the grid, or anywhere; in a table there is nothing south or west of it.
@@ -209,15 +177,6 @@ fn not_held(random: &mut Random, table: &[u8]) -> u16 {
         if !held(number) {
             return number;
         }
-    }
-}
-
-/// The number of a closed site, or of none.
-fn not_open(random: &mut Random, table: &[u8]) -> u16 {
-    let closed: Vec<u16> = closed(table).into_iter().collect();
-    match closed.is_empty() || random.once_in(2) {
-        true => not_held(random, table),
-        false => random.pick(&closed),
     }
 }
 
@@ -259,13 +218,7 @@ impl Elsewhere {
     fn places(self, table: &[u8]) -> Vec<usize> {
         let names: &[&str] = match self {
             Elsewhere::Sites => &["site array"],
-            _ => &[
-                "tree header",
-                "stack",
-                "open sites",
-                "node count",
-                "node entries",
-            ],
+            _ => &["tree header", "stack", "node count", "node entries"],
         };
         let mut places = Vec::new();
         for region in regions(table) {
@@ -283,11 +236,11 @@ impl Elsewhere {
 }
 
 fn layout(random: &mut Random, table: &[u8]) -> (usize, u16) {
-    let value = u16::try_from(random.between(4, 65_535)).expect("16 bits");
+    let value = u16::try_from(random.between(3, 65_535)).expect("16 bits");
     let kept = HEADER_KEPT.start + 2 * random.index(HEADER_KEPT.len() / 2);
     let zeros = random.pick(&LEG_WORDS);
     match random.between(1, 5) {
-        1 => (LAYOUT, random.pick(&[0, 1, 2, LAYOUT_NUMBER + 1, value])),
+        1 => (LAYOUT, random.pick(&[0, 1, LAYOUT_NUMBER + 1, value])),
         2 => (kept, random.pick(&[1, 256, value])),
         3 if leg(table).is_none() => (zeros, random.pick(&[1, FAR_EDGE, FAR_EDGE + 1, value])),
         _ => (LEG_FLAG, random.pick(&[2, 256, 257, value])),
@@ -300,7 +253,7 @@ fn toured(random: &mut Random, table: &[u8]) -> (usize, u16) {
     match (random.between(1, 3), tour(table)) {
         (1, _) => (TOUR_FLAG, flag),
         (2, Some(_)) => (corner, off_grid(random)),
-        (_, Some(_)) => (REMEMBERED, not_open(random, table)),
+        (_, Some(_)) => (REMEMBERED, not_held(random, table)),
         (2, None) => (corner, random.pick(&[1, 256, FAR_EDGE, 65_535])),
         (_, None) => (REMEMBERED, random.pick(&[1, 256, 65_535])),
     }

@@ -4,11 +4,10 @@ use crate::Service;
 use crate::desk::Desk;
 use crate::draw::{Pool, broken_off};
 use reference::book::ALL_USED;
-use reference::command::{add, close, list, print, stand};
+use reference::command::{add, list, print, stand};
 use reference::grid::{MOST_SITES, Site, WORK_LEN, WRONG_WORK};
 use reference::random::Random;
 use reference::record::ACCEPTED;
-use std::collections::BTreeSet;
 
 const LITTLE_ROOM: [usize; 12] = [0, 1, 2, 3, 4, 12, 13, 14, 22, 23, 33, 60];
 
@@ -85,8 +84,7 @@ fn serve_in_batches<S: Service>(random: &mut Random, desk: &mut Desk<S>, command
     }
 }
 
-/// Fills fresh tables with the book's lines in three orders, with a 58 after each closed one's 41, and
-/// compares lists; returns how many.
+/// Fills fresh tables with the book's lines in three orders and compares lists; returns how many.
 pub fn compare_with_fresh<S: Service>(random: &mut Random, run: &mut Run<S>) -> usize {
     let Run { desk, pool } = run;
     let rising = desk.book.sites();
@@ -96,9 +94,8 @@ pub fn compare_with_fresh<S: Service>(random: &mut Random, run: &mut Run<S>) -> 
     let legs = [pool.leg(random), pool.leg(random)];
     let mut compared = 0;
     for lines in [rising, falling, shuffled] {
-        let mut fresh = filled(random, desk.service(), &lines, &desk.book.closed);
+        let mut fresh = filled(random, desk.service(), &lines);
         assert_eq!(fresh.book.lines, desk.book.lines);
-        assert_eq!(fresh.book.closed, desk.book.closed);
         for leg in legs {
             let listed = desk.serve(&list(leg));
             assert_eq!(fresh.serve(&list(leg)), listed);
@@ -109,33 +106,11 @@ pub fn compare_with_fresh<S: Service>(random: &mut Random, run: &mut Run<S>) -> 
     compared
 }
 
-fn filled<'s, S: Service>(
-    random: &mut Random,
-    service: &'s S,
-    lines: &[Site],
-    closed: &BTreeSet<u16>,
-) -> Desk<'s, S> {
+fn filled<'s, S: Service>(random: &mut Random, service: &'s S, lines: &[Site]) -> Desk<'s, S> {
     let mut desk = Desk::lay_out(service);
-    let commands = additions(random, lines, closed);
-    serve_in_batches(random, &mut desk, &commands);
+    let additions: Vec<Vec<u8>> = lines.iter().copied().map(add).collect();
+    serve_in_batches(random, &mut desk, &additions);
     desk
-}
-
-/// A 41 for each line, in this order, and for each closed one a 58 anywhere after that.
-pub fn additions(random: &mut Random, lines: &[Site], closed: &BTreeSet<u16>) -> Vec<Vec<u8>> {
-    let mut commands = Vec::new();
-    let mut waiting = Vec::new();
-    for site in lines {
-        commands.push(add(*site));
-        if closed.contains(&site.number) {
-            waiting.push(close(site.number));
-        }
-        while !waiting.is_empty() && random.once_in(2) {
-            commands.push(waiting.swap_remove(random.index(waiting.len())));
-        }
-    }
-    random.shuffle(&mut waiting);
-    [commands, waiting].concat()
 }
 
 /// With a standing leg, 50 prints what 4C of that leg lists here and on the fresh table.

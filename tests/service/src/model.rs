@@ -6,7 +6,7 @@ mod admission;
 use crate::bytes::{book, empty_table};
 use crate::shape::{self, Dealing};
 use crate::{Answer, Service};
-use reference::book::{ALL_USED, Book, WRONG_LENGTH};
+use reference::book::{ALL_USED, WRONG_LENGTH};
 use reference::grid::{TABLE_LEN, WORK_LEN};
 
 pub struct Model;
@@ -38,8 +38,7 @@ impl Service for Model {
         let mut book = before.clone();
         let reply = book.call(commands, work.len(), report.len());
         report[..reply.written].copy_from_slice(&reply.report);
-        let kept = |book: &Book| (book.lines.clone(), book.closed.clone(), book.leg);
-        if kept(&book) != kept(&before) {
+        if (&book.lines, book.leg) != (&before.lines, before.leg) {
             table.copy_from_slice(&shape::table(&book, &mut Dealing::Even));
         }
         shape::write_tour(table, book.tour);

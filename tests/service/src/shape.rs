@@ -4,16 +4,15 @@
 //! levels of nodes with three entries each.
 
 use crate::bytes::{
-    CLOSED, CORNER_WORDS, ENTRIES_LISTED, Entry, FEWEST_ENTRIES, FEWEST_IN_ROOT, FREE_NODES,
-    LEG_FLAG, LEG_WORDS, LEVELS, MOST_ENTRIES, MOST_LEVELS, MOST_NODES, OPEN, OPEN_SITES,
-    REMEMBERED, ROOT, Record, SITES_HELD, TOUR, TOUR_FLAG, empty_table, free_at, leaf_entry,
-    listed_at, node_at, put_number, put_word, steps, to_word,
+    CORNER_WORDS, ENTRIES_LISTED, Entry, FEWEST_ENTRIES, FEWEST_IN_ROOT, FREE_NODES, LEG_FLAG,
+    LEG_WORDS, LEVELS, MOST_ENTRIES, MOST_LEVELS, MOST_NODES, REMEMBERED, ROOT, Record, SITES_HELD,
+    TOUR, TOUR_FLAG, empty_table, free_at, leaf_entry, listed_at, node_at, put_number, put_word,
+    steps, to_word,
 };
 use reference::book::{Book, Tour};
 use reference::grid::{Leg, Site};
 use reference::hull;
 use reference::random::Random;
-use std::collections::BTreeSet;
 
 /// How the sites are dealt to nodes.
 pub enum Dealing<'r> {
@@ -50,47 +49,32 @@ impl Limits {
     }
 }
 
-/// A sound table with the book's lines, marks, leg and tour.
+/// A sound table with the book's lines, leg and tour.
 pub fn table(book: &Book, dealing: &mut Dealing) -> Vec<u8> {
     let mut table = empty_table();
-    write(&mut table, &book.sites(), &book.closed, book.leg, dealing);
+    write(&mut table, &book.sites(), book.leg, dealing);
     write_tour(&mut table, book.tour);
     table
 }
 
 /// Writes sites, standing leg, standing list and tree; free bytes and the tour's stay. The sites'
-/// numbers rise; those of the closed ones are told.
-pub fn write(
-    table: &mut [u8],
-    sites: &[Site],
-    closed: &BTreeSet<u16>,
-    leg: Option<Leg>,
-    dealing: &mut Dealing,
-) {
-    write_sites(table, sites, closed);
-    write_standing(table, &open(sites, closed), leg);
-    write_tree(table, sites, closed, Limits::LEGAL, dealing);
-}
-
-fn open(sites: &[Site], closed: &BTreeSet<u16>) -> Vec<Site> {
-    let open = |site: &&Site| !closed.contains(&site.number);
-    sites.iter().filter(open).copied().collect()
+/// numbers rise.
+pub fn write(table: &mut [u8], sites: &[Site], leg: Option<Leg>, dealing: &mut Dealing) {
+    write_sites(table, sites);
+    write_standing(table, sites, leg);
+    write_tree(table, sites, Limits::LEGAL, dealing);
 }
 
 /// Writes the site array, in the order given.
-pub fn write_sites(table: &mut [u8], sites: &[Site], closed: &BTreeSet<u16>) {
+pub fn write_sites(table: &mut [u8], sites: &[Site]) {
     put_number(table, SITES_HELD, sites.len());
     for (k, site) in sites.iter().enumerate() {
         let (east, north) = steps(site.position);
-        let mark = match closed.contains(&site.number) {
-            true => CLOSED,
-            false => OPEN,
-        };
         let record = Record {
             number: site.number,
             east,
             north,
-            mark,
+            kept: 0,
         };
         record.write(table, k);
     }
@@ -108,15 +92,8 @@ pub fn write_tour(table: &mut [u8], tour: Option<Tour>) {
     }
 }
 
-/// Writes a tree over these sites, with the numbers of open ones, and the stack of the nodes that it
-/// does not need.
-pub fn write_tree(
-    table: &mut [u8],
-    sites: &[Site],
-    closed: &BTreeSet<u16>,
-    limits: Limits,
-    dealing: &mut Dealing,
-) {
+/// Writes a tree over these sites, and the stack of the nodes that it does not need.
+pub fn write_tree(table: &mut [u8], sites: &[Site], limits: Limits, dealing: &mut Dealing) {
     let mut sites = sites.to_vec();
     sites.sort_by_key(|site| site.position);
     let mut free: Vec<usize> = (0..MOST_NODES).collect();
@@ -128,7 +105,6 @@ pub fn write_tree(
     }
     let mut planting = Planting {
         table,
-        closed,
         limits,
         dealing,
         free,
@@ -156,7 +132,6 @@ pub fn write_standing(table: &mut [u8], sites: &[Site], leg: Option<Leg>) {
 
 struct Planting<'t, 'd, 'r> {
     table: &'t mut [u8],
-    closed: &'t BTreeSet<u16>,
     limits: Limits,
     dealing: &'d mut Dealing<'r>,
     free: Vec<usize>,
@@ -166,11 +141,11 @@ impl Planting<'_, '_, '_> {
     fn tree(&mut self, sites: &[Site]) {
         let levels = self.levels(sites.len());
         put_number(self.table, LEVELS, levels);
-        put_word(self.table, OPEN_SITES, 0);
         if levels > 0 {
-            let root = self.node(levels, sites, self.limits.fewest_in_root);
-            put_word(self.table, ROOT, root.reference);
-            put_word(self.table, OPEN_SITES, root.open);
+            let root = self
+                .node(levels, sites, self.limits.fewest_in_root)
+                .reference;
+            put_word(self.table, ROOT, root);
         }
         put_number(self.table, FREE_NODES, self.free.len());
         for (i, node) in self.free.iter().enumerate() {
@@ -200,9 +175,7 @@ impl Planting<'_, '_, '_> {
     fn node(&mut self, height: usize, sites: &[Site], fewest: usize) -> Entry {
         let node = self.free.pop().expect("264 nodes are enough");
         let entries = if height == 1 {
-            let is_open = |site: &Site| !self.closed.contains(&site.number);
-            let entry = |site| leaf_entry(site, is_open(site));
-            sites.iter().map(entry).collect()
+            sites.iter().map(leaf_entry).collect()
         } else {
             self.children(height - 1, sites, fewest)
         };
@@ -252,7 +225,7 @@ impl Planting<'_, '_, '_> {
     }
 }
 
-/// The entry whose box holds both, with the open sites of both.
+/// The entry whose box holds both.
 fn join(e: Entry, f: Entry) -> Entry {
     Entry {
         reference: 0,
@@ -260,6 +233,6 @@ fn join(e: Entry, f: Entry) -> Entry {
         south: e.south.min(f.south),
         east: e.east.max(f.east),
         north: e.north.max(f.north),
-        open: e.open + f.open,
+        kept: 0,
     }
 }

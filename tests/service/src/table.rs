@@ -6,9 +6,9 @@
 mod tree;
 
 use crate::bytes::{
-    CLOSED, CORNER_WORDS, ENTRIES_LISTED, FAR_EDGE, HEADER_KEPT, LAYOUT, LAYOUT_NUMBER, LEG_FLAG,
-    LEG_WORDS, LEVELS, MOST_SITES, OPEN, REMEMBERED, Record, SITES_HELD, TABLE_LEN, TOUR_FLAG,
-    book, listed, number, records, word,
+    CORNER_WORDS, ENTRIES_LISTED, FAR_EDGE, HEADER_KEPT, LAYOUT, LAYOUT_NUMBER, LEG_FLAG,
+    LEG_WORDS, LEVELS, MOST_SITES, REMEMBERED, Record, SITES_HELD, TABLE_LEN, TOUR_FLAG, book,
+    listed, number, records, sites, word,
 };
 use crate::{BROKEN_STANDING, BROKEN_TABLE};
 use reference::book::{Book, WRONG_LENGTH};
@@ -27,21 +27,19 @@ pub enum Rule {
     NumberNotZero,
     NumbersRise,
     SiteOnGrid,
-    /// 0 or 1.
-    Mark,
+    RecordKeptZero,
     /// 0 or 1.
     LegFlag,
     LegOnGrid,
     /// Without a standing leg its four words are 0.
     NoLegIsZero,
-    /// The numbers of the split list of the standing leg over the open sites; none without a leg.
+    /// The numbers of the split list of the standing leg; none without a leg.
     StandingList,
     /// 0 or 1.
     TourFlag,
     CornerOnGrid,
     /// The remembered site is held, or there is none yet.
     RememberedHeld,
-    RememberedOpen,
     /// Without a tour its corner and its remembered number are 0.
     NoTourIsZero,
     AtMostSixLevels,
@@ -57,12 +55,7 @@ pub enum Rule {
     LeafIsPoint,
     /// A box above the leaves is the smallest one.
     SmallestBox,
-    /// At a leaf 1 where the site is open, 0 where it is closed.
-    OpenAtLeaf,
-    /// Above the leaves the open sites of the child node's entries together.
-    OpenBeneath,
-    /// The root's own number: those of its entries together, 0 for the empty tree.
-    OpenInTree,
+    EntryKeptZero,
     /// Every held site is in one leaf entry.
     SiteInOneLeafEntry,
     /// Every leaf entry is that of a held site.
@@ -135,7 +128,7 @@ pub fn broken_rules(table: &[u8]) -> Vec<Rule> {
         broken.unless(standing_list_holds(table), Rule::StandingList);
     }
     tour_rules(table, &mut broken);
-    tree::rules(table, &mut broken);
+    tree::rules(table, &sites(table), &mut broken);
     broken.0.into_iter().collect()
 }
 
@@ -160,14 +153,14 @@ fn site_rules(table: &[u8], broken: &mut Broken) {
         number,
         east,
         north,
-        mark,
+        kept,
     } in records(table)
     {
         broken.unless(number != 0, Rule::NumberNotZero);
         broken.unless(last.is_none_or(|last| last < number), Rule::NumbersRise);
         let on_grid = east <= FAR_EDGE && north <= FAR_EDGE;
         broken.unless(on_grid, Rule::SiteOnGrid);
-        broken.unless([OPEN, CLOSED].contains(&mark), Rule::Mark);
+        broken.unless(kept == 0, Rule::RecordKeptZero);
         last = Some(number);
     }
 }
@@ -189,10 +182,8 @@ fn tour_rules(table: &[u8], broken: &mut Broken) {
         1 => {
             let on_grid = corner.iter().all(|word| *word <= FAR_EDGE);
             broken.unless(on_grid, Rule::CornerOnGrid);
-            let held = records(table).find(|record| record.number == remembered);
-            broken.unless(remembered == 0 || held.is_some(), Rule::RememberedHeld);
-            let closed = held.is_some_and(|record| record.mark == CLOSED);
-            broken.unless(!closed, Rule::RememberedOpen);
+            let held = records(table).any(|record| record.number == remembered);
+            broken.unless(remembered == 0 || held, Rule::RememberedHeld);
         }
         _ => broken.unless(false, Rule::TourFlag),
     }

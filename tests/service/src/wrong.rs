@@ -1,11 +1,10 @@
 //! A service that is laid out like the model, and answers batches as a test likes.
 
-use crate::bytes::TOUR;
 use crate::table::meaning;
 use crate::{Answer, Model, Service};
 use reference::book::Book;
 use reference::command::Command;
-use reference::record::{ACCEPTED, REFUSED, Record};
+use reference::record::Record;
 use reference::split::TieRule;
 use reference::ties::renamed;
 
@@ -35,30 +34,6 @@ pub struct Step<'s> {
     pub before: &'s [u8],
     pub command: Command,
     pub record: &'s mut [u8],
-}
-
-pub fn accepted(step: &Step) -> bool {
-    *step.record == [ACCEPTED]
-}
-
-pub fn refused(step: &Step) -> bool {
-    step.record.first() == Some(&REFUSED)
-}
-
-/// The tour's words as they were before the command.
-pub fn keep_tour(t: &mut [u8], step: &Step) {
-    t[TOUR].copy_from_slice(&step.before[TOUR]);
-}
-
-/// The model, but for what it does after a command.
-#[macro_export]
-macro_rules! slips_after {
-    ($t:ident, $step:ident => $slip:expr) => {
-        $crate::wrong::Wrong(|t, w, c, r| {
-            let after = |$t: &mut [u8], $step: $crate::wrong::Step| $slip;
-            $crate::wrong::slipping(|_, _| {}, after, (t, w, c, r))
-        })
-    };
 }
 
 /// As the model, but command by command: before and after each the table may slip.
@@ -136,7 +111,7 @@ fn rename(rule: TieRule, mut book: Book, mut commands: &[u8], mut report: &mut [
             _ => None,
         };
         if let (Some(leg), Some((Record::List(list), _))) = (leg, Record::read(&record)) {
-            let list = renamed(&leg, &book.open_sites(), &list, rule);
+            let list = renamed(&leg, &book.sites(), &list, rule);
             written.copy_from_slice(&Record::List(list).bytes());
         }
         (commands, report) = (&commands[length..], later);

@@ -7,16 +7,15 @@ use reference::grid::{HALF_WIDTH, Leg, MOST_SITES, Position, Site};
 use reference::random::Random;
 use reference::readings::metres;
 use service::bytes::{
-    self, CORNER_WORDS, ENTRIES_LISTED, Entry, FAR_EDGE, FREE_NODES, HEADER_KEPT, LAYOUT,
-    LAYOUT_NUMBER, LEG_FLAG, LEG_WORDS, LEVELS, MOST_LEVELS, REMEMBERED, ROOT, TOUR_FLAG,
-    empty_table, free_at, leaf_entry, node_at, number, put_number, put_word, record_at, word,
+    CORNER_WORDS, ENTRIES_LISTED, Entry, FAR_EDGE, FREE_NODES, HEADER_KEPT, LAYOUT, LAYOUT_NUMBER,
+    LEG_FLAG, LEG_WORDS, LEVELS, MOST_LEVELS, REMEMBERED, ROOT, TOUR_FLAG, empty_table, free_at,
+    leaf_entry, node_at, number, put_number, put_word, record_at, word,
 };
 use service::damage::{inner_nodes, nodes, offer};
 use service::draw::Pool;
 use service::shape::{self, Dealing, Limits};
 use service::table::{Rule, broken_rules, meaning};
 use service::{Service, on_each_service};
-use std::collections::BTreeSet;
 use std::path::Path;
 
 const ROUNDS: usize = 120;
@@ -35,29 +34,14 @@ on_each_service!(
     a_table_of_release_0_7_0,
 );
 
-/// Beside the numbers of open sites its own number alone tells it from a sound table, whose sites would
-/// stand elsewhere.
+/// Its number alone tells it from a sound table, whose sites would stand elsewhere.
 fn a_table_of_release_0_7_0(service: &impl Service) {
     let root = Path::new(env!("CARGO_MANIFEST_DIR")).join("../tables");
     let mut table = std::fs::read(root.join("release-0.7.0.stops")).expect("the table is kept");
     assert_eq!(word(&table, LAYOUT), 1);
-    let rules = [Rule::LayoutNumber, Rule::OpenAtLeaf];
-    assert_refused(service, &table, &rules);
-    put_word(&mut table, LAYOUT, LAYOUT_NUMBER);
-    assert_refused(service, &table, &rules[1..]);
-    let book = bytes::book(&table);
-    let (sites, closed) = (book.sites(), &book.closed);
-    shape::write_tree(
-        &mut table,
-        &sites,
-        closed,
-        Limits::LEGAL,
-        &mut Dealing::Even,
-    );
-    for layout in 0..LAYOUT_NUMBER {
-        put_word(&mut table, LAYOUT, layout);
-        assert_refused(service, &table, &rules[..1]);
-    }
+    assert_refused(service, &table, &[Rule::LayoutNumber]);
+    put_word(&mut table, LAYOUT, 0);
+    assert_refused(service, &table, &[Rule::LayoutNumber]);
     put_word(&mut table, LAYOUT, LAYOUT_NUMBER);
     let misread = meaning(&table).expect("no other rule is broken").book;
     let dump = std::fs::read_to_string(root.join("release-0.7.0.dump")).expect("it is kept");
@@ -67,7 +51,7 @@ fn a_table_of_release_0_7_0(service: &impl Service) {
     assert!(!dump.contains(&format!("add {} {east} {north}\n", site.number)));
 }
 
-/// A book with 12 to 80 sites, all open, and a standing leg.
+/// A book with 12 to 80 sites and a standing leg.
 fn book(random: &mut Random) -> Book {
     let count = 12 + random.index(69);
     let pool = Pool::new(random, count);
@@ -115,13 +99,7 @@ fn assert_taken(service: &impl Service, table: &[u8]) {
 
 fn table_of(random: &mut Random, sites: &[Site], leg: Option<Leg>) -> Vec<u8> {
     let mut table = empty_table();
-    shape::write(
-        &mut table,
-        sites,
-        &BTreeSet::new(),
-        leg,
-        &mut Dealing::Any(random),
-    );
+    shape::write(&mut table, sites, leg, &mut Dealing::Any(random));
     table
 }
 
@@ -290,7 +268,7 @@ fn leaves_that_do_not_hold_the_sites(service: &impl Service) {
         let with_leaves = |random: &mut Random, leaves: &[Site]| {
             let mut table = table_of(random, &sites, book.leg);
             let dealing = &mut Dealing::Any(random);
-            shape::write_tree(&mut table, leaves, &BTreeSet::new(), Limits::LEGAL, dealing);
+            shape::write_tree(&mut table, leaves, Limits::LEGAL, dealing);
             table
         };
         let some = random.index(sites.len());
@@ -344,13 +322,7 @@ fn nodes_with_too_few_entries(service: &impl Service) {
         ];
         for (limits, rule) in cases {
             let mut table = table_of(random, &sites, book.leg);
-            shape::write_tree(
-                &mut table,
-                &sites,
-                &BTreeSet::new(),
-                limits,
-                &mut Dealing::Tallest,
-            );
+            shape::write_tree(&mut table, &sites, limits, &mut Dealing::Tallest);
             assert_refused(service, &table, &[rule]);
         }
     });
@@ -366,13 +338,7 @@ fn a_node_with_nine_entries(service: &impl Service) {
     rounds(137, |random, book| {
         let sites = &book.sites()[..9];
         let mut table = table_of(random, sites, None);
-        shape::write_tree(
-            &mut table,
-            &sites[..8],
-            &BTreeSet::new(),
-            Limits::LEGAL,
-            &mut Dealing::Even,
-        );
+        shape::write_tree(&mut table, &sites[..8], Limits::LEGAL, &mut Dealing::Even);
         let root = number(&table, ROOT);
         // The nodes are taken from the last one down; the root moves one forward.
         assert_eq!((root, number(&table, free_at(262))), (263, 262));
@@ -380,7 +346,7 @@ fn a_node_with_nine_entries(service: &impl Service) {
         put_number(&mut table, ROOT, 262);
         put_number(&mut table, free_at(262), 263);
         put_number(&mut table, node_at(262), 9);
-        leaf_entry(&sites[8], true).write(&mut table, 262, 8);
+        leaf_entry(&sites[8]).write(&mut table, 262, 8);
         let rules = [Rule::AtMostEightEntries, Rule::SiteInOneLeafEntry];
         assert_refused(service, &table, &rules);
     });
@@ -456,14 +422,8 @@ fn a_513th_site_and_a_seventh_level(service: &impl Service) {
     let nth = |k: usize| Site::new(u16::try_from(k).unwrap(), 3, i64::try_from(k).unwrap());
     let many: Vec<Site> = (1..=MOST_SITES + 1).map(nth).collect();
     let mut table = empty_table();
-    shape::write_tree(
-        &mut table,
-        &many,
-        &BTreeSet::new(),
-        Limits::LEGAL,
-        &mut Dealing::Tallest,
-    );
-    shape::write_sites(&mut table, &many, &BTreeSet::new());
+    shape::write_tree(&mut table, &many, Limits::LEGAL, &mut Dealing::Tallest);
+    shape::write_sites(&mut table, &many);
     let rules = [Rule::AtMost512Sites, Rule::NoOtherLeafEntry];
     assert_eq!(word(&table, record_at(MOST_SITES)), 513);
     assert_refused(service, &table, &rules);
@@ -475,14 +435,8 @@ fn a_513th_site_and_a_seventh_level(service: &impl Service) {
         most_levels: MOST_LEVELS + 1,
     };
     let mut table = empty_table();
-    shape::write_sites(&mut table, &many[..128], &BTreeSet::new());
-    shape::write_tree(
-        &mut table,
-        &many[..128],
-        &BTreeSet::new(),
-        limits,
-        &mut Dealing::Tallest,
-    );
+    shape::write_sites(&mut table, &many[..128]);
+    shape::write_tree(&mut table, &many[..128], limits, &mut Dealing::Tallest);
     assert_eq!(number(&table, LEVELS), 7);
     assert!(broken_rules(&table).contains(&Rule::AtMostSixLevels));
     assert!(!offer(service, &table, &print()).is_empty());

@@ -3,8 +3,7 @@
 
 use reference::book::{ALL_USED, NO_ROOM};
 use reference::command::{
-    add, add_readings, begin, close, corner, list, move_readings, move_site, open, print, remove,
-    stand,
+    add, add_readings, begin, corner, list, move_readings, move_site, print, remove, stand,
 };
 use reference::grid::{
     HALF_WIDTH, LARGEST_DENOMINATOR, Leg, MOST_SITES, Position, Site, TABLE_LEN, WORK_LEN,
@@ -88,10 +87,6 @@ fn every_record_needs_just_its_own_length(service: &impl Service) {
         (move_readings(1, Readings::new(ZERO, FIRST_OFF_GRID)), 2),
         (add_readings(1, metres(0, 0)), 2),
         (move_readings(2, metres(0, 0)), 2),
-        (close(1), 1),
-        (open(1), 1),
-        (close(0), 2),
-        (open(2), 2),
         (list(leg), 13),
         (print(), 13),
     ];

@@ -1,14 +1,13 @@
 //! The checker of tables: it takes every legal shape, and each rule, broken alone, is named.
 
 use reference::book::Book;
-use reference::command::{add, begin, close, corner, stand};
+use reference::command::{add, begin, corner, stand};
 use reference::grid::{Leg, MOST_SITES, Position, Site, WORK_LEN};
 use reference::random::Random;
 use service::bytes::{
     ENTRIES_LISTED, FAR_EDGE, FREE_NODES, HEADER_KEPT, LAYOUT, LAYOUT_NUMBER, LEG_FLAG, LEG_WORDS,
-    LEVELS, OPEN_SITES, RECORD_LEN, ROOT, SITE_ARRAY, SITES_HELD, STACK_END, TOUR, TREE_END,
-    empty_table, entry_at, free_at, listed_at, node_at, number, put_number, put_word, record_at,
-    word,
+    LEVELS, RECORD_LEN, ROOT, SITE_ARRAY, SITES_HELD, TOUR, empty_table, entry_at, free_at,
+    listed_at, node_at, number, put_number, put_word, record_at, word,
 };
 use service::draw::Pool;
 use service::shape::{self, Dealing};
@@ -17,15 +16,12 @@ use service::{Model, Service};
 
 const SHAPES: usize = 1_500;
 
-/// A random book with this many sites, some of them closed, with a standing leg or without.
+/// A random book with this many sites, with a standing leg or without.
 fn book(random: &mut Random, count: usize) -> Book {
     let pool = Pool::new(random, count);
     let mut book = Book::new();
     let additions = pool.additions(random);
     book.records(&additions);
-    if random.once_in(2) {
-        book.records(&pool.closings(random));
-    }
     if random.once_in(2) {
         book.records(&[stand(pool.leg(random))]);
     }
@@ -41,7 +37,7 @@ fn book(random: &mut Random, count: usize) -> Book {
 fn every_legal_shape_breaks_no_rule_and_means_its_book() {
     let mut random = Random::new(61);
     let mut by_levels = [0; 7];
-    let (mut most_nodes, mut with_list, mut in_a_tour, mut with_closed) = (0, 0, 0, 0);
+    let (mut most_nodes, mut with_list, mut in_a_tour) = (0, 0, 0);
     for nth in 0..SHAPES {
         let count = match nth % 3 {
             0 => random.index(20) + 1,
@@ -60,12 +56,9 @@ fn every_legal_shape_breaks_no_rule_and_means_its_book() {
         most_nodes = most_nodes.max(meaning.nodes);
         with_list += usize::from(!meaning.listed.is_empty());
         in_a_tour += usize::from(meaning.book.tour.is_some());
-        with_closed += usize::from(!meaning.book.closed.is_empty());
-        assert_eq!(number(&table, OPEN_SITES), book.open_sites().len());
     }
     println!("by levels: {by_levels:?}; most nodes: {most_nodes}; with a list: {with_list}");
     assert!(in_a_tour >= SHAPES / 3, "{in_a_tour}");
-    assert!(with_closed >= SHAPES / 3, "{with_closed}");
     assert!(by_levels[1..].iter().all(|times| *times >= SHAPES / 100));
     assert!(most_nodes >= 240 && with_list >= SHAPES / 3);
 }
@@ -86,34 +79,24 @@ fn one_site_and_a_leg_stand_where_the_layout_says() {
     let commands = [add(Site::new(513, 2, -3)), stand(leg)].concat();
     let answer = Model.batch(&mut table, &mut [1; WORK_LEN], &commands, &mut [0; 2]);
     assert_eq!(answer, (0, 16, 2));
-    // 1 site, a leg, (12000,12000) to (12010,11990), 1 entry, layout 3.
+    // 1 site, a leg, (12000,12000) to (12010,11990), 1 entry, layout 2.
     let header = [
-        1, 0, 1, 0, 0xE0, 0x2E, 0xE0, 0x2E, 0xEA, 0x2E, 0xD6, 0x2E, 1, 0, 3, 0,
+        1, 0, 1, 0, 0xE0, 0x2E, 0xE0, 0x2E, 0xEA, 0x2E, 0xD6, 0x2E, 1, 0, 2, 0,
     ];
     assert_eq!(table[..16], header);
     assert!(table[16..64].iter().all(|byte| *byte == 0));
-    // Site 513 at (12002,11997), open.
+    // Site 513 at (12002,11997).
     let record = [0x01, 0x02, 0xE2, 0x2E, 0xDD, 0x2E, 0, 0];
     assert_eq!(table[64..72], record);
     assert_eq!(table[4_160..4_162], [0x01, 0x02]);
-    // One level, 263 free nodes, one open site, and the root.
+    // One level, 263 free nodes, and the root.
     assert_eq!((table[5_184], table[5_185]), (1, 0));
     assert_eq!((table[5_188], table[5_189]), (7, 1));
-    assert_eq!((table[5_718], table[5_719]), (1, 0));
     let root = 6_896 + 98 * (usize::from(table[5_186]) + 256 * usize::from(table[5_187]));
     assert_eq!(table[root..root + 2], [1, 0]);
     assert_eq!(table[root + 2..root + 8], record[..6]);
-    assert_eq!(table[root + 8..root + 14], [0xE2, 0x2E, 0xDD, 0x2E, 1, 0]);
+    assert_eq!(table[root + 8..root + 14], [0xE2, 0x2E, 0xDD, 0x2E, 0, 0]);
     assert_eq!(meaning(&table).unwrap().listed, [513]);
-    // Closed: the mark, both numbers and the list change, and nothing else.
-    let mut expected = table.clone();
-    for at in [12, 70, root + 12, 5_718] {
-        expected[at] ^= 1;
-    }
-    let answer = Model.batch(&mut table, &mut [1; WORK_LEN], &close(513), &mut [0; 1]);
-    assert_eq!(answer, (0, 3, 1));
-    expected[4_160..4_162].copy_from_slice(&table[4_160..4_162]);
-    assert!(table == expected);
 }
 
 /// 40 sites on a line in five full leaves under one root, and a standing leg.
@@ -165,6 +148,8 @@ fn rules_on_header_and_sites_are_named() {
         let other = edited(|t, _| put_word(t, LAYOUT, number));
         assert_eq!(other, [Rule::LayoutNumber]);
     }
+    let kept = edited(|t, _| t[record_at(39) + 7] = 1);
+    assert_eq!(kept, [Rule::RecordKeptZero]);
     let swapped = edited(|t, _| {
         let (first, second) = t[SITE_ARRAY..].split_at_mut(RECORD_LEN);
         first.swap_with_slice(&mut second[..RECORD_LEN]);
@@ -181,75 +166,6 @@ fn rules_on_header_and_sites_are_named() {
     }
     let too_many = edited(|t, _| put_number(t, SITES_HELD, 513));
     assert!(too_many.contains(&Rule::AtMost512Sites));
-}
-
-#[test]
-fn rules_on_marks_are_named() {
-    // The last site is not listed, so that the standing list does not depend on it.
-    let mark = record_at(39) + 6;
-    for value in [2, 3, 255, 256, 257, 32_769, 65_535] {
-        assert_eq!(edited(|t, _| put_word(t, mark, value)), [Rule::Mark]);
-    }
-    assert_eq!(edited(|t, _| put_word(t, mark, 1)), [Rule::OpenAtLeaf]);
-    let entry = |t: &[u8], nodes: Nodes| {
-        let leaf = number(t, entry_at(nodes.root, 4));
-        assert_eq!(number(t, entry_at(leaf, 7)), 40);
-        (entry_at(leaf, 7) + 10, entry_at(nodes.root, 4) + 10)
-    };
-    for open in [0, 2, 256, 257, 65_535] {
-        let leaf = edited(|t, nodes| {
-            let (at, _) = entry(t, nodes);
-            put_word(t, at, open);
-        });
-        assert_eq!(leaf, [Rule::OpenAtLeaf, Rule::OpenBeneath]);
-    }
-    for open in [0, 7, 9, 255, 264, 65_535] {
-        let above = edited(|t, nodes| {
-            let (_, at) = entry(t, nodes);
-            put_word(t, at, open);
-        });
-        assert_eq!(above, [Rule::OpenBeneath, Rule::OpenInTree]);
-    }
-    for open in [0, 39, 41, 296, 65_535] {
-        let root = edited(|t, _| put_word(t, OPEN_SITES, open));
-        assert_eq!(root, [Rule::OpenInTree]);
-    }
-    // Closed wherever it counts but in the record, and there too.
-    let closed = |t: &mut Vec<u8>, nodes: Nodes| {
-        let (leaf, above) = entry(t, nodes);
-        put_word(t, leaf, 0);
-        put_word(t, above, 7);
-        put_word(t, OPEN_SITES, 39);
-    };
-    assert_eq!(edited(closed), [Rule::OpenAtLeaf]);
-    let closed = |t: &mut Vec<u8>, nodes: Nodes| {
-        closed(t, nodes);
-        put_word(t, mark, 1);
-    };
-    assert_eq!(edited(closed), []);
-    // A listed one: the list is still that of all sites.
-    let listed = edited(|t, nodes| {
-        put_word(t, record_at(0) + 6, 1);
-        put_word(t, entry_at(nodes.leaf, 0) + 10, 0);
-        put_word(t, entry_at(nodes.root, 0) + 10, 7);
-        put_word(t, OPEN_SITES, 39);
-    });
-    assert_eq!(listed, [Rule::StandingList]);
-    for remembered in [39, 40] {
-        let tour = edited(|t, nodes| {
-            closed(t, nodes);
-            put_word(t, TOUR.start, 1);
-            put_word(t, TOUR.start + 6, remembered);
-        });
-        let broken = (remembered == 40).then_some(Rule::RememberedOpen);
-        assert_eq!(tour, Vec::from_iter(broken));
-    }
-    // The empty tree has no open site.
-    let mut table = empty_table();
-    for open in [1, 256, 65_535] {
-        put_word(&mut table, OPEN_SITES, open);
-        assert_eq!(broken_rules(&table), [Rule::OpenInTree]);
-    }
 }
 
 #[test]
@@ -342,13 +258,12 @@ fn each_rule_gives_its_reason() {
         Rule::NumberNotZero,
         Rule::NumbersRise,
         Rule::SiteOnGrid,
-        Rule::Mark,
+        Rule::RecordKeptZero,
         Rule::LegFlag,
         Rule::NoLegIsZero,
         Rule::TourFlag,
         Rule::CornerOnGrid,
         Rule::RememberedHeld,
-        Rule::RememberedOpen,
         Rule::NoTourIsZero,
         Rule::AtMostSixLevels,
         Rule::NodeId,
@@ -358,9 +273,7 @@ fn each_rule_gives_its_reason() {
         Rule::AtLeastOneInRoot,
         Rule::LeafIsPoint,
         Rule::SmallestBox,
-        Rule::OpenAtLeaf,
-        Rule::OpenBeneath,
-        Rule::OpenInTree,
+        Rule::EntryKeptZero,
         Rule::SiteInOneLeafEntry,
         Rule::NoOtherLeafEntry,
         Rule::FreeCount,
@@ -394,10 +307,8 @@ fn reasons_of_two_edits() {
         // No leg, and its list is still there.
         |t, _| t[LEG_FLAG..ENTRIES_LISTED].fill(0),
     ];
-    let elsewhere: [Edit; 12] = [
-        |t, _| put_word(t, LAYOUT, 2),
-        |t, _| put_word(t, OPEN_SITES, 39),
-        |t, _| t[record_at(39) + 6] = 1,
+    let elsewhere: [Edit; 10] = [
+        |t, _| put_word(t, LAYOUT, 1),
         |t, _| t[HEADER_KEPT.start] = 1,
         |t, _| put_word(t, LEG_FLAG, 2),
         |t, _| t[record_at(39) + 7] = 1,
@@ -449,6 +360,10 @@ fn a_stored_list_follows_the_tie_rule() {
 
 #[test]
 fn rules_on_entries_are_named() {
+    let kept = edited(|t, nodes| t[entry_at(nodes.leaf, 7) + 11] = 4);
+    assert_eq!(kept, [Rule::EntryKeptZero]);
+    let kept = edited(|t, nodes| t[entry_at(nodes.root, 4) + 10] = 1);
+    assert_eq!(kept, [Rule::EntryKeptZero]);
     // Each edge of a box one step out, and one step in.
     for (edge, step) in [2, 4, 6, 8]
         .into_iter()
@@ -504,7 +419,6 @@ fn a_root_with_one_child_is_named() {
     // All sites are in one position, so the box is that of any entry.
     table.copy_within(entry_at(leaf, 0)..entry_at(leaf, 1), entry_at(above, 0));
     put_number(&mut table, entry_at(above, 0), leaf);
-    put_number(&mut table, entry_at(above, 0) + 10, 8);
     assert_eq!(broken_rules(&table), [Rule::AtLeastTwoInRoot]);
 }
 
@@ -537,8 +451,7 @@ fn free_bytes_break_no_rule() {
     let mut spans = vec![
         record_at(40)..4_160,
         listed_at(number(&table, ENTRIES_LISTED))..LEVELS,
-        free_at(number(&table, FREE_NODES))..STACK_END,
-        TREE_END..6_896,
+        free_at(number(&table, FREE_NODES))..6_896,
         entry_at(root, 5)..node_at(root) + 98,
     ];
     for i in 0..number(&table, FREE_NODES) {

@@ -2,7 +2,7 @@
 //! with the feature `proved` the example is compiled, linked and run.
 
 use reference::book::Book;
-use reference::command::{add, close, list, open, print, remove, stand};
+use reference::command::{add, list, print, remove, stand};
 use reference::grid::{HALF_WIDTH, Leg, Site};
 use reference::record::Record;
 use std::path::{Path, PathBuf};
@@ -15,7 +15,7 @@ const REFUSALS: [&str; 9] = [
     "the number is already held",
     "the number is not held",
     "the table is full",
-    "no stop is open",
+    "no stop is held",
     "no leg is standing",
     "no tour is under way",
 ];
@@ -66,14 +66,6 @@ fn removal(book: &mut Book, number: u16) -> String {
     format!("Remove stop {number}: {}", outcome(book, remove(number)))
 }
 
-/// Closed, and opened again.
-fn closed_for_a_while(book: &mut Book, number: u16) -> String {
-    let mut text = format!("Close stop {number}: {}", outcome(book, close(number)));
-    text += &standing(book);
-    text += &format!("Open stop {number}: {}", outcome(book, open(number)));
-    text + &standing(book)
-}
-
 fn ends(leg: Leg) -> String {
     let Leg { s, e } = leg;
     format!("leg ({},{}) to ({},{})", s.east, s.north, e.east, e.north)
@@ -113,7 +105,6 @@ fn the_stored_text_is_what_the_second_program_answers() {
         text += &format!("The {}:\n", ends(leg));
         text += &in_words(&mut book, list(leg));
     }
-    text += &closed_for_a_while(&mut book, 1);
     text += &removal(&mut book, 2);
     text += &standing(&mut book);
     text += &removal(&mut book, 2);

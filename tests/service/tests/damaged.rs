@@ -4,15 +4,15 @@
 
 use reference::book::{Book, Tour};
 use reference::command::{
-    add, add_readings, begin, close, corner, list, move_readings, open, print, remove, stand,
+    add, add_readings, begin, corner, list, move_readings, print, remove, stand,
 };
 use reference::grid::{Leg, MOST_SITES, Site, TABLE_LEN, WRONG_WORK};
 use reference::random::Random;
 use reference::readings::metres;
 use service::bytes::{
     CORNER_WORDS, ENTRY_LEN, FAR_EDGE, FREE_NODES, HALF_WIDTH, LEVELS, NODE_POOL, REMEMBERED, ROOT,
-    SITE_ARRAY, SITES_HELD, STANDING_LIST, TOUR, TOUR_FLAG, TREE_END, empty_table, entry_at,
-    leaf_entry, node_at, number, open_sites, put_number, put_word, word,
+    SITE_ARRAY, SITES_HELD, STACK_END, STANDING_LIST, TOUR, TOUR_FLAG, empty_table, entry_at,
+    leaf_entry, node_at, number, put_number, put_word, word,
 };
 use service::damage::{Outcomes, assert_wrong_length_first, flipped, nodes, offer, regions};
 use service::desk::Desk;
@@ -25,8 +25,8 @@ use std::collections::BTreeMap;
 const SIZES: [usize; 17] = [
     0, 0, 1, 1, 2, 3, 3, 8, 9, 9, 17, 17, 40, 40, 100, 300, MOST_SITES,
 ];
-/// Up to this many sites, in every standing list and in the number of open sites, all eight bits of a
-/// byte are flipped; above and on the stack one.
+/// Up to this many sites, and in every standing list, all eight bits of a byte are flipped; above
+/// and on the stack one.
 const FEW_SITES: usize = 9;
 const WORDS_CHANGED: usize = 6_000;
 const ENTRIES_SWAPPED: usize = 2_000;
@@ -52,9 +52,6 @@ fn sound_table(random: &mut Random, count: usize) -> (Vec<u8>, Pool) {
     additions.truncate(count);
     let mut book = Book::new();
     book.records(&additions);
-    if random.once_in(2) {
-        book.records(&pool.closings(random));
-    }
     if !random.once_in(3) {
         book.records(&[stand(pool.leg(random))]);
     }
@@ -71,11 +68,11 @@ fn sound_table(random: &mut Random, count: usize) -> (Vec<u8>, Pool) {
 
 /// At a corner anywhere, with a remembered site or none.
 fn some_tour(random: &mut Random, book: &Book, pool: &Pool) -> Tour {
-    let open = book.open_sites();
-    let some = !open.is_empty() && random.once_in(2);
+    let held: Vec<u16> = book.lines.keys().copied().collect();
+    let some = !held.is_empty() && random.once_in(2);
     Tour {
         corner: pool.leg(random).s,
-        remembered: some.then(|| random.pick(&open).number),
+        remembered: some.then(|| random.pick(&held)),
     }
 }
 
@@ -95,13 +92,7 @@ fn questions(random: &mut Random, pool: &Pool) -> Vec<u8> {
     let mut commands = vec![corner(s), list(pool.leg(random)), print(), corner(e)];
     commands.extend([list(pool.leg(random)), begin(s), corner(e)]);
     commands.extend(pool.commands(random, 4));
-    commands.extend([
-        add(Site::new(40_000, 3, 4)),
-        print(),
-        close(40_000),
-        print(),
-    ]);
-    commands.extend([open(40_000), remove(40_000)]);
+    commands.extend([add(Site::new(40_000, 3, 4)), print(), remove(40_000)]);
     commands.extend([add_readings(40_000, metres(350, -49)), print()]);
     commands.extend([move_readings(40_000, metres(-50, 0)), remove(40_000)]);
     commands.concat()
@@ -117,8 +108,7 @@ fn one_flipped_bit_in_every_byte_that_counts(service: &impl Service) {
         let few = number(&table, SITES_HELD) <= FEW_SITES;
         for region in regions(&table) {
             let outcome = told.entry(region.name).or_default();
-            let short = ["standing list", "open sites"].contains(&region.name);
-            let all = short || few && region.name != "stack";
+            let all = region.name == "standing list" || few && region.name != "stack";
             for at in region.bytes {
                 let bits = if all {
                     (0..8).collect()
@@ -133,7 +123,7 @@ fn one_flipped_bit_in_every_byte_that_counts(service: &impl Service) {
         }
     }
     println!("{told:?}");
-    assert_eq!(told.len(), 8);
+    assert_eq!(told.len(), 7);
     assert!(told.values().all(|outcome| outcome.refused() >= 100));
     // A leg that moves a little may have the same list.
     assert!(told["header"].taken >= 10);
@@ -158,7 +148,7 @@ fn with_and_without_a_tour(random: &mut Random) -> Vec<(Vec<u8>, Pool)> {
         let pool = Pool::new(random, 5);
         let book = meaning(&table).expect("the table is sound").book;
         let corner = pool.leg(random).s;
-        let remembered = book.open_sites().last().map(|site| site.number);
+        let remembered = book.lines.keys().next_back().copied();
         for tour in [
             None,
             Some(Tour::begun(corner)),
@@ -208,13 +198,8 @@ fn each_byte_of_a_tour_and_behind_it(service: &impl Service) {
 /// and some between.
 fn each_value_of_a_tours_words(service: &impl Service) {
     let mut random = Random::new(77);
-    let (mut table, pool) = loop {
-        let drawn = sound_table(&mut random, 12);
-        if (1..12).contains(&open_sites(&drawn.0).len()) {
-            break drawn;
-        }
-    };
-    let open = open_sites(&table).len();
+    let (table, pool) = sound_table(&mut random, 12);
+    let mut table = table;
     let mut told = BTreeMap::new();
     for flag in [0, 1] {
         let tour = (flag == 1).then(|| Tour::begun(pool.leg(&mut random).s));
@@ -247,7 +232,7 @@ fn each_value_of_a_tours_words(service: &impl Service) {
     );
     assert_eq!(
         (told[&(0, REMEMBERED)][1], told[&(1, REMEMBERED)][1]),
-        (1, 1 + open)
+        (1, 13)
     );
     assert!(
         CORNER_WORDS
@@ -264,7 +249,7 @@ fn likely_value(random: &mut Random, table: &[u8]) -> usize {
         2 => random.index(266),
         3 if !nodes.is_empty() => random.pick(&nodes),
         4 => usize::from(HALF_WIDTH) - 10 + random.index(20),
-        _ => number(table, 2 * random.index(TREE_END / 2)),
+        _ => number(table, 2 * random.index(STACK_END / 2)),
     }
 }
 
@@ -331,7 +316,7 @@ fn rubbish(service: &impl Service) {
         0..TABLE_LEN,
         0..SITE_ARRAY,
         SITE_ARRAY..STANDING_LIST,
-        LEVELS..TREE_END,
+        LEVELS..STACK_END,
         NODE_POOL..TABLE_LEN,
     ];
     let mut refused = 0;
@@ -363,7 +348,7 @@ fn nodes_in_a_ring_or_shared(service: &impl Service) {
             put_number(&mut table, node_at(usize::from(node)), 8);
             for i in 0..8 {
                 // Every child is the next node, or each node is its own child.
-                let child = leaf_entry(&Site::new(node + step, 5, 5), true);
+                let child = leaf_entry(&Site::new(node + step, 5, 5));
                 child.write(&mut table, usize::from(node), i);
             }
         }

@@ -140,12 +140,6 @@ impl Growth {
         random::move_site(&mut self.random, self.held[i])
     }
 
-    /// A 58 or 4F for any of them, which may leave the mark.
-    fn marking(&mut self) -> Vec<u8> {
-        let number = self.random.pick(&self.held).number;
-        random::mark(&mut self.random, number)
-    }
-
     /// One change that the book accepts, towards this many sites.
     fn change(&mut self, goal: usize) -> Vec<u8> {
         self.changes += 1;
@@ -154,7 +148,6 @@ impl Growth {
         match self.held.len() {
             0 => self.addition(),
             _ if self.random.once_in(10) => self.relocation(),
-            _ if self.random.once_in(8) => self.marking(),
             held if grows && held < MOST_SITES => self.addition(),
             _ => self.removal(),
         }
@@ -246,8 +239,6 @@ fn grow_and_shrink(service: &impl Service, seed: u64, with_leg: bool) -> Tally {
         growth.changes, desk.tally
     );
     assert_eq!(desk.tally.accepted, growth.changes + stands);
-    let marks = &desk.tally.marks;
-    assert!(marks.closed >= CHANGES / 50 && marks.opened >= CHANGES / 500);
     assert!(phases >= 2 * PLACES.len() * LEAVING.len());
     let by_readings = [ADD_READINGS, MOVE_READINGS].map(|mark| desk.tally.by_command[&mark]);
     assert!(by_readings.iter().all(|times| *times >= CHANGES / 50));

@@ -65,9 +65,7 @@ fn line(command: &[u8]) -> String {
             let at = site.position;
             [i64::from(site.number), at.east, at.north, 0]
         }
-        Bytes::Remove(number) | Bytes::Close(number) | Bytes::Open(number) => {
-            [i64::from(number), 0, 0, 0]
-        }
+        Bytes::Remove(number) => [i64::from(number), 0, 0, 0],
         Bytes::List(leg) | Bytes::Stand(leg) => [leg.s.east, leg.s.north, leg.e.east, leg.e.north],
         Bytes::Print => [0; 4],
         Bytes::Begin(corner) | Bytes::Corner(corner) => [corner.east, corner.north, 0, 0],
@@ -91,10 +89,7 @@ fn commands_are_the_second_programs() {
         commands.extend([command::list(leg), command::stand(leg)]);
         commands.extend([command::begin(leg.s), command::corner(leg.e)]);
     }
-    for number in [0, 65_535] {
-        commands.extend([command::remove(number), command::close(number)]);
-        commands.push(command::open(number));
-    }
+    commands.extend([command::remove(0), command::remove(65_535)]);
     // What is not finite is sent as it is.
     for odd in ODD {
         commands.push(command::add_readings(65_535, Readings::new(odd, ZERO)));
@@ -111,8 +106,7 @@ fn what_fits_no_word_is_not_written() {
                    D 65536 0 0 0\nD -1 0 0 0\nL 32768 0 0 0\nL 0 -32769 0 0\nL 0 0 99999 0\n\
                    S 0 0 0 32768\nS 0 0 -40000 0\nB 32768 0 0 0\nB 0 -32769 0 0\n\
                    C -32769 0 0 0\nC 0 65536 0 0\na 65536 0 0 0\na -1 0 0 0\n\
-                   m 65536 0 0 0\nm -1 0 0 0\nX 65536 0 0 0\nX -1 0 0 0\n\
-                   O 65536 0 0 0\nO -1 0 0 0\nP 0 0 0 0\n";
+                   m 65536 0 0 0\nm -1 0 0 0\nP 0 0 0 0\n";
     assert_eq!(run(&program, "write", misfits.as_bytes()), b"P");
 }
 

@@ -2,8 +2,8 @@
 
 use reference::book::{Book, REFUSALS};
 use reference::command::{
-    ADD_READINGS, CORNER, MOVE_READINGS, add, add_readings, begin, close, corner, list,
-    move_readings, move_site, open, remove, stand,
+    ADD_READINGS, CORNER, MOVE_READINGS, add, add_readings, begin, corner, list, move_readings,
+    move_site, remove, stand,
 };
 use reference::grid::{HALF_WIDTH, Leg, Site, TABLE_LEN, WORK_LEN, WRONG_WORK};
 use reference::random::Random;
@@ -62,9 +62,6 @@ fn runs(service: &impl Service, seed: u64) {
         assert!(tally.by_command[&mark] >= 2 * RUNS, "{mark:02X}");
     }
     assert!(compared >= 6 * RUNS && tally.sided >= RUNS / 10);
-    let marks = &tally.marks;
-    assert!(marks.closed >= RUNS && marks.opened >= RUNS / 5 && marks.left() >= RUNS);
-    assert!(marks.tours_ended >= RUNS / 10 && marks.tours_left >= RUNS / 10);
     let tours = &tally.tours;
     assert!(tours.legs >= 3 * RUNS && tours.most_legs >= 8);
     assert!(tours.left_out >= 2 * RUNS && tours.nothing >= RUNS);
@@ -136,10 +133,6 @@ fn a_call_that_accepts_nothing_leaves_every_byte(service: &impl Service) {
             add_readings(65_535, Readings::new(INFINITY, ZERO)),
             move_readings(held, Readings::new(ZERO, INFINITY)),
             move_readings(held, Readings::new(FIRST_OFF_GRID, ZERO)),
-            close(0),
-            open(0),
-            // Accepted, and it is open.
-            open(held),
         ];
         let mut book: Book = desk.book.clone();
         let before = desk.table.clone();
@@ -151,7 +144,6 @@ fn a_call_that_accepts_nothing_leaves_every_byte(service: &impl Service) {
         desk.call(&stand(on_grid), WORK_LEN, 0);
         desk.call(&begin(on_grid.s), WORK_LEN, 0);
         desk.call(&move_readings(held, metres(0, 0)), WORK_LEN, 0);
-        desk.call(&close(held), WORK_LEN, 0);
         desk.serve(&idle.concat());
         assert!(desk.table == before);
         assert_eq!(desk.book, book);

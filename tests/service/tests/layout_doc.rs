@@ -5,8 +5,8 @@ use reference::grid::LARGEST_DENOMINATOR;
 use service::bytes::{
     CORNER_WORDS, ENTRIES_LISTED, FAR_EDGE, FREE_NODES, HALF_WIDTH, HEADER_KEPT, LAYOUT,
     LAYOUT_NUMBER, LEG_FLAG, LEG_WORDS, LEVELS, MOST_NODES, MOST_SITES, NODE_LEN, NODE_POOL,
-    OPEN_SITES, RECORD_LEN, REMEMBERED, ROOT, SITE_ARRAY, SITES_HELD, STACK, STANDING_LIST,
-    TABLE_LEN, TOUR_FLAG, TREE_END, WORK_LEN,
+    RECORD_LEN, REMEMBERED, ROOT, SITE_ARRAY, SITES_HELD, STACK, STACK_END, STANDING_LIST,
+    TABLE_LEN, TOUR_FLAG, WORK_LEN,
 };
 use std::path::Path;
 
@@ -65,8 +65,7 @@ fn the_regions_follow_each_other_and_begin_where_the_code_reads() {
         STANDING_LIST,
         LEVELS,
         STACK,
-        OPEN_SITES,
-        TREE_END,
+        STACK_END,
         NODE_POOL,
     ];
     assert_eq!(starts, read);
@@ -108,7 +107,6 @@ fn the_words_stand_where_the_code_reads_them() {
     assert_eq!(at("id of the root node"), ROOT);
     assert_eq!(at("number of free nodes"), FREE_NODES);
     assert_eq!(at("ids of the free nodes"), STACK);
-    assert_eq!(at("number of open sites"), OPEN_SITES);
     let (record, node) = (
         format!("Record k stands at byte {SITE_ARRAY} + {RECORD_LEN}k"),
         format!("Node n stands at byte 6,896 + {NODE_LEN}n"),

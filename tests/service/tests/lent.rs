@@ -5,8 +5,7 @@
 use binding::call::{Answer, batch, lay_out, raw};
 use reference::book::{ALL_USED, CUT_COMMAND, NO_ROOM, UNKNOWN_COMMAND, WRONG_LENGTH};
 use reference::command::{
-    CORNER, add, add_readings, begin, close, corner, list, move_readings, move_site, open, print,
-    remove, stand,
+    CORNER, add, add_readings, begin, corner, list, move_readings, move_site, print, remove, stand,
 };
 use reference::grid::{HALF_WIDTH, Leg, Site, TABLE_LEN, WORK_LEN, spread};
 use reference::random::{self, Random};
@@ -276,10 +275,6 @@ fn only_read(bytes: &[u8], more: &[Vec<u8>]) {
         move_readings(1, Readings::new(INFINITY, ZERO)),
         move_readings(1, Readings::new(ZERO, FIRST_OFF_GRID)),
         move_readings(3, metres(0, 0)),
-        close(0),
-        open(0),
-        close(3),
-        open(3),
     ];
     let listed = [list(LEG), print(), list(Leg::new((5, 5), (5, 5)))];
     for commands in [
@@ -314,11 +309,6 @@ fn calls_that_end_early_leave_a_table_that_can_only_be_read() {
         assert_eq!(ended(WORK_LEN, &change[..10], 9), answer(CUT_COMMAND, 0, 0));
         assert_eq!(ended(WORK_LEN, &change, 0), answer(NO_ROOM, 0, 0));
     }
-    assert_eq!(
-        ended(WORK_LEN, &close(1)[..2], 9),
-        answer(CUT_COMMAND, 0, 0)
-    );
-    assert_eq!(ended(WORK_LEN, &close(1), 0), answer(NO_ROOM, 0, 0));
     // A leg, the way back, and the beginning of another tour.
     for command in [corner(LEG.e), corner(LEG.s), begin(LEG.s)] {
         assert_eq!(

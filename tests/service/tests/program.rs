@@ -3,11 +3,8 @@
 #![cfg(feature = "proved")]
 
 use reference::batch_program;
-use reference::command::{
-    add, add_readings, begin, close, corner, move_readings, open, print, stand,
-};
+use reference::command::{add, add_readings, begin, corner, move_readings, print, stand};
 use reference::grid::{HALF_WIDTH, INPUT_LEN, Leg, MOST_SITES, Site, spread};
-use reference::marks;
 use reference::random::{self, Random};
 use reference::reading::{Reading, Readings};
 use reference::readings::{self, ODD, metres};
@@ -143,45 +140,6 @@ fn readings_to_try() {
         expected.extend([0x2E, 0]);
         assert_eq!(output, expected, "{}", tried.what);
     }
-}
-
-#[test]
-fn marks_to_try() {
-    for tried in marks::all() {
-        let (commands, records): (Vec<_>, Vec<_>) = tried.steps.into_iter().unzip();
-        let output = assert_prints(&commands.concat());
-        let mut expected: Vec<u8> = records.iter().flat_map(|record| record.bytes()).collect();
-        expected.extend([0x2E, 0]);
-        assert_eq!(output, expected, "{}", tried.what);
-    }
-}
-
-/// A 58 and a 4F behind lists: the input ends there, or comes in two pieces that are joined.
-#[test]
-fn marks_cut_at_every_byte() {
-    let sites = [add(Site::new(1, 2, 3)), add(Site::new(2, 7, 1))].concat();
-    let marks = [
-        close(1),
-        print(),
-        close(2),
-        print(),
-        open(1),
-        print(),
-        open(9),
-    ]
-    .concat();
-    let input = [sites, stand(Leg::new((0, 0), (10, 0))), marks].concat();
-    let whole = assert_prints(&input);
-    assert_eq!(whole[whole.len() - 4..], [0x21, 0x04, 0x2E, 0]);
-    let mut ended_by_67 = 0;
-    for at in 0..=input.len() {
-        let (first, second) = input.split_at(at);
-        let output = assert_prints(first);
-        ended_by_67 += usize::from(output[output.len() - 1] == 67);
-        assert_eq!(run_in_pieces(&[first, second]), whole, "{at}");
-    }
-    // Each command but one that is a mark alone can be cut before each byte but its first.
-    assert_eq!(ended_by_67, 2 * 6 + 8 + 4 * 2);
 }
 
 /// The longest commands, so that the buffer's end cuts them everywhere; odd readings among them.

@@ -2,7 +2,7 @@
 //! be: the service takes them up, changes them and lists as the book says.
 
 use reference::book::Book;
-use reference::command::{add, close, list, print, remove, stand};
+use reference::command::{add, list, print, remove, stand};
 use reference::grid::{Leg, MOST_SITES, Site};
 use reference::random::Random;
 use reference::record::Record::Accepted;
@@ -23,15 +23,12 @@ on_each_service!(
     full_nodes_split,
 );
 
-/// A book with this many of the pool's numbers, some of them closed.
+/// A book with this many of the pool's numbers.
 fn book(random: &mut Random, pool: &Pool, count: usize) -> Book {
     let mut book = Book::new();
     let mut additions = pool.additions(random);
     additions.truncate(count);
     book.records(&additions);
-    if random.once_in(2) {
-        book.records(&pool.closings(random));
-    }
     if !random.once_in(4) {
         book.records(&[stand(pool.leg(random))]);
     }
@@ -76,12 +73,10 @@ fn site(number: u16) -> Site {
     Site::new(number, k * 7 % 101 * 50 - 2_500, k * 11 % 97 * 50 - 2_400)
 }
 
-/// Every fifth of them is closed.
 fn many(count: u16) -> Book {
     let mut book = Book::new();
     let answers = book.records(&(1..=count).map(|n| add(site(n))).collect::<Vec<_>>());
     assert_eq!(answers, vec![Accepted; usize::from(count)]);
-    book.records(&(5..=count).step_by(5).map(close).collect::<Vec<_>>());
     book.records(&[stand(Leg::new((-2_500, -2_400), (2_500, 2_400)))]);
     book
 }

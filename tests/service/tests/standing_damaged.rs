@@ -5,7 +5,7 @@
 
 use reference::book::{ALL_USED, Book, Tour, WRONG_LENGTH};
 use reference::command::{
-    add, add_readings, begin, close, corner, list, move_readings, open, print, remove, stand,
+    add, add_readings, begin, corner, list, move_readings, print, remove, stand,
 };
 use reference::grid::{
     HALF_WIDTH, Leg, MOST_SITES, Position, Site, TABLE_LEN, WORK_LEN, WRONG_WORK, spread,
@@ -18,15 +18,13 @@ use reference::record::Record::{self, Accepted, List, Refused};
 use reference::ties::way_back;
 use reference::{hull, split};
 use service::bytes::{
-    ENTRIES_LISTED, FAR_EDGE, LAYOUT, LAYOUT_NUMBER, LEG_FLAG, LEG_WORDS, LEVELS, SITES_HELD, TOUR,
-    TOUR_FLAG, TREE_END, closed, empty_table, leg, listed, listed_at, number, open_sites,
-    put_number, put_word, sites, word,
+    ENTRIES_LISTED, FAR_EDGE, LAYOUT, LEG_FLAG, LEG_WORDS, LEVELS, SITES_HELD, STACK_END, TOUR,
+    TOUR_FLAG, empty_table, leg, listed, listed_at, number, put_number, put_word, sites, word,
 };
 use service::damage::{Outcomes, assert_wrong_length_first, offer, regions};
 use service::desk::{Desk, Lent};
 use service::faults::{ELSEWHERE, Elsewhere, STANDING, Standing};
-use service::history::additions;
-use service::shape::{self, Dealing, Limits};
+use service::shape::{self, Dealing};
 use service::table::{Rule, broken_rules, reason};
 use service::{BROKEN_STANDING, BROKEN_TABLE, Service, on_each_service};
 use std::collections::BTreeMap;
@@ -99,15 +97,11 @@ struct Sound {
 
 fn sound(random: &mut Random, case: Case, with_leg: bool, with_tour: bool) -> Sound {
     let mut book = Book::of(&case.sites, with_leg.then_some(case.leg));
-    // All open, most of them, or few.
-    let share = random.pick(&[0, 1, 3]);
-    let numbers = case.sites.iter().map(|site| site.number);
-    book.closed = numbers.filter(|_| random.between(1, 4) <= share).collect();
     if with_tour {
-        let open = book.open_sites();
+        let held: Vec<u16> = book.lines.keys().copied().collect();
         book.tour = Some(Tour {
             corner: case.leg.e,
-            remembered: (!open.is_empty()).then(|| random.pick(&open).number),
+            remembered: (!held.is_empty()).then(|| random.pick(&held)),
         });
     }
     let table = match random.between(1, 3) {
@@ -162,9 +156,6 @@ fn questions(case: &Case) -> Vec<u8> {
         begin(e),
         corner(s),
         add(Site::new(64_999, 1, 1)),
-        close(64_999),
-        print(),
-        open(64_999),
         remove(64_999),
         add_readings(64_999, metres(150, 149)),
         move_readings(64_999, metres(0, 0)),
@@ -228,11 +219,10 @@ fn the_bytes_that_the_layout_names(service: &impl Service) {
     }
 }
 
-/// All are of another layout, whatever their lists; with marks and today's number their lists would
-/// decide.
+/// The list of another tie rule is no longer a fault of the layout; another layout still is.
 fn tables_of_earlier_releases(service: &impl Service) {
-    for (name, with_marks) in [
-        ("0.7.0", 0),
+    for (name, due) in [
+        ("0.7.0", 65),
         ("0.8.0-changed", 69),
         ("0.8.0-unchanged", 0),
         ("0.9.0", 0),
@@ -240,14 +230,7 @@ fn tables_of_earlier_releases(service: &impl Service) {
     ] {
         let root = Path::new(env!("CARGO_MANIFEST_DIR")).join("../tables");
         let table = std::fs::read(root.join(format!("release-{name}.stops")));
-        let mut table = table.expect("the table is kept");
-        assert_reason(service, &table, 65, name);
-        put_word(&mut table, LAYOUT, LAYOUT_NUMBER);
-        assert_reason(service, &table, 65, name);
-        let (sites, closed) = (sites(&table), closed(&table));
-        let dealing = &mut Dealing::Even;
-        shape::write_tree(&mut table, &sites, &closed, Limits::LEGAL, dealing);
-        assert_reason(service, &table, with_marks, name);
+        assert_reason(service, &table.expect("the table is kept"), due, name);
     }
 }
 
@@ -460,7 +443,7 @@ fn every_fault_alone(service: &impl Service) {
         }
     }
     println!("with 69: {times:?}, by sites {sizes:?}");
-    assert!(STANDING.iter().all(|fault| times[fault] >= 100));
+    assert!(STANDING.iter().all(|fault| times[fault] >= 200));
     let all = FEW.iter().chain(&MANY);
     assert!(all.into_iter().all(|count| sizes[count] >= 100));
 }
@@ -526,7 +509,7 @@ fn faults_of_both_halves(service: &impl Service) {
     }
     println!("with 65: {times:?}");
     assert_eq!(times.len(), STANDING.len() * ELSEWHERE.len());
-    assert!(times.values().all(|times| *times >= 100));
+    assert!(times.values().all(|times| *times >= 200));
 }
 
 /// Laid out, then only a leg or a length written.
@@ -648,7 +631,7 @@ fn all_but_the_standing_half_decides_on_65(service: &impl Service) {
                 2 => random.pick(&[0, 1, 2, 512, 513, FAR_EDGE, FAR_EDGE + 1, 65_535]),
                 3 => u16::try_from(random.between(0, 65_535)).unwrap(),
                 4 => word(&table, at).wrapping_add(1),
-                _ => word(&table, 2 * random.index(TREE_END / 2)),
+                _ => word(&table, 2 * random.index(STACK_END / 2)),
             };
             put_word(&mut table, at, value);
         }
@@ -746,12 +729,10 @@ fn buffers_are_left_whatever_they_held(service: &impl Service) {
     assert!(times.len() == 2 && times.values().all(|times| *times >= 150));
 }
 
-/// An empty table, and the sites of this one added in any order and any batches, each closed one with a
-/// 58 after its 41.
-fn made_anew<'s, S: Service>(service: &'s S, random: &mut Random, table: &[u8]) -> Desk<'s, S> {
-    let mut lines = sites(table);
-    random.shuffle(&mut lines);
-    let mut additions = additions(random, &lines, &closed(table));
+/// An empty table, and these sites added in any order and any batches.
+fn made_anew<'s, S: Service>(service: &'s S, random: &mut Random, sites: &[Site]) -> Desk<'s, S> {
+    let mut additions: Vec<Vec<u8>> = sites.iter().copied().map(add).collect();
+    random.shuffle(&mut additions);
     let mut desk = Desk::lay_out(service);
     while !additions.is_empty() {
         let later = additions.split_off(1 + random.index(additions.len()));
@@ -759,8 +740,7 @@ fn made_anew<'s, S: Service>(service: &'s S, random: &mut Random, table: &[u8]) 
         assert!(records.iter().all(|record| *record == Accepted));
         additions = later;
     }
-    assert_eq!(desk.book.sites(), sites(table));
-    assert_eq!(desk.book.closed, closed(table));
+    assert_eq!(desk.book.sites(), sites);
     desk
 }
 
@@ -783,7 +763,7 @@ fn fits(leg: &Leg) -> bool {
 /// The leg of a table with 69 is set in the one made anew: then its list is right, unless it is off
 /// the grid and refused.
 fn set_leg<S: Service>(fresh: &mut Desk<S>, leg: Option<Leg>, wrong: &[u16]) -> &'static str {
-    let sites = fresh.book.open_sites();
+    let sites = fresh.book.sites();
     match leg {
         None => {
             assert_eq!(fresh.records(&[print()]), [Refused(7)]);
@@ -826,7 +806,7 @@ fn tables_made_anew_list_what_they_should(service: &impl Service) {
                 continue;
             };
             assert_eq!(reason_of(service, &damaged), BROKEN_STANDING);
-            let mut fresh = made_anew(service, &mut random, &damaged);
+            let mut fresh = made_anew(service, &mut random, &sites(&damaged));
             let mut before = Desk::take_up(service, table.clone());
             assert_eq!(before.book.lines, fresh.book.lines);
             let mut legs = vec![case.leg, way_back(&case.leg)];
@@ -835,7 +815,7 @@ fn tables_made_anew_list_what_they_should(service: &impl Service) {
                 legs.push(self::case(&mut random, layout, 0).leg);
             }
             for leg in legs {
-                let due = listing(&leg, &open_sites(&damaged));
+                let due = listing(&leg, &sites(&damaged));
                 let answers = fresh.records(&[list(leg)]);
                 assert_eq!(answers, [due], "{fault:?}");
                 assert_eq!(before.records(&[list(leg)]), answers);

@@ -3,8 +3,8 @@
 
 use reference::book::{ALL_USED, Book, CUT_COMMAND, NO_ROOM, Tour, UNKNOWN_COMMAND, WRONG_LENGTH};
 use reference::command::{
-    BEGIN, CORNER, add, add_readings, begin, close, corner, list, move_readings, move_site, open,
-    print, remove, stand,
+    BEGIN, CORNER, add, add_readings, begin, corner, list, move_readings, move_site, print, remove,
+    stand,
 };
 use reference::grid::{HALF_WIDTH, Leg, MOST_SITES, Site, WORK_LEN, spread};
 use reference::layout::MIRRORED;
@@ -14,13 +14,11 @@ use reference::reading::Readings;
 use reference::readings::{FIRST_OFF_GRID, INFINITY, ZERO, metres};
 use reference::record::Record;
 use reference::tours::{self, at, listed};
-use service::bytes::{self, LAYOUT, LAYOUT_NUMBER, TOUR, put_word, tour, word};
-use service::damage::offer;
+use service::bytes::{self, TOUR, tour};
 use service::desk::{Desk, LONGEST_RECORD, Tally};
 use service::draw::Pool;
 use service::hearing::hear_alone;
 use service::shape::{self, Dealing};
-use service::table::{Rule, broken_rules};
 use service::{Service, on_each_service};
 use std::path::Path;
 
@@ -34,7 +32,8 @@ on_each_service!(
     every_record_needs_just_its_own_length,
     every_report_length_up_to_all_records,
     the_longest_legs,
-    tables_of_earlier_releases_are_refused,
+    tables_of_earlier_releases_have_no_tour,
+    a_tour_of_release_0_10_0_goes_on,
     a_number_is_compared_and_not_a_position,
     tours_that_others_began,
     a_tour_that_ended_leaves_no_trace,
@@ -86,10 +85,6 @@ fn nothing_between_calls_ends_a_tour(service: &impl Service) {
         add_readings(0, metres(0, 0)),
         add_readings(7, Readings::new(INFINITY, ZERO)),
         move_readings(1, Readings::new(ZERO, FIRST_OFF_GRID)),
-        close(0),
-        open(0),
-        close(64_999),
-        open(64_999),
     ];
     for tried in tours::all() {
         let mut desk = Desk::lay_out(service);
@@ -252,29 +247,27 @@ fn kept(name: &str) -> Vec<u8> {
     std::fs::read(tables.join(format!("{name}.stops"))).expect("it is kept")
 }
 
-/// With a tour under way or none: their entries have no numbers of open sites. Written anew with all
-/// sites open, as a fitter would do it, the table is taken and the tour goes on.
-fn tables_of_earlier_releases_are_refused(service: &impl Service) {
+/// The bytes of a tour were kept for later, and 0.
+fn tables_of_earlier_releases_have_no_tour(service: &impl Service) {
     for name in ["release-0.8.0-unchanged", "release-0.9.0"] {
         let table = kept(name);
         assert!(table[16..64].iter().all(|byte| *byte == 0));
-        let rules = [Rule::LayoutNumber, Rule::OpenAtLeaf];
-        assert_eq!(offer(service, &table, &corner(at(0, 0))), rules);
-        let mut desk = Desk::take_up(service, with_marks(&table));
+        let mut desk = Desk::take_up(service, table);
         assert_eq!(desk.book.tour, None);
         assert_eq!(desk.records(&[corner(at(0, 0))]), [Record::Refused(8)]);
         let leg = desk.book.leg.expect("a leg stands");
         let answers = desk.records(&[print(), begin(leg.s), corner(leg.e)]);
         assert_eq!(answers[2], answers[0], "the leg's whole list");
     }
-    let table = kept("release-0.10.0-touring");
-    assert!(!offer(service, &table, &[]).is_empty());
+}
+
+fn a_tour_of_release_0_10_0_goes_on(service: &impl Service) {
+    let mut desk = Desk::take_up(service, kept("release-0.10.0-touring"));
     let (last, next) = (at(3_400, 2_300), at(8_600, 6_200));
     let tour = Tour {
         corner: last,
         remembered: Some(283),
     };
-    let mut desk = Desk::take_up(service, with_marks(&table));
     assert_eq!(desk.book.tour, Some(tour));
     let leg = Leg { s: last, e: next };
     let answers = desk.records(&[list(leg), corner(next), corner(next)]);
@@ -283,15 +276,6 @@ fn tables_of_earlier_releases_are_refused(service: &impl Service) {
     };
     assert_eq!((whole[0].site, &whole[1..]), (283, &rest[..]));
     assert!(!rest.is_empty() && none.is_empty());
-}
-
-/// The table of layout 2 in today's, all sites open.
-fn with_marks(table: &[u8]) -> Vec<u8> {
-    assert_eq!(word(table, LAYOUT), 2);
-    let mut table = table.to_vec();
-    put_word(&mut table, LAYOUT, LAYOUT_NUMBER);
-    assert_eq!(broken_rules(&table), [Rule::OpenAtLeaf]);
-    shape::table(&bytes::book(&table), &mut Dealing::Even)
 }
 
 /// In no run is a site remembered that has a lower number at its position, but a table from
@@ -319,8 +303,7 @@ fn a_number_is_compared_and_not_a_position(service: &impl Service) {
     }
 }
 
-/// A book with these many sites of the pool, some of them closed, and a tour at any corner that
-/// remembers any open one.
+/// A book with these many sites of the pool and a tour at any corner that remembers any of them.
 fn book_in_a_tour(random: &mut Random, pool: &Pool, count: usize) -> Book {
     let mut book = Book::new();
     let mut additions = pool.additions(random);
@@ -329,14 +312,11 @@ fn book_in_a_tour(random: &mut Random, pool: &Pool, count: usize) -> Book {
     if random.once_in(2) {
         book.records(&[stand(pool.leg(random))]);
     }
-    if random.once_in(2) {
-        book.records(&pool.closings(random));
-    }
-    let open = book.open_sites();
-    let some = !open.is_empty() && !random.once_in(4);
+    let held: Vec<u16> = book.lines.keys().copied().collect();
+    let some = !held.is_empty() && !random.once_in(4);
     book.tour = Some(Tour {
         corner: pool.leg(random).s,
-        remembered: some.then(|| random.pick(&open).number),
+        remembered: some.then(|| random.pick(&held)),
     });
     book
 }

@@ -2,9 +2,9 @@
 
 use reference::book::REFUSALS;
 use reference::command::{
-    ADD, ADD_READINGS, BEGIN, CLOSE, CORNER, LIST, MOVE, MOVE_READINGS, OPEN, PRINT, REMOVE, STAND,
+    ADD, ADD_READINGS, BEGIN, CORNER, LIST, MOVE, MOVE_READINGS, PRINT, REMOVE, STAND,
 };
-use reference::listener::{Marked, Told};
+use reference::listener::Told;
 use service::damage::Outcomes;
 use service::desk::Tally;
 use service::written_out::Compared;
@@ -37,7 +37,7 @@ impl Counts {
     }
 }
 
-const KINDS: [(u8, &str); 12] = [
+const KINDS: [(u8, &str); 10] = [
     (ADD, "add"),
     (REMOVE, "remove"),
     (MOVE, "move"),
@@ -48,8 +48,6 @@ const KINDS: [(u8, &str); 12] = [
     (CORNER, "corner"),
     (ADD_READINGS, "add by readings"),
     (MOVE_READINGS, "move by readings"),
-    (CLOSE, "close"),
-    (OPEN, "open"),
 ];
 
 impl Display for Counts {
@@ -85,7 +83,6 @@ impl Display for Counts {
         write!(f, "tables checked {}", tally.checked)?;
         writeln!(f, ", up to {levels} levels and {nodes} nodes")?;
         writeln!(f, "  side decides {} standing lists", tally.sided)?;
-        write_marks(f, &tally.marks)?;
         write_tours(f, "tours", &tally.tours)?;
         write_tours(f, "heard alone", &self.heard_alone)?;
         write_damaged(f, "flipped bits", &self.flipped)?;
@@ -113,30 +110,6 @@ fn write_compared(f: &mut Formatter, compared: &Compared) -> Result {
     let refused: usize = compared.by_refusal.values().sum();
     write!(f, "written out    {calls} calls compared, ")?;
     write!(f, "readings accepted {accepted} times, refused {refused}")
-}
-
-fn write_marks(f: &mut Formatter, marked: &Marked) -> Result {
-    let Marked {
-        closed,
-        opened,
-        left_closed,
-        left_open,
-        tours_ended,
-        tours_left,
-    } = marked;
-    let (closings, openings) = (closed + left_closed, opened + left_open);
-    write!(
-        f,
-        "marks          {closings} closings, of which {left_closed} changed nothing; "
-    )?;
-    writeln!(
-        f,
-        "{openings} openings, of which {left_open} changed nothing"
-    )?;
-    writeln!(
-        f,
-        "  tours        {tours_ended} ended by a change of mark, {tours_left} left without one"
-    )
 }
 
 fn write_tours(f: &mut Formatter, what: &str, told: &Told) -> Result {

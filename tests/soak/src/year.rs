@@ -91,9 +91,6 @@ impl Year {
         let mut book = Book::new();
         book.records(&pool.additions(random));
         if random.once_in(2) {
-            book.records(&pool.closings(random));
-        }
-        if random.once_in(2) {
             book.records(&[stand(pool.leg(random))]);
         }
         if random.once_in(2) {

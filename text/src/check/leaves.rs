@@ -1,7 +1,6 @@
-//! The leaves: every held site in one entry, as a point with its mark, and no other entry.
+//! The leaves: every held site in one entry, as a point, and no other entry.
 
 use super::fault::Fault;
-use super::open;
 use super::tree::{Walk, name};
 use binding::layout::{entry_at, record_at, records};
 use std::collections::BTreeMap;
@@ -13,8 +12,6 @@ pub fn faults(table: &[u8], walk: &Walk) -> Vec<Fault> {
         held.entry(record.number).or_insert((k, record, 0));
     }
     for (node, i, entry) in &walk.leaf_entries {
-        let record = held.get(&entry.reference).map(|(_, record, _)| record);
-        faults.extend(record.and_then(|record| open::leaf_fault(table, *node, *i, entry, record)));
         let mut fault = |offset: usize, what: &str| {
             let at = entry_at(*node, *i) + offset;
             faults.push(Fault::at(table, at, name(*node, *i), what));

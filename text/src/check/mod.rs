@@ -6,7 +6,6 @@ mod boxes;
 mod fault;
 mod header;
 mod leaves;
-mod open;
 mod pool;
 mod sites;
 mod standing;
@@ -95,8 +94,11 @@ pub fn tell<W: Write, E: Write>(bytes: &[u8], desk: &mut Desk<W, E>) -> Result<M
     if faults.len() > MOST_TOLD {
         desk.say(format_args!("and {} more", faults.len() - MOST_TOLD))?;
     }
-    for note in notes(bytes)? {
+    if let Some(note) = earlier_list(bytes)? {
         desk.say(note)?;
+    }
+    if reason == BROKEN_STANDING {
+        desk.say(READABLE)?;
     }
     let readable = readable(bytes);
     let of_layout = if is_unknown(bytes) {
@@ -108,8 +110,8 @@ pub fn tell<W: Write, E: Write>(bytes: &[u8], desk: &mut Desk<W, E>) -> Result<M
         "sites that can still be read{of_layout}: {}",
         readable.len()
     ))?;
-    for line in readable.into_iter().flat_map(Command::adding) {
-        desk.say(line)?;
+    for site in readable {
+        desk.say(Command::add(site))?;
     }
     desk.flush()?;
     Ok(Met {
@@ -118,23 +120,19 @@ pub fn tell<W: Write, E: Write>(bytes: &[u8], desk: &mut Desk<W, E>) -> Result<M
     })
 }
 
-/// What is said behind the faults, of a table that is read as one of its layout.
-fn notes(bytes: &[u8]) -> Result<Vec<String>, Failure> {
-    let refused = Service::take_up(earlier::renewed(bytes)?).err();
-    let mut notes = Vec::new();
-    if earlier::is_by_number_alone(bytes)? {
-        let dump = match refused {
-            None => ": --dump carries the table over",
-            Some(_) => "",
-        };
-        notes.push(format!(
-            "the standing list is that of a release before {RIGHT_FIRST}{dump}"
-        ));
+/// What is said of a table of this layout whose list is right by the earlier rule alone.
+fn earlier_list(bytes: &[u8]) -> Result<Option<String>, Failure> {
+    let renewed = earlier::renewed(bytes)?;
+    if renewed == bytes || word(bytes, LAYOUT) != LAYOUT_NUMBER {
+        return Ok(None);
     }
-    if refused == Some(BROKEN_STANDING) {
-        notes.push(READABLE.into());
-    }
-    Ok(notes)
+    let dump = match Service::take_up(renewed) {
+        Ok(_) => ": --dump carries the table over",
+        Err(_) => "",
+    };
+    Ok(Some(format!(
+        "the standing list is that of a release before {RIGHT_FIRST}{dump}"
+    )))
 }
 
 /// Whether the bytes have the number of a layout that this release does not know.

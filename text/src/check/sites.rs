@@ -1,9 +1,7 @@
-//! The site array: numbers rise, positions are on the grid, marks are 0 or 1.
+//! The site array: numbers rise, positions are on the grid, kept words are 0.
 
 use super::fault::{Fault, off_grid};
-use binding::layout::{
-    CLOSED, MOST_SITES, Record, SITES_HELD, far_edge, has_marks, number, record_at, records,
-};
+use binding::layout::{MOST_SITES, Record, SITES_HELD, far_edge, number, record_at, records};
 
 pub fn faults(table: &[u8]) -> Vec<Fault> {
     let mut faults = Vec::new();
@@ -28,14 +26,8 @@ pub fn faults(table: &[u8]) -> Vec<Fault> {
         if record.north > far_edge(table) {
             fault(4, off_grid(table, "northing"));
         }
-        // There the word was kept for later.
-        if !has_marks(table) && record.mark != 0 {
+        if record.kept != 0 {
             fault(6, "kept for later: it is 0".into());
-        } else if record.mark > CLOSED {
-            fault(
-                6,
-                "the mark is 0 where the site is open, 1 where it is closed".into(),
-            );
         }
         last = last.max(record.number);
     }

@@ -2,11 +2,10 @@
 //! layout (65); the leg's grid and the list, with its length, are tested behind all else (69).
 
 use super::fault::{Fault, off_grid};
-use crate::earlier::may_be_by_number;
-use crate::lists::{Lists, stands};
+use crate::lists::Lists;
 use crate::status::Failure;
 use binding::layout::{
-    ENTRIES_LISTED, LEG_FLAG, LEG_WORDS, far_edge, has_wide_grid, listed_at, number, word,
+    ENTRIES_LISTED, LEG_FLAG, LEG_WORDS, far_edge, is_earlier, listed_at, number, word,
 };
 
 const WORDS: [&str; 4] = [
@@ -34,11 +33,10 @@ pub fn leg_faults(table: &[u8]) -> Vec<Fault> {
     faults
 }
 
-/// Sites and leg can be read. The tie rule is that of a release that wrote such tables.
+/// Sites and leg can be read. The tie rule is that of the layout.
 pub fn list_faults(table: &[u8]) -> Result<Vec<Fault>, Failure> {
     let Lists { today, earlier } = Lists::of(table)?;
-    let by_number = !has_wide_grid(table) || may_be_by_number(table) && stands(table, &earlier);
-    let right = if by_number { earlier } else { today };
+    let right = if is_earlier(table) { earlier } else { today };
     if number(table, ENTRIES_LISTED) != right.len() {
         let what = "the number of entries is not that of the leg's list";
         let fault = Fault::at(table, ENTRIES_LISTED, "standing list", what);

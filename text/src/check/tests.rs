@@ -1,26 +1,29 @@
 //! The verdict is the service's on every table tried, and each rule is told with its byte.
 
-mod earlier;
-mod open;
 mod standing;
 
-use super::{faults, reason};
+use super::{earlier_list, faults, reason};
+use crate::earlier::renewed;
 use crate::grid::grouped;
+use crate::lists::stands;
 use crate::service::{BROKEN_STANDING, BROKEN_TABLE, Service};
 use binding::layout::{
-    CORNER_WORDS, ENTRIES_LISTED, FAR_EDGE, FREE_NODES, HALF_WIDTH, HEADER_KEPT, LAYOUT,
-    LAYOUT_NUMBER, LEG_FLAG, LEVELS, MOST_LEVELS, OPEN, OPEN_SITES, REMEMBERED, ROOT, SITES_HELD,
-    STACK_END, TABLE_LEN, TOUR_FLAG, TREE_END, entry_at, free_at, listed_at, node_at, number,
-    put_number, put_word, record_at, records, word,
+    CORNER_WORDS, EARLIER_HALF_WIDTH, ENTRIES_LISTED, FAR_EDGE, FREE_NODES, HALF_WIDTH,
+    HEADER_KEPT, LAYOUT, LAYOUT_NUMBER, LEG_FLAG, LEVELS, MOST_LEVELS, REMEMBERED, ROOT,
+    SITES_HELD, STACK_END, TABLE_LEN, TOUR, TOUR_FLAG, entry_at, free_at, is_earlier, listed_at,
+    node_at, number, put_number, put_word, record_at, records, word,
 };
 use reference::book::Book;
 use reference::command::{add, stand};
-use reference::grid::{Leg, MOST_SITES, Site};
+use reference::grid::{Leg, MOST_SITES, Position, Site};
+use reference::hull;
 use reference::random::Random;
-use service::damage::{flipped, regions};
+use reference::ties::{number_alone, renamed};
+use service::bytes;
+use service::damage::{aged, flipped, regions, stored_by};
 use service::draw::Pool;
 use service::shape::{self, Dealing};
-use service::table::{Rule, broken_rules};
+use service::table::{Rule, broken_rules, meaning};
 
 fn told(table: &[u8]) -> Vec<String> {
     let faults = faults(table).unwrap();
@@ -52,22 +55,13 @@ fn agreed(table: &[u8]) -> bool {
     verdict(table).is_none()
 }
 
-/// A sound table of any shape, without a tour; some of its sites may be closed.
+/// A sound table of any shape.
 fn sound(random: &mut Random, count: usize) -> Vec<u8> {
-    let is_marked = random.once_in(2);
-    shaped(random, count, is_marked)
-}
-
-/// The same, with closed sites or without.
-fn shaped(random: &mut Random, count: usize, is_marked: bool) -> Vec<u8> {
     let pool = Pool::new(random, count.max(1));
     let mut additions = pool.additions(random);
     additions.truncate(count);
     let mut book = Book::new();
     book.records(&additions);
-    if is_marked {
-        book.records(&pool.closings(random));
-    }
     if !random.once_in(4) {
         book.records(&[stand(pool.leg(random))]);
     }
@@ -77,17 +71,16 @@ fn shaped(random: &mut Random, count: usize, is_marked: bool) -> Vec<u8> {
     }
 }
 
-/// The sound table with a tour under way, which remembers a site if one is open and sometimes none.
+/// The sound table with a tour under way, which remembers a site if one is held and sometimes none.
 fn toured(random: &mut Random, table: &[u8]) -> Vec<u8> {
     let mut toured = table.to_vec();
     put_word(&mut toured, TOUR_FLAG, 1);
     for at in CORNER_WORDS {
         put_number(&mut toured, at, random.index(usize::from(FAR_EDGE) + 1));
     }
-    let open = records(table).filter(|record| record.mark == OPEN);
-    let open: Vec<u16> = open.map(|record| record.number).collect();
-    if !open.is_empty() && !random.once_in(4) {
-        put_word(&mut toured, REMEMBERED, random.pick(&open));
+    let held: Vec<u16> = records(table).map(|record| record.number).collect();
+    if !held.is_empty() && !random.once_in(4) {
+        put_word(&mut toured, REMEMBERED, random.pick(&held));
     }
     toured
 }
@@ -166,7 +159,7 @@ fn words_exchanged_and_rubbish() {
             };
             let at = match random.between(1, 3) {
                 1 => 2 * random.index(80),
-                2 => random.pick(&[LEVELS, ROOT, FREE_NODES, 5_190, 5_192, 5_194, OPEN_SITES]),
+                2 => LEVELS + 2 * random.index(6),
                 _ => node_at(number(&table, ROOT).min(263)) + 2 * random.index(49),
             };
             put_number(&mut table, at, value);
@@ -183,11 +176,169 @@ fn words_exchanged_and_rubbish() {
     }
 }
 
+/// The standing list before 0.9.0, by the second program.
+fn list_before(table: &[u8]) -> Vec<u16> {
+    let (sites, Some(leg)) = (bytes::sites(table), bytes::leg(table)) else {
+        return Vec::new();
+    };
+    let list = hull::split_list(&leg, &sites);
+    let list = renamed(&leg, &sites, &list, number_alone);
+    list.into_iter().map(|entry| entry.site).collect()
+}
+
+/// A table that this release refuses for its list alone.
+fn listed_before(random: &mut Random, count: usize) -> Vec<u8> {
+    loop {
+        let table = sound(random, count);
+        let before = stored_by(number_alone, &table);
+        if before != table {
+            return before;
+        }
+    }
+}
+
+/// Whether --dump takes it.
+fn dumped(table: &[u8]) -> bool {
+    Service::take_up(renewed(table).unwrap()).is_ok()
+}
+
+/// Whether an earlier release took it, a table of this layout: the checker and its list say so.
+fn was_sound(table: &[u8]) -> bool {
+    let broken = broken_rules(table);
+    let without_tour = table[TOUR].iter().all(|byte| *byte == 0);
+    broken.iter().all(|rule| *rule == Rule::StandingList)
+        && without_tour
+        && stands(table, &list_before(table))
+}
+
+/// Whether a table of this layout is dumped; all that is said of it agrees.
+fn agreed_on_lists(table: &[u8]) -> bool {
+    let (sound, was_sound) = (agreed(table), was_sound(table));
+    assert_eq!(dumped(table), sound || was_sound);
+    let note = earlier_list(table).unwrap();
+    let carries = note.is_some_and(|note| note.ends_with(": --dump carries the table over"));
+    assert_eq!(carries, was_sound && !sound);
+    sound || was_sound
+}
+
+#[test]
+fn lists_of_earlier_releases_are_told_and_dumped() {
+    let mut random = Random::new(206);
+    for count in [2, 3, 9, 40, 200, MOST_SITES].repeat(4) {
+        let table = listed_before(&mut random, count);
+        assert!(!agreed(&table) && agreed_on_lists(&table));
+        let told = told(&table);
+        assert!(told.iter().all(|line| line.starts_with("standing list, ")));
+        assert_eq!(
+            earlier_list(&table).unwrap().unwrap(),
+            "the standing list is that of a release before 0.9.0: --dump carries the table over"
+        );
+        // Where something else is broken, it is not carried over.
+        let kept = flipped(&table, HEADER_KEPT.start, 0);
+        assert_eq!(
+            earlier_list(&kept).unwrap().unwrap(),
+            "the standing list is that of a release before 0.9.0"
+        );
+        assert!(!agreed_on_lists(&kept));
+        // Nor with a tour, which came later.
+        let toured = toured(&mut random, &table);
+        assert!(!agreed_on_lists(&toured) && renewed(&toured).unwrap() == toured);
+        let sound = renewed(&table).unwrap();
+        assert!(agreed(&sound) && renewed(&sound).unwrap() == sound);
+        assert_eq!(earlier_list(&sound).unwrap(), None);
+    }
+}
+
+#[test]
+fn a_flipped_bit_in_tables_with_an_earlier_list() {
+    let mut random = Random::new(207);
+    let (mut refused, mut taken) = (0, 0);
+    for count in [2, 3, 9, 12, 40] {
+        let table = listed_before(&mut random, count);
+        for region in regions(&table) {
+            for at in region.bytes {
+                let bits = if region.name == "stack" { 1 } else { 4 };
+                for _ in 0..bits {
+                    let table = flipped(&table, at, random.index(8));
+                    // With the number of an earlier layout it may be one of that.
+                    if !is_earlier(&table) {
+                        let agreed = agreed_on_lists(&table);
+                        *if agreed { &mut taken } else { &mut refused } += 1;
+                    }
+                }
+            }
+        }
+    }
+    assert!(refused > 4_000 && taken > 10, "{refused} {taken}");
+}
+
+/// A table that this release refuses for its list alone, with all of it on the earlier grid.
+fn listed_on_earlier_grid(random: &mut Random, count: usize) -> Vec<u8> {
+    let on_grid = |p: Position| p.east.abs().max(p.north.abs()) <= EARLIER_HALF_WIDTH.into();
+    loop {
+        let table = listed_before(random, count);
+        let leg = bytes::leg(&table).expect("a list is that of a leg");
+        let sites = bytes::sites(&table).into_iter().map(|site| site.position);
+        if sites.chain([leg.s, leg.e]).all(on_grid) {
+            return table;
+        }
+    }
+}
+
+/// Whether a table of an earlier layout was sound there: --check and --dump say the same.
+fn agreed_on_earlier(table: &[u8]) -> bool {
+    let told = told(table);
+    assert!(told[0].starts_with("header: the number of an earlier layout: "));
+    assert_eq!(verdict(table), Some(BROKEN_TABLE));
+    assert_eq!(dumped(table), told.len() == 1, "{told:?}");
+    assert_eq!(earlier_list(table).unwrap(), None);
+    told.len() == 1
+}
+
+#[test]
+fn earlier_layouts_have_lists_by_number() {
+    let mut random = Random::new(208);
+    for _ in 0..30 {
+        let count = 2 + random.index(60);
+        let before = listed_on_earlier_grid(&mut random, count);
+        let sound = renewed(&before).unwrap();
+        for layout in 0..LAYOUT_NUMBER {
+            let (before, today) = (aged(&before, layout), aged(&sound, layout));
+            assert!(agreed_on_earlier(&before) && !agreed_on_earlier(&today));
+            assert!(!agreed_on_earlier(&toured(&mut random, &before)));
+            assert_eq!(meaning(&renewed(&before).unwrap()), meaning(&sound));
+            assert!(renewed(&today).unwrap() == today);
+        }
+    }
+}
+
+#[test]
+fn a_flipped_bit_in_earlier_layouts() {
+    let mut random = Random::new(209);
+    let (mut refused, mut taken) = (0, 0);
+    for (layout, count) in [(0, 3), (1, 3), (0, 12), (1, 40)] {
+        let table = aged(&listed_on_earlier_grid(&mut random, count), layout);
+        for region in regions(&table) {
+            for at in region.bytes {
+                let bits = if region.name == "stack" { 1 } else { 4 };
+                for _ in 0..bits {
+                    let table = flipped(&table, at, random.index(8));
+                    if is_earlier(&table) {
+                        let agreed = agreed_on_earlier(&table);
+                        *if agreed { &mut taken } else { &mut refused } += 1;
+                    }
+                }
+            }
+        }
+    }
+    assert!(refused > 3_000 && taken > 10, "{refused} {taken}");
+}
+
 #[test]
 fn bytes_that_no_rule_names() {
     let mut random = Random::new(205);
     let mut table = sound(&mut random, 40);
-    table[TREE_END..6_896].fill(0xFF);
+    table[STACK_END..6_896].fill(0xFF);
     let free = number(&table, free_at(3));
     table[node_at(free)..node_at(free) + 98].fill(0xFF);
     assert!(agreed(&table));
@@ -232,7 +383,7 @@ fn rules_on_header_and_sites() {
     }
     let earlier = "the number of an earlier layout: --dump reads such";
     let unknown = "the number of another layout: this release cannot read it";
-    for number in [0, 1, 2, 4, 256, 259, u16::MAX] {
+    for number in [0, 1, 3, 256, 258, u16::MAX] {
         assert_ne!(number, LAYOUT_NUMBER);
         let what = if number < LAYOUT_NUMBER {
             earlier
@@ -240,15 +391,12 @@ fn rules_on_header_and_sites() {
             unknown
         };
         let stands = grouped(number.into());
-        let told = edited(|t, _, _| put_word(t, LAYOUT, number));
         assert_eq!(
-            told[0],
-            format!(
+            edited(|t, _, _| put_word(t, LAYOUT, number)),
+            [format!(
                 "header: {what}, byte 14: {stands} stands there, {LAYOUT_NUMBER} belongs there"
-            )
+            )]
         );
-        // Where the numbers of open sites stand, earlier layouts have zeros.
-        assert_eq!(told.len() > 1, number < LAYOUT_NUMBER);
     }
     let too_many = edited(|t, _, _| put_word(t, SITES_HELD, 513));
     assert_eq!(
@@ -272,11 +420,7 @@ fn rules_on_header_and_sites() {
             65_535,
             "the northing is off the grid, 0 to 24,000 from its edge, byte 108: 65,535 stands there",
         ),
-        (
-            6,
-            2,
-            "the mark is 0 where the site is open, 1 where it is closed, byte 110: 2 stands there",
-        ),
+        (6, 1, "kept for later: it is 0, byte 110: 1 stands there"),
     ];
     for (offset, value, what) in cases {
         let found = edited(|t, _, _| put_word(t, record_at(5) + offset, value));
@@ -393,6 +537,11 @@ fn rules_on_entries_and_boxes() {
         [
             "node 263, entry 0: box is narrower than what lies under it, byte 32,678: 12,023 stands there, 12,024 belongs there"
         ]
+    );
+    let kept = edited(|t, _, leaf| put_word(t, entry_at(leaf, 7) + 10, 256));
+    assert_eq!(
+        kept,
+        ["node 262, entry 7: kept for later, byte 32,668: 256 stands there, 0 belongs there"]
     );
     let wide = edited(|t, _, leaf| t[entry_at(leaf, 2) + 8] += 1);
     assert_eq!(

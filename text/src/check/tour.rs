@@ -1,14 +1,13 @@
 //! The tour: its last corner, and the site that it remembers.
 
 use super::fault::{Fault, off_grid};
-use crate::table;
-use binding::layout::{CORNER_WORDS, REMEMBERED, TOUR_FLAG, far_edge, has_wide_grid, word};
+use binding::layout::{CORNER_WORDS, REMEMBERED, TOUR_FLAG, far_edge, is_earlier, records, word};
 
 const WORDS: [&str; 2] = ["easting of the last corner", "northing of the last corner"];
 
 pub fn faults(table: &[u8]) -> Vec<Fault> {
     // There these words are kept for later.
-    if !has_wide_grid(table) {
+    if is_earlier(table) {
         return Vec::new();
     }
     match word(table, TOUR_FLAG) {
@@ -39,18 +38,10 @@ fn faults_under_way(table: &[u8]) -> Vec<Fault> {
             faults.push(Fault::at(table, at, "tour", off_grid(table, name)));
         }
     }
-    if let Some(what) = wrongly_remembered(table) {
+    let remembered = word(table, REMEMBERED);
+    if remembered != 0 && !records(table).any(|record| record.number == remembered) {
+        let what = "the remembered site is not held";
         faults.push(Fault::at(table, REMEMBERED, "tour", what));
     }
     faults
-}
-
-fn wrongly_remembered(table: &[u8]) -> Option<&'static str> {
-    let remembered = word(table, REMEMBERED);
-    let sites = table::sites(table);
-    match sites.iter().find(|site| site.number == remembered) {
-        _ if remembered == 0 => None,
-        None => Some("the remembered site is not held"),
-        Some(site) => site.is_closed.then_some("the remembered site is closed"),
-    }
 }

@@ -1,9 +1,8 @@
-//! The tree, read level by level from the root down: ids, numbers of entries and of open sites, and
-//! the boxes. No node is read twice, so that any bytes have an end.
+//! The tree, read level by level from the root down: ids, numbers of entries, kept words, and the
+//! boxes. No node is read twice, so that any bytes have an end.
 
 use super::boxes;
 use super::fault::Fault;
-use super::open;
 use binding::layout::{
     Entry, FEWEST_ENTRIES, FEWEST_IN_ROOT, LEVELS, MOST_ENTRIES, MOST_LEVELS, MOST_NODES, ROOT,
     entries, entry_at, node_at, number,
@@ -61,13 +60,11 @@ pub fn walk(table: &[u8]) -> Walk {
                     .extend(leaf.map(|(i, entry)| (node, i, entry)));
             } else {
                 walk.faults.extend(boxes::faults(table, node));
-                walk.faults.extend(open::sum_faults(table, node));
                 below.extend(children(table, node));
             }
         }
         row = below;
     }
-    walk.faults.extend(open::whole_fault(table));
     walk
 }
 
@@ -113,6 +110,12 @@ impl Walk {
             let fault = Fault::at(table, node_at(node), format!("node {node}"), what);
             self.faults.push(fault);
         }
-        self.faults.extend(open::kept_faults(table, node));
+        for (i, entry) in entries(table, node).enumerate() {
+            if entry.kept != 0 {
+                let at = entry_at(node, i) + 10;
+                let fault = Fault::at(table, at, name(node, i), "kept for later");
+                self.faults.push(fault.belongs(0u16));
+            }
+        }
     }
 }

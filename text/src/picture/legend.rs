@@ -13,8 +13,6 @@ const BASELINE: f64 = 4.0;
 pub enum Key {
     Stretch(&'static str),
     Site(&'static str, f64),
-    /// With its radius.
-    Closed(f64),
     Breakpoint,
     Start,
     Corner,
@@ -74,7 +72,6 @@ fn symbol(key: &Key, at: Spot, svg: &mut Svg) {
             svg.line(at, end, &format!(r#" stroke="{colour}" stroke-width="6""#));
         }
         Key::Site(colour, radius) => dot(middle, *radius, colour, svg),
-        Key::Closed(radius) => hollow(middle, *radius, svg),
         Key::Breakpoint => {
             let (top, foot) = (
                 Spot::new(middle.x, at.y - 7.0),
@@ -98,15 +95,6 @@ pub fn dot(at: Spot, radius: f64, colour: &str, svg: &mut Svg) {
     let edge = radius * 0.16;
     let attributes = format!(r##" fill="{colour}" stroke="#222" stroke-width="{edge:.2}""##);
     svg.circle(at, radius, &attributes);
-}
-
-/// The mark of a closed site, smaller than the ring of a start.
-pub fn hollow(at: Spot, radius: f64, svg: &mut Svg) {
-    svg.circle(
-        at,
-        radius,
-        r##" fill="#fff" stroke="#222" stroke-width="1.2""##,
-    );
 }
 
 /// A ring, so that a site that stands there stays visible.

@@ -17,7 +17,6 @@ use crate::command::Command;
 use crate::grid::{HALF_WIDTH, Position, Route, Site};
 use crate::record::Entry;
 use crate::service::Service;
-use crate::show;
 use crate::status::Failure;
 use crate::table::{self, Area};
 use colours::Palette;
@@ -118,7 +117,7 @@ impl Scene {
 
     /// With a route, so many stretches.
     fn title(&self, stretches: usize) -> String {
-        let held = show::held(&self.sites);
+        let held = count(self.sites.len(), "site");
         let stretches = count(stretches, "stretch");
         match &self.route {
             None => format!("{held}, no leg"),
@@ -197,22 +196,15 @@ fn draw_sites(scene: &Scene, view: &View, svg: &mut Svg, legend: &mut Legend) {
     let shown = shown(scene, view);
     svg.group(r#"class="sites""#, |svg| {
         for site in &shown {
-            let (at, radius) = (view.at(site.at), radius(scene, site));
-            if site.is_closed {
-                legend::hollow(at, radius, svg);
-            } else {
-                legend::dot(at, radius, scene.palette.colour(site.number), svg);
-            }
+            let colour = scene.palette.colour(site.number);
+            legend::dot(view.at(site.at), radius(scene, site), colour, svg);
         }
     });
     if let Some(entry) = scene.lists.iter().flatten().next() {
         let key = Key::Site(scene.palette.colour(entry.site), scene.radius(true));
         legend.key(key, "listed site, in its stretch's colour");
     }
-    if !shown
-        .iter()
-        .all(|site| scene.is_listed(site) || site.is_closed)
-    {
+    if !shown.iter().all(|site| scene.is_listed(site)) {
         let words = if scene.palette.is_empty() {
             "site"
         } else {
@@ -220,28 +212,13 @@ fn draw_sites(scene: &Scene, view: &View, svg: &mut Svg, legend: &mut Legend) {
         };
         legend.key(Key::Site(colours::UNLISTED, scene.radius(false)), words);
     }
-    if shown.iter().any(|site| site.is_closed) {
-        legend.key(
-            Key::Closed(scene.radius(false)),
-            "closed site: no list has it",
-        );
-    }
-    note_outside(scene, view, legend);
-}
-
-fn note_outside(scene: &Scene, view: &View, legend: &mut Legend) {
-    let shows = |site: &Site| view.shows(site.at, radius(scene, site));
-    let outside: Vec<&Site> = scene.sites.iter().filter(|site| !shows(site)).collect();
-    let (sites, lie) = (
-        count(outside.len(), "site"),
-        if outside.len() == 1 { "lies" } else { "lie" },
-    );
-    match outside.iter().filter(|site| site.is_closed).count() {
-        _ if outside.is_empty() => {}
-        0 => legend.note(format!("{sites} {lie} outside the picture.")),
-        closed => legend.note(format!(
-            "{sites} {lie} outside the picture, {closed} of them closed."
-        )),
+    let outside = scene.sites.len() - shown.len();
+    if outside > 0 {
+        let lie = if outside == 1 { "lies" } else { "lie" };
+        legend.note(format!(
+            "{} {lie} outside the picture.",
+            count(outside, "site")
+        ));
     }
 }
 

@@ -4,7 +4,6 @@
 use reference::fraction::Fraction;
 pub use reference::grid::HALF_WIDTH;
 use reference::record::Record;
-use std::collections::BTreeSet;
 use std::io::Write;
 use std::path::{Path, PathBuf};
 use std::process::{Command, Stdio};
@@ -106,8 +105,6 @@ pub fn line(command: &[u8]) -> String {
         b'A' => ("add", true, 3),
         b'M' => ("move", true, 3),
         b'D' => ("remove", true, 1),
-        b'X' => ("close", true, 1),
-        b'O' => ("open", true, 1),
         b'L' => ("leg", false, 4),
         b'S' => ("stand", false, 4),
         b'P' => ("print", false, 0),
@@ -165,7 +162,7 @@ fn refusal(number: u8) -> String {
         3 => "number already held",
         4 => "number not held",
         5 => "512 sites held",
-        6 => "no site open",
+        6 => "no site held",
         7 => "no standing leg",
         8 => "no tour under way",
         11 => "a reading is not a finite number",
@@ -182,29 +179,15 @@ pub fn answers(commands: &[Vec<u8>], records: &[Record]) -> String {
     answers_from(None, commands, records)
 }
 
-/// The same on a table whose sites are all open, with the last site of the earlier records of a tour
-/// that is under way.
+/// The same, with the last site of the earlier records of a tour that is under way.
 pub fn answers_from(last: Option<u16>, commands: &[Vec<u8>], records: &[Record]) -> String {
-    let (mut last, mut closed, mut answers) = (last, BTreeSet::new(), String::new());
+    let (mut last, mut answers) = (last, String::new());
     for (command, record) in commands.iter().zip(records) {
         answers += &in_words(record, last);
-        let number = || u16::from_le_bytes([command[1], command[2]]);
-        // A mark that is that already ends no tour.
-        let ends_tour = match (command[0], record) {
-            (b'X', Record::Accepted) => closed.insert(number()),
-            (b'O', Record::Accepted) => closed.remove(&number()),
-            (b'D', Record::Accepted) => {
-                closed.remove(&number());
-                true
-            }
-            (mark, Record::Accepted) => b"ABMam".contains(&mark),
-            _ => false,
-        };
-        last = match record {
-            Record::List(list) if command[0] == b'C' => {
-                list.last().map(|entry| entry.site).or(last)
-            }
-            _ => last.filter(|_| !ends_tour),
+        last = match (command[0], record) {
+            (b'A' | b'B' | b'D' | b'M' | 0x61 | 0x6D, Record::Accepted) => None,
+            (b'C', Record::List(list)) => list.last().map(|entry| entry.site).or(last),
+            _ => last,
         };
     }
     answers

@@ -5,8 +5,6 @@ use Rattle.call_judge.proofs.judge.Tie as tie
 use Rattle.call_judge.proofs.judge.Reads as reads
 use Rattle.call_judge.proofs.judge.Lts as lts
 use Rattle.call_judge.proofs.change.add.Reads as add_reads
-use Rattle.call_judge.proofs.change.close.Reads as close-reads
-use Rattle.call_judge.proofs.change.open.Reads as open-reads
 use Rattle.call_judge.proofs.change.place.Reads as place-reads
 use Rattle.call_judge.proofs.change.remove.Reads as remove-reads
 use Rattle.call_judge.proofs.list.list.Reads as list-reads
@@ -63,18 +61,6 @@ enum-known-c-7 c = search rules
 corner-requires : tie.Need-corner-requires
 corner-requires c κs = search rules
 
-enum-known-c-8 : tie.Need-enum-known-c-8
-enum-known-c-8 c = search rules
-
-close-requires : tie.Need-close-requires
-close-requires c κs = search rules
-
-enum-known-c-9 : tie.Need-enum-known-c-9
-enum-known-c-9 c = search rules
-
-open-requires : tie.Need-open-requires
-open-requires c κs = search rules
-
 returns : tie.Need-returns
 returns c = search (rules, settled_decided)
 
@@ -108,12 +94,6 @@ same-length-3 c = search rules
 returns-8 : tie.Need-returns-8
 returns-8 c = search (rules, decided_same)
 
-returns-9 : tie.Need-returns-9
-returns-9 c = search (rules, settled_decided)
-
-returns-10 : tie.Need-returns-10
-returns-10 c = search (rules, settled_decided)
-
 pub judge-spec : {M : Type 1} → statement M
 judge-spec =
     tie.close
@@ -134,10 +114,6 @@ judge-spec =
     begin-requires
     enum-known-c-7
     corner-requires
-    enum-known-c-8
-    close-requires
-    enum-known-c-9
-    open-requires
     returns
     returns-2
     returns-3
@@ -148,6 +124,4 @@ judge-spec =
     returns-6
     returns-7
     same-length-3
-    returns-8
-    returns-9
-    returns-10)
+    returns-8)

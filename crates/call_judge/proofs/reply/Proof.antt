@@ -32,12 +32,6 @@ enum-known-v-3 c = search rules
 cast-t9 : tie.Need-overflow-cast-t9
 cast-t9 c = search rules
 
-enum-told-6 : tie.Need-enum-told-6
-enum-told-6 c = search rules
-
-enum-told-7 : tie.Need-enum-told-7
-enum-told-7 c = search rules
-
 returns : tie.Need-returns
 returns c = search (rules, refuse_answer)
 
@@ -62,12 +56,6 @@ returns-7 c = search rules
 returns-8 : tie.Need-returns-8
 returns-8 c = search (rules, follow_answer)
 
-returns-9 : tie.Need-returns-9
-returns-9 c = search rules
-
-returns-10 : tie.Need-returns-10
-returns-10 c = search rules
-
 pub reply-spec : {M : Type 1} → statement M
 reply-spec =
     tie.close
@@ -81,8 +69,6 @@ reply-spec =
     enum-told-5
     enum-known-v-3
     cast-t9
-    enum-told-6
-    enum-told-7
     returns
     returns-2
     returns-3
@@ -90,6 +76,4 @@ reply-spec =
     returns-5
     returns-6
     returns-7
-    returns-8
-    returns-9
-    returns-10)
+    returns-8)

@@ -41,15 +41,7 @@ unfolding form_of
 returns-9 c = rw c.match.keys9
 
 returns-10 : tie.Need-returns-10
-unfolding form_of
-returns-10 c = rw c.match.keys10
-
-returns-11 : tie.Need-returns-11
-unfolding form_of
-returns-11 c = rw c.match.keys11
-
-returns-12 : tie.Need-returns-12
-returns-12 c = search (rules, last_made)
+returns-10 c = search (rules, last_made)
 
 pub command-spec : {M : Type 1} → statement M
 command-spec =
@@ -64,6 +56,4 @@ command-spec =
     returns-7
     returns-8
     returns-9
-    returns-10
-    returns-11
-    returns-12)
+    returns-10)

@@ -45,15 +45,7 @@ unfolding form_of
 returns-10 c = rw c.match.keys10
 
 returns-11 : tie.Need-returns-11
-unfolding form_of
-returns-11 c = rw c.match.keys11
-
-returns-12 : tie.Need-returns-12
-unfolding form_of
-returns-12 c = rw c.match.keys12
-
-returns-13 : tie.Need-returns-13
-returns-13 c = search (rules, unlisted)
+returns-11 c = search (rules, unlisted)
 
 pub mark-of-spec : {M : Type 1} → statement M
 mark-of-spec =
@@ -69,6 +61,4 @@ mark-of-spec =
     returns-8
     returns-9
     returns-10
-    returns-11
-    returns-12
-    returns-13)
+    returns-11)

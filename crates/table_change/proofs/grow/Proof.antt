@@ -9,8 +9,8 @@ insert-requires c κs = (search (rules, whole_array), search (rules, whole_room)
 leaf-entry-requires : tie.Need-leaf-entry-requires
 leaf-entry-requires c κs = search rules
 
-add-leaf-requires : tie.Need-add-leaf-requires
-add-leaf-requires c κs = (search (rules, changed_rooted), search (rules, grow_few))
+add-requires : tie.Need-add-requires
+add-requires c κs = (search (rules, changed_rooted), search (rules, grow_few))
 
 same_length : tie.Need-same-length
 same_length c = search rules
@@ -19,4 +19,4 @@ returns : tie.Need-returns
 returns c = search (rules, grown)
 
 pub grow_spec : {M : Type 1} → statement M
-grow_spec = tie.close (tie.spec insert-requires leaf-entry-requires add-leaf-requires same_length returns)
+grow_spec = tie.close (tie.spec insert-requires leaf-entry-requires add-requires same_length returns)

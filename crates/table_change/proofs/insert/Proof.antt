@@ -6,7 +6,7 @@ use Rattle.table_change.proofs.insert.Reads as reads
 use Rattle.table_change.proofs.insert.Lts as lts
 use Rattle.table_change.proofs.grow.Reads as grow-reads
 use Rattle.table_header.proofs.end_tour.Reads as end-tour-reads
-use Rattle.table_patch.proofs.patch.Reads as patch-reads
+use Rattle.table_patch.proofs.patch_held.Reads as patch-held-reads
 
 end-tour-requires : tie.Need-end-tour-requires
 end-tour-requires c κs = search rules
@@ -14,8 +14,8 @@ end-tour-requires c κs = search rules
 grow-requires : tie.Need-grow-requires
 grow-requires c κs = ((search (rules, ended_whole), search (rules, ended_idle), search (rules, ended_nowhere), search (rules, ended_room)), search rules)
 
-patch-requires : tie.Need-patch-requires
-patch-requires c κs = (search (rules, add_patch), search (rules, add_stands), search rules)
+patch-held-requires : tie.Need-patch-held-requires
+patch-held-requires c κs = (search (rules, add_patch), search (rules, add_stands), search rules)
 
 same_length : tie.Need-same-length
 same_length c = search rules
@@ -32,7 +32,7 @@ insert-spec =
     (tie.spec
     end-tour-requires
     grow-requires
-    patch-requires
+    patch-held-requires
     same_length
     same-length-2
     returns)

@@ -6,7 +6,7 @@ use Rattle.table_change.proofs.place.Reads as reads
 use Rattle.table_change.proofs.place.Lts as lts
 use Rattle.table_change.proofs.relocate.Reads as relocate-reads
 use Rattle.table_header.proofs.end_tour.Reads as end-tour-reads
-use Rattle.table_patch.proofs.patch.Reads as patch-reads
+use Rattle.table_patch.proofs.patch_held.Reads as patch-held-reads
 
 end-tour-requires : tie.Need-end-tour-requires
 end-tour-requires c κs = search rules
@@ -14,8 +14,8 @@ end-tour-requires c κs = search rules
 relocate-requires : tie.Need-relocate-requires
 relocate-requires c κs = (search (rules, ended_whole), search (rules, ended_idle), search (rules, ended_at), search rules)
 
-patch-requires : tie.Need-patch-requires
-patch-requires c κs = (search (rules, move_patch), search (rules, move_stands), search rules)
+patch-held-requires : tie.Need-patch-held-requires
+patch-held-requires c κs = (search (rules, move_patch), search (rules, move_stands), search rules)
 
 same_length : tie.Need-same-length
 same_length c = search rules
@@ -32,7 +32,7 @@ place-spec =
     (tie.spec
     end-tour-requires
     relocate-requires
-    patch-requires
+    patch-held-requires
     same_length
     same-length-2
     returns)

@@ -1,4 +1,4 @@
-use Rattle.table_change.proofs.Relining.{line_few, whole_array, at_inside, changed_rooted, leaf_there, leaves_few, moved}
+use Rattle.table_change.proofs.Relining.{line_few, whole_array, at_inside, changed_rooted, move_there, move_few, moved}
 use borrow.Author.Rules.{rules}
 use Rattle.table_change.proofs.relocate.Statement.{statement}
 use Rattle.table_change.proofs.relocate.Tie as tie
@@ -7,11 +7,7 @@ use Rattle.table_change.proofs.relocate.Lts as lts
 use Rattle.table_change.proofs.swap_leaf.Reads as swap-leaf-reads
 use Rattle.table_sites.proofs.change.place.Reads as place-reads
 use Rattle.table_sites.proofs.line.Reads as line_reads_lem
-use Rattle.table_sites.proofs.mark.Reads as mark-reads
 use Rattle.tree_check.proofs.leaf_entry.Reads as leaf-entry-reads
-
-mark-requires : tie.Need-mark-requires
-mark-requires c κs = (search rules, search (rules, line_few))
 
 line-requires : tie.Need-line-requires
 line-requires c κs = (search rules, search (rules, line_few))
@@ -26,7 +22,7 @@ place-requires : tie.Need-place-requires
 place-requires c κs = (search (rules, whole_array), search (rules, at_inside))
 
 swap-leaf-requires : tie.Need-swap-leaf-requires
-swap-leaf-requires c κs = (search (rules, changed_rooted), search (rules, leaf_there), search (rules, leaves_few))
+swap-leaf-requires c κs = (search (rules, changed_rooted), search (rules, move_there), search (rules, move_few))
 
 same_length : tie.Need-same-length
 same_length c = search rules
@@ -38,7 +34,6 @@ pub relocate-spec : {M : Type 1} → statement M
 relocate-spec =
     tie.close
     (tie.spec
-    mark-requires
     line-requires
     leaf-entry-requires
     leaf-entry-requires-2

@@ -6,8 +6,8 @@ use Rattle.table_change.proofs.swap_leaf.Tie as tie
 remove-requires : tie.Need-remove-requires
 remove-requires c κs = search rules
 
-add-leaf-requires : tie.Need-add-leaf-requires
-add-leaf-requires c κs = (search rules, search (rules, swap_few))
+add-requires : tie.Need-add-requires
+add-requires c κs = (search rules, search (rules, swap_few))
 
 same_length : tie.Need-same-length
 same_length c = search rules
@@ -16,4 +16,4 @@ returns : tie.Need-returns
 returns c = search (rules, swapped)
 
 pub swap-leaf-spec : {M : Type 1} → statement M
-swap-leaf-spec = tie.close (tie.spec remove-requires add-leaf-requires same_length returns)
+swap-leaf-spec = tie.close (tie.spec remove-requires add-requires same_length returns)

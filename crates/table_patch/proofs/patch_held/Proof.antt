@@ -19,7 +19,7 @@ returns : tie.Need-returns
 returns c = search rules
 
 deal-site-requires : tie.Need-deal-site-requires
-deal-site-requires c κs = (search rules, (search (rules, patch_others), search rules, search rules))
+deal-site-requires c κs = (search rules, (search (rules, patch_others), search rules))
 
 same-length-3 : tie.Need-same-length-3
 same-length-3 c = search rules

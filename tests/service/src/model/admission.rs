@@ -1,12 +1,10 @@
 //! The model's own test of a table (reasons 65 and 69): one walk from the root that stops at the
-//! first fault, with the boxes and the numbers of open sites made from the sites upwards; then the
-//! standing leg and its list.
+//! first fault, with the boxes made from the sites upwards; then the standing leg and its list.
 
 use crate::bytes::{
     self, ENTRIES_LISTED, Entry, FEWEST_ENTRIES, FEWEST_IN_ROOT, FREE_NODES, HEADER_KEPT, LAYOUT,
-    LAYOUT_NUMBER, LEG_FLAG, LEG_WORDS, LEVELS, MOST_ENTRIES, MOST_LEVELS, MOST_NODES, OPEN_SITES,
-    ROOT, SITES_HELD, TOUR, TOUR_FLAG, free_at, leg, listed, node_at, number, open_sites, position,
-    sites, word,
+    LAYOUT_NUMBER, LEG_FLAG, LEG_WORDS, LEVELS, MOST_ENTRIES, MOST_LEVELS, MOST_NODES, ROOT,
+    SITES_HELD, TOUR, TOUR_FLAG, free_at, leg, listed, node_at, number, position, sites, word,
 };
 use crate::{BROKEN_STANDING, BROKEN_TABLE};
 use reference::grid::{MOST_SITES, Site};
@@ -35,7 +33,7 @@ fn records(table: &[u8]) -> bool {
         .iter()
         .all(|site| site.number > 0 && site.position.on_grid())
         && sites.is_sorted_by(|p, q| p.number < q.number)
-        && bytes::records(table).all(|record| record.mark <= 1)
+        && bytes::records(table).all(|record| record.kept == 0)
 }
 
 /// There is a leg or none; where it lies does not matter here.
@@ -52,7 +50,7 @@ fn standing(table: &[u8]) -> bool {
     match leg(table) {
         Some(leg) => {
             let on_grid = leg.s.on_grid() && leg.e.on_grid();
-            let list = || hull::split_list(&leg, &open_sites(table));
+            let list = || hull::split_list(&leg, &sites(table));
             let listed = || list().iter().map(|entry| entry.site).eq(listed(table));
             on_grid && length <= MOST_SITES && listed()
         }
@@ -63,8 +61,8 @@ fn standing(table: &[u8]) -> bool {
 fn toured(table: &[u8]) -> bool {
     match (word(table, TOUR_FLAG), bytes::tour(table)) {
         (1, Some(tour)) => {
-            let open = |number: u16| open_sites(table).iter().any(|site| site.number == number);
-            tour.corner.on_grid() && tour.remembered.is_none_or(open)
+            let held = |number: u16| sites(table).iter().any(|site| site.number == number);
+            tour.corner.on_grid() && tour.remembered.is_none_or(held)
         }
         (0, None) => table[TOUR].iter().all(|byte| *byte == 0),
         _ => false,
@@ -72,22 +70,14 @@ fn toured(table: &[u8]) -> bool {
 }
 
 fn tree(table: &[u8]) -> bool {
-    let open: Vec<u16> = open_sites(table).iter().map(|site| site.number).collect();
     let mut seen = Seen {
         table,
-        open: &open,
         nodes: [false; MOST_NODES],
         sites: Vec::new(),
     };
     let levels = number(table, LEVELS);
     let fewest = if levels == 1 { 1 } else { FEWEST_IN_ROOT };
-    let root = match levels {
-        0 => Some(0),
-        _ => seen
-            .node(number(table, ROOT), levels, fewest)
-            .map(|under| under.open),
-    };
-    if root != Some(number(table, OPEN_SITES)) {
+    if levels > 0 && seen.area(number(table, ROOT), levels, fewest).is_none() {
         return false;
     }
     seen.sites.sort_by_key(|site| site.number);
@@ -97,18 +87,11 @@ fn tree(table: &[u8]) -> bool {
         && seen.sites == sites(table)
 }
 
-/// What lies under a node or an entry: the smallest box, west, south, east and north, and how many of
-/// its sites are open.
-#[derive(PartialEq, Eq)]
-struct Under {
-    edges: [u16; 4],
-    open: usize,
-}
+/// West, south, east and north.
+type Area = [u16; 4];
 
 struct Seen<'t> {
     table: &'t [u8],
-    /// The numbers of the open sites, rising.
-    open: &'t [u16],
     nodes: [bool; MOST_NODES],
     sites: Vec<Site>,
 }
@@ -123,8 +106,8 @@ impl Seen<'_> {
         fresh
     }
 
-    /// What lies under the node; none if a rule is broken there.
-    fn node(&mut self, node: usize, height: usize, fewest: usize) -> Option<Under> {
+    /// The smallest area around the sites under the node; none if a rule is broken there.
+    fn area(&mut self, node: usize, height: usize, fewest: usize) -> Option<Area> {
         if !self.takes(node) {
             return None;
         }
@@ -132,38 +115,30 @@ impl Seen<'_> {
         if !(fewest..=MOST_ENTRIES).contains(&count) {
             return None;
         }
-        let (mut edges, mut open) = ([u16::MAX, u16::MAX, 0, 0], 0);
+        let mut around = [u16::MAX, u16::MAX, 0, 0];
         for i in 0..count {
             let entry = Entry::read(self.table, node, i);
-            let stored = Under {
-                edges: entry.edges(),
-                open: usize::from(entry.open),
-            };
-            if self.entry(entry, height)? != stored {
+            let inner = self.inner(entry, height)?;
+            if entry.kept != 0 || inner != entry.edges() {
                 return None;
             }
             for side in 0..2 {
-                edges[side] = edges[side].min(stored.edges[side]);
-                edges[side + 2] = edges[side + 2].max(stored.edges[side + 2]);
+                around[side] = around[side].min(inner[side]);
+                around[side + 2] = around[side + 2].max(inner[side + 2]);
             }
-            open += stored.open;
         }
-        Some(Under { edges, open })
+        Some(around)
     }
 
-    /// What the entry has to say.
-    fn entry(&mut self, entry: Entry, height: usize) -> Option<Under> {
+    /// What the entry's box has to be.
+    fn inner(&mut self, entry: Entry, height: usize) -> Option<Area> {
         if height > 1 {
-            return self.node(usize::from(entry.reference), height - 1, FEWEST_ENTRIES);
+            return self.area(usize::from(entry.reference), height - 1, FEWEST_ENTRIES);
         }
         self.sites.push(Site {
             number: entry.reference,
             position: position(entry.west, entry.south),
         });
-        let is_open = self.open.binary_search(&entry.reference).is_ok();
-        Some(Under {
-            edges: [entry.west, entry.south, entry.west, entry.south],
-            open: usize::from(is_open),
-        })
+        Some([entry.west, entry.south, entry.west, entry.south])
     }
 }

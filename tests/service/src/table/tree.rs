@@ -2,9 +2,10 @@
 
 use super::{Broken, Rule};
 use crate::bytes::{
-    CLOSED, Entry, FEWEST_ENTRIES, FEWEST_IN_ROOT, FREE_NODES, LEVELS, MOST_ENTRIES, MOST_LEVELS,
-    MOST_NODES, OPEN, OPEN_SITES, ROOT, entries, free_at, node_at, number, records, word,
+    Entry, FEWEST_ENTRIES, FEWEST_IN_ROOT, FREE_NODES, LEVELS, MOST_ENTRIES, MOST_LEVELS,
+    MOST_NODES, ROOT, entries, free_at, node_at, number, position, word,
 };
+use reference::grid::Site;
 use std::collections::BTreeMap;
 
 /// What was met on the way down.
@@ -15,12 +16,10 @@ struct Walk {
     leaf_entries: Vec<Entry>,
 }
 
-pub(super) fn rules(table: &[u8], broken: &mut Broken) {
+pub(super) fn rules(table: &[u8], sites: &[Site], broken: &mut Broken) {
     let mut walk = walk(table, broken);
     stack_rules(table, &mut walk, broken);
-    leaf_rules(table, &walk.leaf_entries, broken);
-    mark_rules(table, &walk.leaf_entries, broken);
-    root_rule(table, broken);
+    leaf_rules(&walk.leaf_entries, sites, broken);
 }
 
 /// The number of nodes in a sound table's tree.
@@ -79,16 +78,11 @@ fn count_rules(table: &[u8], node: usize, is_root: bool, is_leaf: bool, broken: 
         (true, false) => broken.unless(count >= FEWEST_IN_ROOT, Rule::AtLeastTwoInRoot),
         (true, true) => broken.unless(count >= 1, Rule::AtLeastOneInRoot),
     }
+    let kept = entries(table, node).all(|entry| entry.kept == 0);
+    broken.unless(kept, Rule::EntryKeptZero);
 }
 
-/// The open sites of a node's entries together.
-fn open_in(table: &[u8], node: usize) -> usize {
-    let open = |entry: Entry| usize::from(entry.open);
-    entries(table, node).map(open).sum()
-}
-
-/// Each box is the smallest around those one level below, and each number of open sites is theirs
-/// together; so it is for the sites as well.
+/// Each box is the smallest around those one level below; so it is around the sites as well.
 fn box_rules(table: &[u8], node: usize, broken: &mut Broken) {
     for entry in entries(table, node) {
         let child = usize::from(entry.reference);
@@ -100,8 +94,6 @@ fn box_rules(table: &[u8], node: usize, broken: &mut Broken) {
                 && most(|e| e.east) == Some(entry.east)
                 && most(|e| e.north) == Some(entry.north);
             broken.unless(smallest, Rule::SmallestBox);
-            let open = usize::from(entry.open);
-            broken.unless(open == open_in(table, child), Rule::OpenBeneath);
         }
     }
 }
@@ -119,40 +111,16 @@ fn stack_rules(table: &[u8], walk: &mut Walk, broken: &mut Broken) {
     broken.unless(walk.met == [1; MOST_NODES], Rule::NodeOnce);
 }
 
-/// The empty tree has no root, and no open site.
-fn root_rule(table: &[u8], broken: &mut Broken) {
-    let open = match (number(table, LEVELS), number(table, ROOT)) {
-        (0, _) => 0,
-        (_, root) if root < MOST_NODES => open_in(table, root),
-        // The root's id breaks a rule of its own.
-        _ => return,
-    };
-    broken.unless(number(table, OPEN_SITES) == open, Rule::OpenInTree);
-}
-
-/// A leaf entry of no held site, and a mark that is none, break rules of their own.
-fn mark_rules(table: &[u8], leaf_entries: &[Entry], broken: &mut Broken) {
-    let marks: BTreeMap<u16, u16> = records(table).map(|r| (r.number, r.mark)).collect();
-    for entry in leaf_entries {
-        let open = match marks.get(&entry.reference) {
-            Some(&OPEN) => 1,
-            Some(&CLOSED) => 0,
-            _ => continue,
-        };
-        broken.unless(entry.open == open, Rule::OpenAtLeaf);
-    }
-}
-
-fn leaf_rules(table: &[u8], leaf_entries: &[Entry], broken: &mut Broken) {
+fn leaf_rules(leaf_entries: &[Entry], sites: &[Site], broken: &mut Broken) {
     let mut times = BTreeMap::new();
     for entry in leaf_entries {
         let is_point = entry.west == entry.east && entry.south == entry.north;
         broken.unless(is_point, Rule::LeafIsPoint);
-        let site = (entry.reference, entry.west, entry.south);
+        let site = (entry.reference, position(entry.west, entry.south));
         *times.entry(site).or_insert(0) += 1;
     }
-    for record in records(table) {
-        let found = times.remove(&(record.number, record.east, record.north));
+    for site in sites {
+        let found = times.remove(&(site.number, site.position));
         broken.unless(found == Some(1), Rule::SiteInOneLeafEntry);
     }
     broken.unless(times.is_empty(), Rule::NoOtherLeafEntry);

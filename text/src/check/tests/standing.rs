@@ -3,8 +3,8 @@
 use super::{any_sound, sound, told, toured, verdict};
 use crate::service::{BROKEN_STANDING, BROKEN_TABLE};
 use binding::layout::{
-    ENTRIES_LISTED, FAR_EDGE, LEG_FLAG, LEG_WORDS, MOST_SITES, OPEN_SITES, empty_table, listed,
-    listed_at, number, put_word, records, to_word, word,
+    ENTRIES_LISTED, FAR_EDGE, LEG_FLAG, LEG_WORDS, MOST_SITES, empty_table, listed, listed_at,
+    number, put_word, records, to_word, word,
 };
 use reference::hull;
 use reference::random::Random;
@@ -91,7 +91,7 @@ fn a_moved_leg() {
             for moved in [near.min(FAR_EDGE), far] {
                 let moved = with(&table, &[(at, moved)]);
                 let leg = bytes::leg(&moved).unwrap();
-                let list = hull::split_list(&leg, &bytes::open_sites(&moved));
+                let list = hull::split_list(&leg, &bytes::sites(&moved));
                 let right = list.iter().map(|entry| entry.site).eq(listed(&moved));
                 let expected = (!right).then_some(BROKEN_STANDING);
                 assert_eq!(verdict(&moved), expected);
@@ -129,9 +129,9 @@ fn entries_without_a_leg() {
                 Some(BROKEN_TABLE)
             );
         }
-        // The list of a leg at the grid's corner has an entry where a site is open.
+        // The list of a leg from corner to corner of the grid has an entry where a site is held.
         let set = with(&table, &[(LEG_FLAG, 1)]);
-        let expected = (number(&table, OPEN_SITES) > 0).then_some(BROKEN_STANDING);
+        let expected = (count > 0).then_some(BROKEN_STANDING);
         assert_eq!(verdict(&set), expected);
     }
 }

@@ -1,15 +1,13 @@
-use Rattle.call_serve.proofs.Carrying.{insert_nowhere, insert_room, insert_number, insert_grid, delete_at, place_at, place_grid, stand_grid, begin_grid, follow_found, close_at, open_at, refused_left, shown_left, inserted, deleted, placed, stood, begun, followed, closed, opened}
+use Rattle.call_serve.proofs.Carrying.{insert_nowhere, insert_room, insert_number, insert_grid, delete_at, place_at, place_grid, stand_grid, begin_grid, follow_found, refused_left, shown_left, inserted, deleted, placed, stood, begun, followed}
 use borrow.Author.Rules.{rules}
 use Rattle.call_serve.proofs.carry.carry.Statement.{statement}
 use Rattle.call_serve.proofs.carry.carry.Tie as tie
 use Rattle.call_serve.proofs.carry.carry.Reads as reads
 use Rattle.call_serve.proofs.carry.carry.Lts as lts
 use Rattle.table_change.proofs.begin.Reads as begin-reads
-use Rattle.table_change.proofs.close.Reads as close-reads
 use Rattle.table_change.proofs.delete.Reads as delete-reads
 use Rattle.table_change.proofs.follow.Reads as follow-reads
 use Rattle.table_change.proofs.insert.Reads as insert-reads
-use Rattle.table_change.proofs.open.Reads as open-reads
 use Rattle.table_change.proofs.place.Reads as place-reads
 use Rattle.table_change.proofs.stand.Reads as stand-reads
 
@@ -63,24 +61,6 @@ enum-known-v-6 c = search rules
 
 follow-requires : tie.Need-follow-requires
 follow-requires c κs = (search rules, search (rules, follow_found))
-
-enum-known-v-7 : tie.Need-enum-known-v-7
-enum-known-v-7 c = search rules
-
-cast-close : tie.Need-overflow-cast-close
-cast-close c = search rules
-
-close-requires : tie.Need-close-requires
-close-requires c κs = (search rules, search (rules, close_at), search rules)
-
-enum-known-v-8 : tie.Need-enum-known-v-8
-enum-known-v-8 c = search rules
-
-cast-open : tie.Need-overflow-cast-open
-cast-open c = search rules
-
-open-requires : tie.Need-open-requires
-open-requires c κs = (search rules, search (rules, open_at), search rules)
 
 returns : tie.Need-returns
 returns c = search (rules, refused_left)
@@ -136,24 +116,6 @@ same-length-10 c = search rules
 returns-8 : tie.Need-returns-8
 returns-8 c = search (rules, followed)
 
-same-length-11 : tie.Need-same-length-11
-same-length-11 c = search rules
-
-same-length-12 : tie.Need-same-length-12
-same-length-12 c = search rules
-
-returns-9 : tie.Need-returns-9
-returns-9 c = search (rules, closed)
-
-same-length-13 : tie.Need-same-length-13
-same-length-13 c = search rules
-
-same-length-14 : tie.Need-same-length-14
-same-length-14 c = search rules
-
-returns-10 : tie.Need-returns-10
-returns-10 c = search (rules, opened)
-
 pub carry-spec : {M : Type 1} → statement M
 carry-spec =
     tie.close
@@ -175,12 +137,6 @@ carry-spec =
     begin-requires
     enum-known-v-6
     follow-requires
-    enum-known-v-7
-    cast-close
-    close-requires
-    enum-known-v-8
-    cast-open
-    open-requires
     returns
     returns-2
     same_length
@@ -198,10 +154,4 @@ carry-spec =
     same-length-9
     returns-7
     same-length-10
-    returns-8
-    same-length-11
-    same-length-12
-    returns-9
-    same-length-13
-    same-length-14
-    returns-10)
+    returns-8)

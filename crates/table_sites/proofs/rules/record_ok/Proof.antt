@@ -37,7 +37,7 @@ returns-4 : tie.Need-returns-4
 returns-4 c = search rules
 
 returns-5 : tie.Need-returns-5
-returns-5 c = record { higher = omega arith; most = omega arith; east = omega arith; north = omega arith; mark = omega arith }
+returns-5 c = record { higher = omega arith; most = omega arith; east = omega arith; north = omega arith; spare = omega arith }
 
 pub record-ok-spec : {M : Type 1} → statement M
 record-ok-spec =

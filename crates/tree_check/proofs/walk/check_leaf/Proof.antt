@@ -2,14 +2,6 @@ use Rattle.tree_check.proofs.Passing.{leaf_absent, leaf_in, leaf_other, leaf_tol
 use borrow.Author.Rules.{rules}
 use Rattle.tree_check.proofs.walk.check_leaf.Statement.{statement}
 use Rattle.tree_check.proofs.walk.check_leaf.Tie as tie
-use Rattle.tree_check.proofs.walk.check_leaf.Reads as reads
-use Rattle.tree_check.proofs.walk.check_leaf.Lts as lts
-use Rattle.table_sites.proofs.line.Reads as line_reads_lem
-use Rattle.table_sites.proofs.mark.Reads as mark-reads
-use Rattle.tree_check.proofs.hints.find.Reads as find-reads
-use Rattle.tree_check.proofs.leaf_entry.Reads as leaf-entry-reads
-use Rattle.tree_check.proofs.marks.mark.Reads as marks-mark-reads
-use Rattle.tree_node.proofs.boxes.same.Reads as same_Reads
 
 find-requires : tie.Need-find-requires
 find-requires c κs = search rules
@@ -23,9 +15,6 @@ enum-known-f c = search rules
 line-requires : tie.Need-line-requires
 line-requires c κs = (search rules, search leaf_in)
 
-mark-requires : tie.Need-mark-requires
-mark-requires c κs = (search rules, search leaf_in)
-
 leaf-entry-requires : tie.Need-leaf-entry-requires
 leaf-entry-requires c κs = search rules
 
@@ -34,11 +23,11 @@ same-requires c κs = search rules
 
 add-mark : tie.Need-overflow-add-mark
 add-mark c =
-    let s = c.before.before.before.before.before.before.before in let lt = leaf_in _ _ _ _ s.before.before.find.ensures s.f.given.1 s.before.before.before.before.before.before.requires.array in search rules
+    let s = c.before.before.before.before.before.before in let lt = leaf_in _ _ _ _ s.before.before.find.ensures s.f.given.1 s.before.before.before.before.before.before.requires.array in search rules
 
-mark-requires-2 : tie.Need-mark-requires-2
-mark-requires-2 c κs =
-    let s = c.before.before.before.before.before.before.before in let lt = leaf_in _ _ _ _ s.before.before.find.ensures s.f.given.1 s.before.before.before.before.before.before.requires.array in search rules
+mark-requires : tie.Need-mark-requires
+mark-requires c κs =
+    let s = c.before.before.before.before.before.before in let lt = leaf_in _ _ _ _ s.before.before.find.ensures s.f.given.1 s.before.before.before.before.before.before.requires.array in search rules
 
 same_length : tie.Need-same-length
 same_length c = search rules
@@ -66,11 +55,10 @@ check-leaf-spec =
     enum_told
     enum-known-f
     line-requires
-    mark-requires
     leaf-entry-requires
     same-requires
     add-mark
-    mark-requires-2
+    mark-requires
     same_length
     returns
     same-length-2

@@ -16,9 +16,6 @@ larger-requires c κs = search rules
 larger-requires-2 : tie.Need-larger-requires-2
 larger-requires-2 c κs = search rules
 
-both-requires : tie.Need-both-requires
-both-requires c κs = search rules
-
 returns : tie.Need-returns
 unfolding grow
 returns c = search entry_eq
@@ -26,4 +23,4 @@ returns c = search entry_eq
 pub grown-spec : {M : Type 1} → statement M
 grown-spec =
     tie.close
-    (tie.spec lesser-requires lesser-requires-2 larger-requires larger-requires-2 both-requires returns)
+    (tie.spec lesser-requires lesser-requires-2 larger-requires larger-requires-2 returns)

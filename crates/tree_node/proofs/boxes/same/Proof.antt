@@ -20,7 +20,7 @@ returns-5 : tie.Need-returns-5
 returns-5 c = told_no (λ q. c.if5.true (ap (λ (e : NodeEntry). e.north) q))
 
 returns-6 : tie.Need-returns-6
-returns-6 c = told_no (λ q. c.if6.true (ap (λ (e : NodeEntry). e.opens) q))
+returns-6 c = told_no (λ q. c.if6.true (ap (λ (e : NodeEntry). e.spare) q))
 
 returns-7 : tie.Need-returns-7
 returns-7 c = search same_yes

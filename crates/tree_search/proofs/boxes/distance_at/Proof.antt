@@ -1,6 +1,5 @@
-use Rattle.tree_search.proofs.Corners.{area_placed, seems_open, placed_at}
+use Rattle.tree_search.proofs.Corners.{area_placed, area_far, placed_at}
 use borrow.Author.Rules.{rules}
-use native.Mathlib.Omega.{arith}
 use Rattle.tree_search.proofs.boxes.distance_at.Statement.{statement}
 use Rattle.tree_search.proofs.boxes.distance_at.Tie as tie
 
@@ -17,9 +16,7 @@ cast-result : tie.Need-overflow-cast-result
 cast-result c = search rules
 
 returns : tie.Need-returns
-returns c =
-    let f = c.from-area.ensures in
-    seems_open _ _ _ c.before.area_of.ensures c.before.before.entry_at.ensures _ f.0 (omega (arith, f.1))
+returns c = (search (rules, area_far), search rules)
 
 pub distance-at-spec : {M : Type 1} → statement M
 distance-at-spec =

@@ -62,7 +62,7 @@ loop-again c =
     let y = c.before.before.before.distance-at2.ensures in
     let d : c.if1.best < length (entries c.before.before.before.before.before.before.before.before.before.args.t.now c.before.before.before.before.before.before.before.before.before.args.n) =
     ⊎_elim (λ e. omega arith) (λ e. omega arith) c.if1.branch in
-    (measured_next w.0 (omega arith) x, measured_next w.1 (omega arith) y, omega arith, d, search rules, search rules)
+    (measured_next w.0 (omega arith) x.0 x.1, measured_next w.1 (omega arith) y.0 y.1, omega arith, d, search rules, search rules)
 
 returns : tie.Need-returns invariant-loop decreases-loop
 returns c = (search rules, (search (rules, measured_all), search (rules, measured_all)))

@@ -4,7 +4,7 @@ use Prim.Native.Nat.{ℕ, ◌+◌, ◌*◌, ◌<◌}
 use native.Mathlib.Omega.{arith}
 use Rattle.tree_node.proofs.Reading.{below_eight}
 use Rattle.tree_search.proofs.Corners.{corner_is}
-use Rattle.tree_search.proofs.Reading.{Left, step_on, step_leaf, step_known, step_shut, step_closed, still_open, child_readable, child_some, child_ahead, child_searched, node_placed, left_all, left_first, left_next, left_none}
+use Rattle.tree_search.proofs.Reading.{Left, step_on, step_leaf, step_known, step_shut, child_readable, child_some, child_ahead, child_searched, node_placed, left_all, left_first, left_next, left_none}
 use borrow.Fn.Kinds.{In}
 use borrow.Fn.PlainCycle.{Measures, is, falls, and}
 use Rattle.tree_search.proofs.descent.search_entry.Reads as search-entry
@@ -17,7 +17,7 @@ use Rattle.tree_node.proofs.pool.count.Reads as count-reads
 use Rattle.tree_node.proofs.pool.entry_at.Reads as entry-at-reads
 use Rattle.list_skip.proofs.covers.Reads as covers-reads
 use Rattle.list_skip.proofs.shuts.Reads as shuts-reads
-use Rattle.tree_search.proofs.boxes.survey.Reads as survey-reads
+use Rattle.tree_search.proofs.boxes.measure.Reads as measure-reads
 use Rattle.tree_search.proofs.descent.after.Reads as after-reads
 use Rattle.tree_search.proofs.descent.search_leaf.Reads as search-leaf-reads
 use Rattle.tree_search.proofs.descent.+search_entry_search_node.{statement}
@@ -53,12 +53,12 @@ abbrev search-entry-claims : ℕ → search-entry-lts.Claims
 search-entry-claims t = (
   shuts-reads.Asked,
   shuts-reads.Learnt,
-  entry-at-reads.Asked,
-  entry-at-reads.Learnt,
   covers-reads.Asked,
   covers-reads.Learnt,
   search-leaf-reads.Asked,
   search-leaf-reads.Learnt,
+  entry-at-reads.Asked,
+  entry-at-reads.Learnt,
   search-node-below t,
   search-node.Post,
 )
@@ -67,8 +67,8 @@ abbrev search-node-claims : ℕ → search-node-lts.Claims
 search-node-claims t = (
   count-reads.Asked,
   count-reads.Learnt,
-  survey-reads.Asked,
-  survey-reads.Learnt,
+  measure-reads.Asked,
+  measure-reads.Learnt,
   search-entry-below t,
   search-entry.Post,
   after-reads.Asked,
@@ -83,84 +83,75 @@ search-entry-returns t c =
     let s = c.before.before.before.before in
     step_known _ _ _ _ s.requires.1.0.0 s.requires.1.0.1 s.requires.1.1.0 s.requires.1.0.2 s.requires.1.1.1 c.before.shuts.result c.if1.true c.before.shuts.ensures
 
-search-entry-entry-at-requires : (t : ℕ) → search-entry-lts.Need-entry-at-requires (search-entry-claims t) (search-entry-at t) search-entry.Post
-search-entry-entry-at-requires t c κs = search rules
-
-search-entry-returns-2 : (t : ℕ) → search-entry-lts.Need-returns-2 (search-entry-claims t) (search-entry-at t) search-entry.Post
-search-entry-returns-2 t c =
-    let s = c.before.before.before.before.before.before.before in
-    step_closed _ _ _ _ s.requires.1.0.0 s.requires.1.0.1 s.requires.1.1.0 _ c.before.before.entry_at.ensures c.if2.true s.requires.1.1.1
-
 search-entry-covers-requires : (t : ℕ) → search-entry-lts.Need-covers-requires (search-entry-claims t) (search-entry-at t) search-entry.Post
 search-entry-covers-requires t c κs =
-    let s = c.before.before.before.before.before.before.before.before in
+    let s = c.before.before.before.before.before in
     (s.requires.1.1.0.held, s.requires.1.1.0.leg, s.requires.1.0.2.small)
 
 search-entry-same-length : (t : ℕ) → search-entry-lts.Need-same-length (search-entry-claims t) (search-entry-at t) search-entry.Post
 search-entry-same-length t c = search rules
 
-search-entry-returns-3 : (t : ℕ) → search-entry-lts.Need-returns-3 (search-entry-claims t) (search-entry-at t) search-entry.Post
-search-entry-returns-3 t c =
-    let s = c.before.before.before.before.before.before.before.before.before.before.before in
-    step_shut _ _ _ _ s.requires.1.0.0 s.requires.1.0.1 s.requires.1.1.0 s.requires.1.0.2 _ c.before.before.before.before.before.before.entry_at.ensures c.before.before.before.before.if2.false c.before.before.covers.ensures c.if3.true
+search-entry-returns-2 : (t : ℕ) → search-entry-lts.Need-returns-2 (search-entry-claims t) (search-entry-at t) search-entry.Post
+search-entry-returns-2 t c =
+    let s = c.before.before.before.before.before.before.before.before in
+    step_shut _ _ _ _ s.requires.1.0.0 s.requires.1.0.1 s.requires.1.1.0 s.requires.1.0.2 c.before.before.covers.ensures c.if2.true
 
 search-entry-search-leaf-requires : (t : ℕ) → search-entry-lts.Need-search-leaf-requires (search-entry-claims t) (search-entry-at t) search-entry.Post
 search-entry-search-leaf-requires t c κs =
-    let s = c.before.before.before.before.before.before.before.before.before.before.before.before.before in
-    let z : s.args.h ≡ 0 = c.before.if4.true in
-    let o = still_open _ _ _ _ c.before.before.before.before.before.before.before.before.entry_at.ensures c.before.before.before.before.before.before.if2.false in
-    ((rw z at s.requires.1.0.0, s.requires.1.0.1, s.requires.1.0.2.is o), ((rw z at s.requires.1.1.0, c.before.before.before.before.covers.ensures.cut), o))
+    let s = c.before.before.before.before.before.before.before.before.before.before in
+    let z : s.args.h ≡ 0 = c.before.if3.true in
+    ((rw z at s.requires.1.0.0, s.requires.1.0.1, s.requires.1.0.2), (rw z at s.requires.1.1.0, c.before.before.before.before.covers.ensures.cut))
 
 search-entry-same-length-2 : (t : ℕ) → search-entry-lts.Need-same-length-2 (search-entry-claims t) (search-entry-at t) search-entry.Post
 search-entry-same-length-2 t c = search rules
 
-search-entry-returns-4 : (t : ℕ) → search-entry-lts.Need-returns-4 (search-entry-claims t) (search-entry-at t) search-entry.Post
-search-entry-returns-4 t c =
-    let s = c.before.before.before.before.before.before.before.before.before.before.before.before.before.before.before.before in
-    step_leaf _ _ c.before.before.before.before.if4.true s.requires.1.1.0 c.before.before.before.before.before.before.before.covers.ensures.knows c.before.before.search-leaf.ensures
+search-entry-returns-3 : (t : ℕ) → search-entry-lts.Need-returns-3 (search-entry-claims t) (search-entry-at t) search-entry.Post
+search-entry-returns-3 t c =
+    let s = c.before.before.before.before.before.before.before.before.before.before.before.before.before in
+    step_leaf _ _ c.before.before.before.before.if3.true s.requires.1.1.0 c.before.before.before.before.before.before.before.covers.ensures.knows c.before.before.search-leaf.ensures
+
+search-entry-entry-at-requires : (t : ℕ) → search-entry-lts.Need-entry-at-requires (search-entry-claims t) (search-entry-at t) search-entry.Post
+search-entry-entry-at-requires t c κs = search rules
 
 search-entry-cast-child : (t : ℕ) → search-entry-lts.Need-overflow-cast-child (search-entry-claims t) (search-entry-at t) search-entry.Post
 search-entry-cast-child t c = search rules
-
-search-entry-cast-opens : (t : ℕ) → search-entry-lts.Need-overflow-cast-opens (search-entry-claims t) (search-entry-at t) search-entry.Post
-search-entry-cast-opens t c = search rules
 
 search-entry-sub-search-node : (t : ℕ) → search-entry-lts.Need-overflow-sub-search-node (search-entry-claims t) (search-entry-at t) search-entry.Post
 search-entry-sub-search-node t c = search rules
 
 search-entry-search-node-requires : (t : ℕ) → search-entry-lts.Need-search-node-requires (search-entry-claims t) (search-entry-at t) search-entry.Post
 search-entry-search-node-requires t c κs =
-    let s = c.before.before.before.before.before.before.before.before.before.before.before.before.before.before.before in
+    let s = c.before.before.before.before.before.before.before.before.before.before.before.before in
     let rd = s.requires.1.0.0 in
     let lt = s.requires.1.0.1 in
-    let qe = c.before.before.before.before.before.before.before.before.before.before.entry_at.ensures in
-    let some : 0 < s.args.h = omega (arith, c.before.before.before.if4.false) in
+    let qe = c.before.before.entry_at.ensures in
+    let some : 0 < s.args.h = omega (arith, c.before.before.before.if3.false) in
     (omega (arith, s.requires.0), ((child_readable _ _ _ _ _ rd lt some qe, child_some _ _ _ _ _ rd lt some qe), (child_ahead _ _ _ _ _ rd lt some qe s.requires.1.1.0, c.before.before.before.before.before.before.covers.ensures.knows)))
 
 search-entry-same-length-3 : (t : ℕ) → search-entry-lts.Need-same-length-3 (search-entry-claims t) (search-entry-at t) search-entry.Post
 search-entry-same-length-3 t c = search rules
 
-search-entry-returns-5 : (t : ℕ) → search-entry-lts.Need-returns-5 (search-entry-claims t) (search-entry-at t) search-entry.Post
-search-entry-returns-5 t c =
-    let s = c.before.before.before.before.before.before.before.before.before.before.before.before.before.before.before.before.before.before in
+search-entry-returns-4 : (t : ℕ) → search-entry-lts.Need-returns-4 (search-entry-claims t) (search-entry-at t) search-entry.Post
+search-entry-returns-4 t c =
+    let s = c.before.before.before.before.before.before.before.before.before.before.before.before.before.before.before in
     let rd = s.requires.1.0.0 in
     let lt = s.requires.1.0.1 in
-    let qe = c.before.before.before.before.before.before.before.before.before.before.before.before.before.entry_at.ensures in
-    let some : 0 < s.args.h = omega (arith, c.before.before.before.before.before.before.if4.false) in
+    let qe = c.before.before.before.before.before.entry_at.ensures in
+    let some : 0 < s.args.h = omega (arith, c.before.before.before.before.before.before.if3.false) in
     step_on s.requires.1.1.0 c.before.before.before.before.before.before.before.before.before.covers.ensures.knows (child_searched _ _ _ _ _ rd lt some qe c.before.before.search-node.ensures)
 
 abbrev search-node-Inv-loop : search-node-lts.invariant-loop
-search-node-Inv-loop t leg h n opens work₀ k near a c all i₀ left₀ kept₀ known₀ work i left kept known =
+search-node-Inv-loop t leg h n work₀ k near a c all i₀ left₀ kept₀ known₀ work i left kept known =
     Left leg t work₀ k h n i left work kept known
 
 abbrev search-node-μ-loop : search-node-lts.decreases-loop
-search-node-μ-loop t leg h n opens work₀ k near a c all i₀ left₀ kept₀ known₀ work i left kept known = left
+search-node-μ-loop t leg h n work₀ k near a c all i₀ left₀ kept₀ known₀ work i left kept known = left
 
 search-node-count-requires : (t : ℕ) → search-node-lts.Need-count-requires (search-node-claims t) (search-node-at t) search-node.Post search-node-Inv-loop search-node-μ-loop
 search-node-count-requires t c κs = search rules
 
-search-node-survey-requires : (t : ℕ) → search-node-lts.Need-survey-requires (search-node-claims t) (search-node-at t) search-node.Post search-node-Inv-loop search-node-μ-loop
-search-node-survey-requires t c κs =
+search-node-measure-requires : (t : ℕ) → search-node-lts.Need-measure-requires (search-node-claims t) (search-node-at t) search-node.Post search-node-Inv-loop search-node-μ-loop
+search-node-measure-requires t c κs =
     let s = c.before.before.before.before.before in
     let rd = s.requires.1.0.0 in
     let ah = s.requires.1.1.0 in
@@ -169,25 +160,25 @@ search-node-survey-requires t c κs =
 search-node-loop-holds : (t : ℕ) → search-node-lts.Need-loop-init (search-node-claims t) (search-node-at t) search-node.Post search-node-Inv-loop search-node-μ-loop
 search-node-loop-holds t c =
     let s = c.before.before.before.before.before.before in
-    left_all _ _ c.survey.ensures.0 c.before.before.before.count.ensures.0 s.requires.1.1.0 s.requires.1.1.1
+    left_all _ _ c.measure.ensures.0 c.before.before.before.count.ensures.0 s.requires.1.1.0 s.requires.1.1.1
 
-search-node-mul-t22 : (t : ℕ) → search-node-lts.Need-overflow-mul-t22 (search-node-claims t) (search-node-at t) search-node.Post search-node-Inv-loop search-node-μ-loop
-search-node-mul-t22 t c = let b = below_eight _ _ _ c.before.loop.invariant.here in search rules
+search-node-mul-t21 : (t : ℕ) → search-node-lts.Need-overflow-mul-t21 (search-node-claims t) (search-node-at t) search-node.Post search-node-Inv-loop search-node-μ-loop
+search-node-mul-t21 t c = let b = below_eight _ _ _ c.before.loop.invariant.here in search rules
 
-search-node-array-read-t25 : (t : ℕ) → search-node-lts.Need-array-read-t25 (search-node-claims t) (search-node-at t) search-node.Post search-node-Inv-loop search-node-μ-loop
-search-node-array-read-t25 t c = below_eight _ _ _ c.before.loop.invariant.here
+search-node-array-read-t24 : (t : ℕ) → search-node-lts.Need-array-read-t24 (search-node-claims t) (search-node-at t) search-node.Post search-node-Inv-loop search-node-μ-loop
+search-node-array-read-t24 t c = below_eight _ _ _ c.before.loop.invariant.here
 
-search-node-mul-t26 : (t : ℕ) → search-node-lts.Need-overflow-mul-t26 (search-node-claims t) (search-node-at t) search-node.Post search-node-Inv-loop search-node-μ-loop
-search-node-mul-t26 t c = let b = below_eight _ _ _ c.before.loop.invariant.here in search rules
+search-node-mul-t25 : (t : ℕ) → search-node-lts.Need-overflow-mul-t25 (search-node-claims t) (search-node-at t) search-node.Post search-node-Inv-loop search-node-μ-loop
+search-node-mul-t25 t c = let b = below_eight _ _ _ c.before.loop.invariant.here in search rules
 
-search-node-array-read-t29 : (t : ℕ) → search-node-lts.Need-array-read-t29 (search-node-claims t) (search-node-at t) search-node.Post search-node-Inv-loop search-node-μ-loop
-search-node-array-read-t29 t c = below_eight _ _ _ c.before.loop.invariant.here
+search-node-array-read-t28 : (t : ℕ) → search-node-lts.Need-array-read-t28 (search-node-claims t) (search-node-at t) search-node.Post search-node-Inv-loop search-node-μ-loop
+search-node-array-read-t28 t c = below_eight _ _ _ c.before.loop.invariant.here
 
 search-node-search-entry-requires : (t : ℕ) → search-node-lts.Need-search-entry-requires (search-node-claims t) (search-node-at t) search-node.Post search-node-Inv-loop search-node-μ-loop
 search-node-search-entry-requires t c κs =
     let s = c.before.before.before.before.before.before.before.before.before in
     let w = c.before.before.loop.invariant in
-    let far = c.before.before.before.survey.ensures.1 in
+    let far = c.before.before.before.measure.ensures.1 in
     (omega (arith, s.requires.0), ((s.requires.1.0.0, w.here, corner_is {l = s.args.leg} _ far.0 far.1 w.here), (left_first w (omega arith), w.knows)))
 
 search-node-after-requires : (t : ℕ) → search-node-lts.Need-after-requires (search-node-claims t) (search-node-at t) search-node.Post search-node-Inv-loop search-node-μ-loop
@@ -217,32 +208,30 @@ pub +search-entry-search-node-spec : {M : Type 1} → statement M
     search-entry.Post
     (search-entry-shuts-requires t)
     (search-entry-returns t)
-    (search-entry-entry-at-requires t)
-    (search-entry-returns-2 t)
     (search-entry-covers-requires t)
     (search-entry-same-length t)
-    (search-entry-returns-3 t)
+    (search-entry-returns-2 t)
     (search-entry-search-leaf-requires t)
     (search-entry-same-length-2 t)
-    (search-entry-returns-4 t)
+    (search-entry-returns-3 t)
+    (search-entry-entry-at-requires t)
     (search-entry-cast-child t)
-    (search-entry-cast-opens t)
     (search-entry-sub-search-node t)
     (search-entry-search-node-requires t)
     (search-entry-same-length-3 t)
-    (search-entry-returns-5 t))
+    (search-entry-returns-4 t))
     λ t. search-node-lts.spec (search-node-claims t)
     (search-node-at t)
     search-node.Post
     search-node-Inv-loop
     search-node-μ-loop
     (search-node-count-requires t)
-    (search-node-survey-requires t)
+    (search-node-measure-requires t)
     (search-node-loop-holds t)
-    (search-node-mul-t22 t)
-    (search-node-array-read-t25 t)
-    (search-node-mul-t26 t)
-    (search-node-array-read-t29 t)
+    (search-node-mul-t21 t)
+    (search-node-array-read-t24 t)
+    (search-node-mul-t25 t)
+    (search-node-array-read-t28 t)
     (search-node-search-entry-requires t)
     (search-node-after-requires t)
     (search-node-sub-left t)
