@@ -1,48 +1,23 @@
 // The program's arguments. Document 01 has none: with any, no commands are served.
 use crate::streams;
+use std::env::{Env, FillError};
 
 // The version is that of docs/CHANGELOG.md.
-fn print_version() {
-    streams::write_all(b"stops 0.12.0\n");
+fn print_version(rt: &(impl Print + Eprint)) {
+    streams::write_all(rt, b"stops 0.12.0\n");
 }
 
-fn print_usage() {
-    io::write_all(
-        libc::STDERR_FILENO,
-        b"usage: stops < COMMANDS > RECORDS, or stops --version\n",
-    );
+fn print_usage(rt: &impl Eprint) {
+    let _ = eprintln!(rt; "usage: stops < COMMANDS > RECORDS, or stops --version");
 }
 
-fn same(a: &[u8], b: &[u8]) -> bool {
-    if a.len() != b.len() {
-        return false;
-    }
-    let mut i = 0;
-    while i < a.len() {
-        if a[i] != b[i] {
-            return false;
-        }
-        i += 1;
-    }
-    true
-}
-
-// Whether the first argument asks for the version. One that is too long for the buffer reads as none.
-fn asks_version() -> bool {
+// Answers the first argument, or says that there is none. One that is too long for the buffer is no version's.
+pub fn answered(rt: &(impl Env + Print + Eprint)) -> bool {
     let mut word = [0u8; 16];
-    let n = os::arg(1, &mut word);
-    same(&word[..n], b"--version")
-}
-
-// Answers the arguments, or says that there are none.
-pub fn answered() -> bool {
-    if os::arg_count() < 2 {
-        return false;
-    }
-    if asks_version() {
-        print_version();
-    } else {
-        print_usage();
+    match rt.arg(1, &mut word) {
+        Err(FillError::NotPresent) => return false,
+        Ok(n) if &word[..n] == b"--version".as_slice() => print_version(rt),
+        _ => print_usage(rt),
     }
     true
 }

@@ -1,5 +1,7 @@
 // The batch program: commands from standard input, reports to standard output. Document 01, "Legs to try", last
 // paragraph.
+#![tactic(auto)]
+
 mod arguments;
 mod streams;
 
@@ -11,12 +13,13 @@ ghost use Rattle.stops.specs.Calls.{Buffers, WantsMore, Resumable, Follows, afte
 ghost use Rattle.stops.specs.Calls.{Proceeds, Reported, Turned, Series, Program};
 
 use book::Reason;
+use std::io::Read;
 
 // "ends with 2E and the reason byte"
 const END_MARK: u8 = 0x2E;
 
 // How a batch ended, how many bytes it left, and whether its report was taken.
-#[derive(Drop)]
+#[derive(Clone, Copy)]
 struct Batched {
     reason: Reason,
     left: usize,
@@ -24,7 +27,7 @@ struct Batched {
 }
 
 // What a read behind the held bytes gave: so many are held now, the input is at its end, or the read failed.
-#[derive(Drop)]
+#[derive(Clone, Copy)]
 enum Got {
     Bytes(usize),
     Ended,
@@ -33,7 +36,7 @@ enum Got {
 
 // What follows a batch: one more over so many bytes, or the end with its reason. Or the run breaks off: the input
 // cannot be read, the report was not taken, or the count of turns is spent.
-#[derive(Drop)]
+#[derive(Clone, Copy)]
 enum Next {
     More(usize),
     End(Reason),
@@ -53,26 +56,23 @@ fn keep(input: &mut [u8], used: usize, held: usize) -> usize
 }
 
 // Reads behind the held bytes. Only a read that can bring bytes tells of the end of the input.
-fn read_on(input: &mut [u8], held: usize) -> Got
+fn read_on(rt: &impl Eprint, reader: &mut impl Read, input: &mut [u8], held: usize) -> Got
     requires { held < length input.old }
     ensures { ReadOn held input.old result input.new }
 {
-    let free = &mut input[held..];
-    let got = streams::read(free);
-    if got < 0 {
-        os::fail(b"standard input");
-        return Got::Failed;
+    match streams::read(reader, &mut input[held..]) {
+        Ok(0) => Got::Ended,
+        Ok(n) => Got::Bytes(held + n),
+        Err(error) => {
+            streams::say_failed(rt, "standard input", &error);
+            Got::Failed
+        }
     }
-    let n = io::count(got, free);
-    if n == 0 {
-        return Got::Ended;
-    }
-    let all = held + n;
-    Got::Bytes(all)
 }
 
 // A batch over the held bytes, and its report.
 fn serve(
+    rt: &(impl Print + Eprint),
     table: &mut [u8],
     work: &mut [u8],
     input: &mut [u8],
@@ -88,7 +88,7 @@ fn serve(
     let reason = r.reason;
     let used = r.used;
     let written = r.written;
-    let taken = streams::write_all(&report[..written]);
+    let taken = streams::write_all(rt, &report[..written]);
     let left = keep(input, used, held);
     Batched {
         reason: reason,
@@ -109,24 +109,36 @@ fn after_read(got: Got, reason: Reason) -> Next
 }
 
 // After a batch that wants more bytes.
-fn join(input: &mut [u8], reason: Reason, left: usize) -> Next
+fn join(
+    rt: &impl Eprint,
+    reader: &mut impl Read,
+    input: &mut [u8],
+    reason: Reason,
+    left: usize,
+) -> Next
     requires { (left < length input.old) × WantsMore reason }
     ensures { Follows (length input.old) reason (take left input.old)
         result input.new }
 {
-    let got = read_on(input, left);
+    let got = read_on(rt, reader, input, left);
     after_read(got, reason)
 }
 
 // After 68 the report buffer is free again, and the same command finds room.
-fn follow(input: &mut [u8], reason: Reason, left: usize) -> Next
+fn follow(
+    rt: &impl Eprint,
+    reader: &mut impl Read,
+    input: &mut [u8],
+    reason: Reason,
+    left: usize,
+) -> Next
     requires { (left ≤ length input.old) × Resumable (length input.old) reason left }
     ensures { Follows (length input.old) reason (take left input.old)
         result input.new }
 {
     match reason {
-        Reason::AllUsed => join(input, reason, left),
-        Reason::CutShort => join(input, reason, left),
+        Reason::AllUsed => join(rt, reader, input, reason, left),
+        Reason::CutShort => join(rt, reader, input, reason, left),
         Reason::NoRoom => Next::More(left),
         Reason::UnknownCommand => Next::End(Reason::UnknownCommand),
         Reason::WrongLength => Next::End(Reason::WrongLength),
@@ -136,7 +148,7 @@ fn follow(input: &mut [u8], reason: Reason, left: usize) -> Next
 }
 
 // What follows a batch. A report that was not taken is the last.
-fn proceed(input: &mut [u8], b: Batched) -> Next
+fn proceed(rt: &impl Eprint, reader: &mut impl Read, input: &mut [u8], b: Batched) -> Next
     requires { (b.left ≤ length input.old) × Resumable (length input.old) b.reason b.left }
     ensures { Proceeds (length input.old) b.reason (take b.left input.old)
         b.taken result input.new }
@@ -144,24 +156,39 @@ fn proceed(input: &mut [u8], b: Batched) -> Next
     let reason = b.reason;
     let left = b.left;
     if b.taken {
-        return follow(input, reason, left);
+        return follow(rt, reader, input, reason, left);
     }
     Next::Untaken
 }
 
 // A batch over the held bytes, its report, and what follows.
-fn turn(table: &mut [u8], work: &mut [u8], input: &mut [u8], held: usize, report: &mut [u8]) -> Next
+fn turn(
+    rt: &(impl Print + Eprint),
+    reader: &mut impl Read,
+    table: &mut [u8],
+    work: &mut [u8],
+    input: &mut [u8],
+    held: usize,
+    report: &mut [u8],
+) -> Next
     requires { Sound table.old × Buffers work.old input.old report.old × (held ≤ length input.old) }
     ensures { Turned held
         table.old work.old input.old report.old
         result table.new work.new input.new report.new }
 {
-    let b = serve(table, work, input, held, report);
-    proceed(input, b)
+    let b = serve(rt, table, work, input, held, report);
+    proceed(rt, reader, input, b)
 }
 
 // The turns, to the end. Nothing says that an input ends, so they are counted down, from a number that no run uses up.
-fn run(table: &mut [u8], work: &mut [u8], input: &mut [u8], report: &mut [u8]) -> Next
+fn run(
+    rt: &(impl Print + Eprint),
+    reader: &mut impl Read,
+    table: &mut [u8],
+    work: &mut [u8],
+    input: &mut [u8],
+    report: &mut [u8],
+) -> Next
     requires { Sound table.old × Buffers work.old input.old report.old }
     ensures { Series (length input.old) (length report.old) table.old
         result table.new }
@@ -169,7 +196,7 @@ fn run(table: &mut [u8], work: &mut [u8], input: &mut [u8], report: &mut [u8]) -
     let mut held = 0;
     let mut turns = u64::MAX;
     while turns > 0 {
-        let next = turn(table, work, input, held, report);
+        let next = turn(rt, reader, table, work, input, held, report);
         match next {
             Next::More(n) => held = n,
             _ => return next,
@@ -180,31 +207,46 @@ fn run(table: &mut [u8], work: &mut [u8], input: &mut [u8], report: &mut [u8]) -
 }
 
 // The program on its buffers.
-fn serve_all(table: &mut [u8], work: &mut [u8], input: &mut [u8], report: &mut [u8]) -> Next
+fn serve_all(
+    rt: &(impl Print + Eprint),
+    reader: &mut impl Read,
+    table: &mut [u8],
+    work: &mut [u8],
+    input: &mut [u8],
+    report: &mut [u8],
+) -> Next
     requires { (length table.old ≡ table_bytes) × Buffers work.old input.old report.old }
     ensures { Program (length input.old) (length report.old) result table.new }
 {
     service::lay_out(table);
-    run(table, work, input, report)
+    run(rt, reader, table, work, input, report)
 }
 
 // Writes the end mark and the reason's byte. A run that broke off has none.
-fn end(reason: Reason) {
+fn end(rt: &(impl Print + Eprint), reason: Reason) {
     let number = book::reason_number(reason);
     let mark = [END_MARK, number as u8];
-    streams::write_all(&mark);
+    streams::write_all(rt, &mark);
 }
 
-fn main() {
-    if arguments::answered() {
+fn main(rt: HostRuntime) {
+    if arguments::answered(&rt) {
         return;
     }
     let mut table = [0u8; limits::TABLE_BYTES];
     let mut work = [0u8; limits::WORK_BYTES];
     let mut input = [0; 4096];
     let mut report = [0; 8192];
-    let last = serve_all(&mut table, &mut work, &mut input, &mut report);
+    let mut stdin = rt.stdin();
+    let last = serve_all(
+        &rt,
+        &mut stdin,
+        &mut table,
+        &mut work,
+        &mut input,
+        &mut report,
+    );
     if let Next::End(reason) = last {
-        end(reason);
+        end(&rt, reason);
     }
 }

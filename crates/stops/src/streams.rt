@@ -1,59 +1,74 @@
-// Standard input and output. A call that a signal interrupts is made again.
-ghost use Rattle.std.specs.Prelude.{◌<◌, length};
+// The streams of a run. A call that a signal interrupts is made again.
+ghost use Rattle.std.specs.Prelude.{IfOk, ◌<◌, length};
+ghost use Rattle.std.specs.Io.{ReadsAtMost, WritesAtMost};
 ghost use Rattle.stops.specs.Input.{TakenWhole};
 
-// Reads once. Nothing says that signals cease, so the tries are counted down, from a number that no run uses up.
-pub fn read(buffer: &mut [u8]) -> isize
+use std::io;
+use std::io::{Cursor, ErrorKind, Read, Write};
+
+// Reads once, or as often as signals ask. Nothing says that signals cease, so the tries are counted, to a number that
+// no run comes to.
+pub fn read(reader: &mut impl Read, buffer: &mut [u8]) -> io::Result<usize>
     requires { 0 < length buffer.old }
+    ensures { ReadsAtMost result buffer.new }
 {
-    let mut tries = u64::MAX;
-    while tries > 0 {
-        let got = libc::read(libc::STDIN_FILENO, buffer);
-        if got >= 0 {
-            return got;
+    for _ in 0..u64::MAX {
+        match reader.read(buffer) {
+            Err(error) if error.kind() == ErrorKind::Interrupted => {}
+            got => return got,
         }
-        if os::errno() != libc::EINTR {
-            return -1;
-        }
-        tries -= 1;
     }
-    -1
+    Err(io::Error::from(ErrorKind::Interrupted))
 }
 
-// Writes once, or as often as signals ask.
-fn write(bytes: &[u8]) -> isize {
-    let mut tries = u64::MAX;
-    while tries > 0 {
-        let put = libc::write(libc::STDOUT_FILENO, bytes);
-        if put >= 0 {
-            return put;
+// Writes some of the bytes, and tries as often as signals ask: std's own `write_all` gives up after a few tries. A write
+// that takes nothing has failed.
+fn write(rt: &impl Print, bytes: &[u8]) -> io::Result<usize>
+    ensures bound { WritesAtMost result bytes.now }
+    ensures some { IfOk result (λ n. 0 < n) }
+{
+    for _ in 0..u64::MAX {
+        match rt.write_some(bytes) {
+            Ok(0) => return Err(io::Error::from(ErrorKind::WriteZero)),
+            Err(error) if error.kind() == ErrorKind::Interrupted => {}
+            put => return put,
         }
-        if os::errno() != libc::EINTR {
-            return -1;
-        }
-        tries -= 1;
     }
-    -1
+    Err(io::Error::from(ErrorKind::Interrupted))
 }
 
-fn say_not_taken() {
-    os::fail(b"standard output");
+// Names the stream that failed and the cause on standard error. Where that fails too, nobody is left to tell.
+pub fn say_failed(rt: &impl Eprint, stream: &str, error: &io::Error) {
+    let mut text = Cursor::new([0u8; 256]);
+    let _ = write!(text, "{error}");
+    let text = text.into_inner();
+    let cause = cause_in(&text);
+    let _ = eprintln!(rt; "{stream}: {cause}");
+}
+
+// The system's words in an error's text, which stands before zeros, without the number that std adds to them.
+fn cause_in(text: &[u8]) -> &str {
+    let text = str::from_utf8(text).unwrap_or("");
+    let text = text.trim_end_matches('\0');
+    match text.split_once(" (os error ") {
+        Some((cause, _)) => cause,
+        None => text,
+    }
 }
 
 // Writes all the bytes, each write going on where the one before stopped, and answers whether all were taken.
-pub fn write_all(bytes: &[u8]) -> bool
+pub fn write_all(rt: &(impl Print + Eprint), bytes: &[u8]) -> bool
     ensures { TakenWhole result (length bytes.now) }
 {
     let mut done = 0;
     while done < bytes.len() {
-        let rest = &bytes[done..];
-        let put = write(rest);
-        let n = io::count(put, rest);
-        if n == 0 {
-            say_not_taken();
-            return false;
+        match write(rt, &bytes[done..]) {
+            Ok(n) => done += n,
+            Err(error) => {
+                say_failed(rt, "standard output", &error);
+                return false;
+            }
         }
-        done += n;
     }
     true
 }
