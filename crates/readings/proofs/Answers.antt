@@ -13,54 +13,54 @@ use Rattle.readings.specs.Location.{position_of, Stepped, located_at, long_at, n
 
 -- ---- `is_finite`
 
-pub finite-below : (x : Float) → lt x (of_bits binary32 0x7F800000) ≡ true
+pub finite_below : (x : Float) → lt x (of_bits binary32 0x7F800000) ≡ true
     → lt (neg (of_bits binary32 0x7F800000)) x ≡ finite x
 unfolding lt neg of_bits
-finite-below nan h = refl
-finite-below (inf true) h = refl
-finite-below (inf false) h = absurd (true≢false (sym h))
-finite-below (fin s m e) h = refl
+finite_below nan h = refl
+finite_below (inf true) h = refl
+finite_below (inf false) h = absurd (true≢false (sym h))
+finite_below (fin s m e) h = refl
 
-pub finite-not : (x : Float) → lt x (of_bits binary32 0x7F800000) ≡ false → false ≡ finite x
+pub finite_not : (x : Float) → lt x (of_bits binary32 0x7F800000) ≡ false → false ≡ finite x
 unfolding lt of_bits
-finite-not nan h = refl
-finite-not (inf s) h = refl
-finite-not (fin s m e) h = absurd (true≢false h)
+finite_not nan h = refl
+finite_not (inf s) h = refl
+finite_not (fin s m e) h = absurd (true≢false h)
 
-pub finite-told : (x : Float) (q : Bool) → q ≡ finite x → q ≡ true → T (finite x)
-finite-told x q f e = subst T (sym (sym f ∙ e)) tt
+pub finite_told : (x : Float) (q : Bool) → q ≡ finite x → q ≡ true → T (finite x)
+finite_told x q f e = subst T (sym (sym f ∙ e)) tt
 
 -- ---- `reading_at`
 
-pub reading-is : (s : List ℕ) (i e n : ℕ) (x y : Float) → e ≡ long_at s i → n ≡ long_at s (i + 4)
+pub reading_is : (s : List ℕ) (i e n : ℕ) (x y : Float) → e ≡ long_at s i → n ≡ long_at s (i + 4)
     → x ≡ number_of e → y ≡ number_of n → ◌≡◌ {A = Reading} (record { easting = x; northing = y }) (reading_at s i)
-reading-is s i e n x y f g p q =
+reading_is s i e n x y f g p q =
     λ j. record { easting = (p ∙ ap number_of f) j; northing = (q ∙ ap number_of g) j }
 
 -- ---- `survey`
 
-pub stepped-is : {r : Reading} {p : Position} → Stepped r p → p ≡ position_of r
-stepped-is h = λ i. record { east = h.east.is i; north = h.north.is i }
+pub stepped_is : {r : Reading} {p : Position} → Stepped r p → p ≡ position_of r
+stepped_is h = λ i. record { east = h.east.is i; north = h.north.is i }
 
 module _ (r : Reading) (q : Bool) (f : q ≡ finite r.easting) where
-  pub survey-first : q ≡ false → NotFinite ≡ located_at (InMetres r)
+  pub survey_first : q ≡ false → NotFinite ≡ located_at (InMetres r)
   unfolding located_at
-  survey-first e = rw (sym f ∙ e) refl
+  survey_first e = rw (sym f ∙ e) refl
 
-  pub survey-second : q ≡ true → (t : Bool) → t ≡ finite r.northing → t ≡ false → NotFinite ≡ located_at (InMetres r)
+  pub survey_second : q ≡ true → (t : Bool) → t ≡ finite r.northing → t ≡ false → NotFinite ≡ located_at (InMetres r)
   unfolding located_at
-  survey-second e t g d = rw (sym f ∙ e, sym g ∙ d) refl
+  survey_second e t g d = rw (sym f ∙ e, sym g ∙ d) refl
 
-  pub survey-both : q ≡ true → (t : Bool) → t ≡ finite r.northing → t ≡ true → (p : Position) → Stepped r p
+  pub survey_both : q ≡ true → (t : Bool) → t ≡ finite r.northing → t ≡ true → (p : Position) → Stepped r p
       → At p ≡ located_at (InMetres r)
   unfolding located_at
-  survey-both e t g d p h = rw (sym f ∙ e, sym g ∙ d) (ap At (stepped-is h))
+  survey_both e t g d p h = rw (sym f ∙ e, sym g ∙ d) (ap At (stepped_is h))
 
 -- ---- `locate`
 
-pub located-steps : (l : Location) (p : Position) → l ≡ InSteps p → At p ≡ located_at l
+pub located_steps : (l : Location) (p : Position) → l ≡ InSteps p → At p ≡ located_at l
 unfolding located_at
-located-steps l p e = rw e refl
+located_steps l p e = rw e refl
 
-pub located-metres : (l : Location) (r : Reading) (s : Located) → l ≡ InMetres r → s ≡ located_at (InMetres r) → s ≡ located_at l
-located-metres l r s e h = rw e h
+pub located_metres : (l : Location) (r : Reading) (s : Located) → l ≡ InMetres r → s ≡ located_at (InMetres r) → s ≡ located_at l
+located_metres l r s e h = rw e h

@@ -83,6 +83,9 @@ exponent_small k h = le_of_not (λ (g : 149 < k). not-le_of_lt (pow-lt g) h)
 -- ---- THE REMAINDER BY 100 IS EXACT
 pub rem_exact : (x : Float) → T (positive x) → T (fits binary32 x) → HasValue (rem binary32 x (of_bits binary32 0x42C80000)) false (num x % (100 * den x)) (den x)
 unfolding rem of_bits
+rem_exact nan p t = elim p [ ]
+rem_exact (inf _) p t = elim p [ ]
+rem_exact (fin true _ e) p t = elim p [ ]
 rem_exact (fin false zero e) p t = absurd p
 rem_exact (fin false (suc m) (pos k)) p t =
     let r = suc m * 2 ^ k % 100 in
@@ -98,6 +101,9 @@ rem_exact (fin false (suc m) (negsuc k)) p t =
 -- ---- the whole metres of a value below n metres
 pub metres_are : (x : Float) (n : ℕ) → T (positive x) → num x < n * den x → n < 2 ^ 64 → to_unsigned 64 x ≡ num x / den x
 unfolding to_unsigned
+metres_are nan n p h l = elim p [ ]
+metres_are (inf _) n p h l = elim p [ ]
+metres_are (fin true m e) n p h l = elim p [ ]
 metres_are (fin false m e) n p h l = uncapped (m * up e / down e) n (2 ^ 64) ((div-lt_iff_lt-mul (down_pos e)).1 h) l
   where
     uncapped : (a n c : ℕ) → a < n → n < c → min a (c - 1) ≡ a
@@ -106,6 +112,9 @@ metres_are (fin false m e) n p h l = uncapped (m * up e / down e) n (2 ^ 64) ((d
 -- ---- what `truncating_f32_to_u64` asks
 pub truncates : (x : Float) (n : ℕ) → T (positive x) → num x < n * den x → n < 2 ^ 64 → T (lt (fin true 1 (pos 0)) x) × T (lt x (fin false 1 (pos 64)))
 unfolding lt
+truncates nan n p h l = elim p [ ]
+truncates (inf _) n p h l = elim p [ ]
+truncates (fin true m e) n p h l = elim p [ ]
 truncates (fin false m e) n p h l = (
   lt→ltb 0 (1 * down e + m * up e * 1) (omega (arith, down_pos e)),
   lt→ltb (m * up e * 1) (1 * 2 ^ 64 * down e) (omega (arith, mul-le-mul_right (down e) l)),
@@ -125,17 +134,23 @@ factor (suc m) u h = zero-lt-suc m
 -- above it
 pub above_zero : (x : Float) → T (finite x) → lt (of_bits binary32 0) x ≡ true → T (positive x)
 unfolding lt of_bits
+above_zero nan f h = elim f [ ]
+above_zero (inf _) f h = elim f [ ]
 above_zero (fin false m e) f h = lt→ltb 0 m (factor m (up e) (omega (arith, is_below (0 * down e) (m * up e * 1) h)))
 above_zero (fin true m e) f h = absurd (true≢false (sym h))
 
 -- below it
 pub below_zero : (x : Float) → T (finite x) → lt x (of_bits binary32 0) ≡ true → T (positive (neg x))
 unfolding lt of_bits neg
+below_zero nan f h = elim f [ ]
+below_zero (inf _) f h = elim f [ ]
 below_zero (fin false m e) f h = absurd (omega (arith, is_below (m * up e * 1) (0 * down e) h))
 below_zero (fin true m e) f h = lt→ltb 0 m (factor m (up e) (omega (arith, is_below 0 (m * up e * 1 + 0 * down e) h)))
 
 -- at it, with either sign
 pub at_zero : (x : Float) → T (finite x) → lt (of_bits binary32 0) x ≡ false → lt x (of_bits binary32 0) ≡ false → num x ≡ 0
 unfolding lt of_bits
+at_zero nan f g h = elim f [ ]
+at_zero (inf _) f g h = elim f [ ]
 at_zero (fin false m e) f g h = omega (arith, is_not (0 * down e) (m * up e * 1) g)
 at_zero (fin true m e) f g h = omega (arith, is_not 0 (m * up e * 1 + 0 * down e) h)

@@ -26,7 +26,7 @@ pub half_is : (b k : ℕ) → T (finite? b) → units b ≡ 100 * k * metre + 50
 half_is b k f e l =
     let r = of b f in
     let s = r.half k e in
-    r.on_grid_lem (omega arith) ∙ ap (sided (negative b)) s
+    r.on_grid (omega arith) ∙ ap (sided (negative b)) s
 
 -- near the step k
 pub near_is : (b k : ℕ) → T (finite? b) → Nearest (units b) metre k → k ≤ half_width
@@ -34,13 +34,13 @@ pub near_is : (b k : ℕ) → T (finite? b) → Nearest (units b) metre k → k 
 near_is b k f n l =
     let r = of b f in
     let s = r.only k n in
-    r.on_grid_lem (omega arith) ∙ ap (sided (negative b)) (sym s)
+    r.on_grid (omega arith) ∙ ap (sided (negative b)) (sym s)
 
 -- beyond the grid's last half
 pub beyond_is : (b : ℕ) → T (finite? b) → (100 * half_width + 50) * metre ≤ units b → coordinate_in (number_of b) ≡ from_word 32767
 beyond_is b f l =
     let r = of b f in
-    r.off_grid_lem (omega (arith, nearest_only (units b) metre r.step metre_pos r.nearest, passes (units b) metre half_width metre_pos l))
+    r.off_grid (omega (arith, nearest_only (units b) metre r.step metre_pos r.nearest, passes (units b) metre half_width metre_pos l))
 
 -- 50 m: step 1; the number below it, 49.999996 m: step 0
 pub half_up : coordinate_in (number_of 0x42480000) ≡ half_width + 1

@@ -10,7 +10,7 @@ use Rattle.readings.specs.Reading.{negative, finite?, metre, units, Nearest, nea
 use Rattle.readings.specs.Location.{coordinate_in, position_of, both_finite, long_at, number_of, reading_at}
 use Rattle.readings.specs.Patterns.{sided, Receives}
 use Rattle.readings.proofs.Rounding.{nearest_is, nearest_only}
-use Rattle.readings.proofs.StepWords.{within_of, on_grid_lem, word_east, word_west, word_off}
+use Rattle.readings.proofs.StepWords.{within_of, on_grid, word_east, word_west, word_off}
 use Rattle.readings.proofs.Patterns.{metre_pos, pattern_value, number_finite, finite_number, coordinate_number}
 
 -- ---- the nearest step: there is one, and `nearest_step` computes it
@@ -70,8 +70,8 @@ every_pattern b =
             nearest = nearest_pattern b;
             only = nearest_pattern_only b;
             half = λ j e. ap (λ (u : ℕ). nearest_step u metre) e ∙ half_away j metre metre_pos;
-            on_grid_lem = λ l. x ∙ side_of (negative b) k l;
-            off_grid_lem = λ l. x ∙ word_off (negative b) k l;
+            on_grid = λ l. x ∙ side_of (negative b) k l;
+            off_grid = λ l. x ∙ word_off (negative b) k l;
             within = λ l. rw x (within_of (negative b) (units b) metre metre_pos (rw x at l));
           };
     }

@@ -1,8 +1,8 @@
 -- The nearest step to a / c metres: that it is the nearest, that it is the only one, and how a remainder by 100 finds
 -- it.
 -- Assumes nothing.
-use Rattle.std.proofs.Common.{◌≡◌, ℕ, suc, ◌+◌, ◌*◌, ◌/◌, ◌%◌, ◌<◌, ◌≤◌, sym, le_of_suc-le-suc, mod-lt, mul_comm, div-lt_iff_lt-mul, le_antisymm, le-div_iff_mul-le, arith}
-use native.Mathlib.Nat.{div-add-mod, div-div-eq-div-mul}
+use Rattle.std.proofs.Common.{◌≡◌, ℕ, suc, ◌+◌, ◌*◌, ◌/◌, ◌%◌, ◌<◌, ◌≤◌, sym, le_of_suc-le-suc, mod-lt, mul_comm, div-lt_iff_lt-mul, le_antisymm, le-div_iff_mul-le, arith, refl}
+use native.Mathlib.Nat.{div-add-mod, div-div-eq-div-mul, add-mul-div_right}
 use lib.Ieee.Nearest.{div_same}
 use Rattle.readings.specs.Reading.{Nearest, nearest_step}
 
@@ -59,6 +59,19 @@ rest_above a c h l =
     let e = hundreds a c h in
     let m = mod-lt a {m = 100 * c} (omega arith) in
     nearest_only a c (a / c / 100 + 1) h (record { below = omega arith; above = omega arith; half = λ g. omega arith })
+
+-- the nearest step by the whole metres alone: what is left of a metre is less than the next half
+by_metres : (a c : ℕ) → 0 < c → nearest_step a c ≡ (a / c + 50) / 100
+unfolding nearest_step
+by_metres a c h = rw (mul_comm 100 c, sym (div-div-eq-div-mul (a + 50 * c) c 100), add-mul-div_right a 50 h) refl
+
+-- FEWER THAN 50 WHOLE METRES ARE LEFT: the step below
+pub metres_below : (a c m : ℕ) → 0 < c → m ≡ a / c → m % 100 < 50 → m / 100 ≡ nearest_step a c
+metres_below a c m h e l = omega (arith, e, by_metres a c h)
+
+-- 50 OR MORE: the step above
+pub metres_above : (a c m : ℕ) → 0 < c → m ≡ a / c → 50 ≤ m % 100 → m / 100 + 1 ≡ nearest_step a c
+metres_above a c m h e l = omega (arith, e, by_metres a c h)
 
 -- nothing is at step 0
 pub nearest_zero : (c : ℕ) → 0 < c → nearest_step 0 c ≡ 0

@@ -83,8 +83,8 @@ unfolding from_word
 off_far = lit< tt
 
 -- "The grid limit is tested on the step": the coordinate is on the grid exactly where the step is
-pub on_grid_lem : (s : Bool) (k : ℕ) → from_word (step_word s k) ≤ grid_width → k ≤ half_width
-on_grid_lem s k h = go (dec_le k half_width)
+pub on_grid : (s : Bool) (k : ℕ) → from_word (step_word s k) ≤ grid_width → k ≤ half_width
+on_grid s k h = go (dec_le k half_width)
   where
     go : Dec (k ≤ half_width) → k ≤ half_width
     go (yes l) = l
@@ -105,8 +105,8 @@ near_west a c k x e n =
 
 pub within_of : (s : Bool) (a c : ℕ) → 0 < c → from_word (step_word s (nearest_step a c)) ≤ grid_width → Within s a c (from_word (step_word s (nearest_step a c)))
 within_of false a c C h =
-    let l = on_grid_lem false (nearest_step a c) h in
+    let l = on_grid false (nearest_step a c) h in
     rw (word_east (nearest_step a c) l) (near_east a c (nearest_step a c) (nearest_is a c C))
 within_of true a c C h =
-    let l = on_grid_lem true (nearest_step a c) h in
+    let l = on_grid true (nearest_step a c) h in
     rw (word_west (nearest_step a c) l) (near_west a c (nearest_step a c) (half_width - nearest_step a c) (omega arith) (nearest_is a c C))

@@ -26,8 +26,8 @@ pub record RoundsTo (b x : ℕ) : Type 0 where
   -- "exact halves away from zero"
   pub half : (k : ℕ) → units b ≡ 100 * k * metre + 50 * metre → step ≡ k + 1
   -- "The grid limit is tested on the step"
-  pub on_grid_lem : step ≤ half_width → x ≡ sided (negative b) step
-  pub off_grid_lem : half_width < step → x ≡ from_word beyond_step
+  pub on_grid : step ≤ half_width → x ≡ sided (negative b) step
+  pub off_grid : half_width < step → x ≡ from_word beyond_step
   -- "it lies within 50 m of the step exactly"
   pub within : x ≤ grid_width → Within (negative b) (units b) metre x
 

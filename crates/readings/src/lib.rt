@@ -1,4 +1,6 @@
 // Receiver readings: 32-bit IEEE 754 numbers of metres, and the nearest step of 100 m. Document 02, C-15.
+#![tactic(auto)]
+
 ghost use Rattle.std.specs.Prelude.{◌≡◌, ◌+◌, ◌<◌, ◌≤◌, T, length};
 ghost use Rattle.std.specs.Float.Ieee.Scale.{finite};
 ghost use Rattle.std.specs.Float.Ieee.Positive.{positive};
@@ -7,21 +9,21 @@ ghost use Rattle.readings.specs.Location.{steps_of, Rounded, Stepped, located_at
 use grid::Position;
 
 // What a receiver shows, in metres from the grid's origin.
-#[derive(Drop)]
+#[derive(Clone, Copy)]
 pub struct Reading {
     pub easting: f32,
     pub northing: f32,
 }
 
 // A command's position: "either steps or a pair of receiver readings".
-#[derive(Drop)]
+#[derive(Clone, Copy)]
 pub enum Location {
     InSteps(Position),
     InMetres(Reading),
 }
 
 // Where that is, in steps.
-#[derive(Drop)]
+#[derive(Clone, Copy)]
 pub enum Located {
     NotFinite,
     At(Position),
@@ -31,7 +33,8 @@ pub enum Located {
 const BEYOND_STEP: u16 = 32767;
 
 // The nearest step to a reading above zero, exact halves up; 32,767 where the grid does not reach. Readings beyond the
-// grid are told first, so that remainder and step meet small numbers alone.
+// grid are told first, so that remainder and step meet small numbers alone. The remainder of the whole metres by 100
+// shows which side of a half the reading is on: halves lie at whole metres.
 fn steps(x: f32) -> u16
     requires { T (positive x) }
     ensures { result ≡ steps_of x }
@@ -40,8 +43,8 @@ fn steps(x: f32) -> u16
     if x < edge {
         let metres = std::num::truncating_f32_to_u64(x);
         let below = (metres / 100) as u16;
-        let rest = x % 100.0;
-        if rest < 50.0 {
+        let rest = metres % 100;
+        if rest < 50 {
             return below;
         }
         return below + 1;
