@@ -32,7 +32,9 @@ def antt(kinds):
 
 
 def walked(path):
-    return path.rsplit("/", 1)[-1] in ("Proof.antt", "Answers.antt", "Invariants.antt")
+    """Whether a file is a function's proof, in a folder of its own; a file right in proofs/ is one of lemmas."""
+    inside = path.split("/proofs/", 1)[-1]
+    return "/" in inside and inside.rsplit("/", 1)[-1] in ("Proof.antt", "Answers.antt", "Invariants.antt")
 
 
 def snake(name):

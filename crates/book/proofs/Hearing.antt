@@ -1,17 +1,17 @@
 -- What a listener hears of a call is its turns: the commands are those of the bytes used, and each record is read back.
 -- Assumes nothing.
-use mathlib.Core.Path.{◌≡◌, refl, sym, ap, ◌∙◌, subst, subst⁻¹}
+use mathlib.Core.Path.{◌≡◌, refl, sym, ap, ◌∙◌}
 use mathlib.Core.Bool.{Bool, true, false, cond}
-use mathlib.Core.List.{List, [], ◌∷◌, ◌++◌, map, append_assoc, append-nil}
+use mathlib.Core.List.{List, [], ◌∷◌, ◌++◌, map}
 use Prim.Native.Nat.{ℕ, zero, suc, ◌+◌, ◌≤◌, ◌<◌}
 use native.Mathlib.Omega.{arith}
-use lib.ListN.{length, get_or, drop}
+use lib.ListN.{length, drop}
 use lib.Seq.{drop-append_seam}
 use lib.Dec.{leb}
 use borrow.Author.Tests.{le-leb, lt-leb}
 use Rattle.split.specs.SplitList.{Entry}
 use Rattle.records.specs.ListRecord.{record_bytes, list_size}
-use Rattle.records.specs.Decode.{Listed, listed_of, read2, read_record}
+use Rattle.records.specs.Decode.{listed_of, read_record}
 use Rattle.records.proofs.Length.{record_length}
 use Rattle.records.proofs.ReadBack.{read_count}
 use Rattle.book.specs.declared.Command.{Command}
@@ -25,8 +25,8 @@ use Rattle.book.specs.Book.{Book}
 use Rattle.book.specs.Proper.{Proper}
 use Rattle.book.specs.Reply.{Reply, done, refused, listed, record_of}
 use Rattle.book.specs.Answer.{answer, after}
-use Rattle.book.specs.Run.{Turn, records, Outcome, ends, turn, run_from, run, after_all}
-use Rattle.book.specs.Listener.{Told, said_done, said_refused, said_list, read_reply, reply_bytes, Exchange, hear_records, and_on, commands_from, commands_in}
+use Rattle.book.specs.Run.{Turn, records, Outcome, ends, turn, run_from, run}
+use Rattle.book.specs.Listener.{Told, said_done, said_refused, said_list, read_reply, reply_bytes, Exchange, hear_records, commands_from, commands_in}
 use Rattle.book.proofs.Parsing.{parse_next}
 use Rattle.book.proofs.Lists.{BookList, answer_list, listed_few, listed_read}
 use Rattle.book.proofs.Runs.{turn_of, Answered}

@@ -30,17 +30,20 @@ use Rattle.book.specs.Proper.{LegOk, LastHeld, TourOk, Proper}
 use Rattle.book.specs.Reply.{Reply, done, refused, listed, record_of, record_size}
 use Rattle.book.specs.Answer.{answer, leg_asked, shown_by}
 use Rattle.book.proofs.Lines.{member_holds}
-use Rattle.book.proofs.Answers.{done-not-listed, accepted-listed, ListFits, list-accepted, PrintFits, print-accepted, CornerFits, corner-accepted}
+use Rattle.book.proofs.Answers.{done_not_listed, accepted_listed, ListFits, list_accepted, PrintFits, print_accepted, CornerFits, corner_accepted}
 use Rattle.book.proofs.LegRecords.{EndOf, left_ends, end_member, end_length}
 use Rattle.book.proofs.ProperBooks.{proper_numbered}
 
 -- a listed site is held
-pub listed_held : (l : Leg) (s : List Site) (es : List Entry) → Stretches l s es → (f : Entry) → Memᴰ f es → Memᴰ f.site s
-listed_held l s es h f (Memᴰ.head {x = e} {xs = rest} q) =
+held_of : (l : Leg) (s : List Site) (f : Entry) (es : List Entry) → Stretches l s es → Memᴰ f es → Memᴰ f.site s
+held_of l s f es h (Memᴰ.head {x = e} {xs = rest} q) =
     let r : Below e.start (end_of rest) = h.0.rises in
     let t : IsFraction (mid e.start (end_of rest)) = mid_fraction e.start (end_of rest) (end_fraction l s (e ∷ rest) h) (end_fraction l s rest h.1) in
     subst (λ (g : Entry). Memᴰ g.site s) (sym q) (h.0.leads (mid e.start (end_of rest)) t (omega arith) (omega arith)).held
-listed_held l s es h f (Memᴰ.tail {x = e} {xs = rest} m) = listed_held l s rest h.1 f m
+held_of l s f es h (Memᴰ.tail {x = e} {xs = rest} m) = held_of l s f rest h.1 m
+
+pub listed_held : (l : Leg) (s : List Site) (es : List Entry) → Stretches l s es → (f : Entry) → Memᴰ f es → Memᴰ f.site s
+listed_held l s es h f m = held_of l s f es h m
 
 -- THE LAST SITE OF A LIST is held
 pub last_held : (l : Leg) (s : List Site) (o : Option ℕ) (es : List Entry) → Stretches l s es → LastHeld o s → LastHeld (last_number o es) s
@@ -89,19 +92,19 @@ module _ (b : Book) (ok : Proper b) where
 
   -- A LISTED ANSWER is what the command shows of document 01's split list of its leg over the book's sites
   pub answer_list : (c : Command) (es : List Entry) → answer b c ≡ listed es → BookList b c es
-  answer_list (Add n l) es h = absurd (done-not-listed es (accepted-listed b (Add n l) es h))
-  answer_list (Remove n) es h = absurd (done-not-listed es (accepted-listed b (Remove n) es h))
-  answer_list (Move n l) es h = absurd (done-not-listed es (accepted-listed b (Move n l) es h))
+  answer_list (Add n l) es h = absurd (done_not_listed es (accepted_listed b (Add n l) es h))
+  answer_list (Remove n) es h = absurd (done_not_listed es (accepted_listed b (Remove n) es h))
+  answer_list (Move n l) es h = absurd (done_not_listed es (accepted_listed b (Move n l) es h))
   answer_list (ListOf l) es h =
-      let f : ListFits b l es = list-accepted b l es h in
+      let f : ListFits b l es = list_accepted b l es h in
       record { leg = l; asked = refl; is = f.is; on_grid = f.on_grid }
-  answer_list (Stand l) es h = absurd (done-not-listed es (accepted-listed b (Stand l) es h))
+  answer_list (Stand l) es h = absurd (done_not_listed es (accepted_listed b (Stand l) es h))
   answer_list Print es h =
-      let f : PrintFits b es = print-accepted b es h in
+      let f : PrintFits b es = print_accepted b es h in
       record { leg = f.line; asked = f.stands; is = f.is; on_grid = leg_ok_lem f.line f.stands }
-  answer_list (Begin p) es h = absurd (done-not-listed es (accepted-listed b (Begin p) es h))
+  answer_list (Begin p) es h = absurd (done_not_listed es (accepted_listed b (Begin p) es h))
   answer_list (Corner p) es h =
-      let f : CornerFits b p es = corner-accepted b p es h in
+      let f : CornerFits b p es = corner_accepted b p es h in
       record {
         leg = leg_to f.tour p;
         asked = ap (λ (o : Option Tour). tour_leg o p) f.runs;

@@ -23,7 +23,7 @@ use Rattle.book.specs.Reply.{done}
 use Rattle.book.specs.Answer.{answer, after}
 use Rattle.book.specs.Run.{Turn, records, Outcome, ends, run, after_all}
 use Rattle.book.proofs.Lines.{write_length, holds_write}
-use Rattle.book.proofs.Answers.{answer-add-done}
+use Rattle.book.proofs.Answers.{answer_add_done}
 use Rattle.book.proofs.ReadBack.{all_bytes, AllEncodable, turns_of, run_commands}
 use Rattle.permutation.proofs.Perms.{perm_member, perm_length}
 use Rattle.book.proofs.Orders.{write_all, write_all_append, Apart, rising_apart, perm_apart, write_order}
@@ -93,7 +93,7 @@ fillable_next a p s h =
 add_done : (a : List Site) (p : Site) (s : List Site) → Fillable a (p ∷ s) → answer (leg_free a) (Add p.number (InSteps p.position)) ≡ done
 add_done a p s h =
     let m : Memᴰ p (p ∷ s) = mathlib.Core.List.Memᴰ.head refl in
-    answer-add-done (leg_free a) p.number (InSteps p.position) (omega (arith, (h.numbers p m).least)) refl (h.on_grid p m) (h.new p m) (omega (arith, h.few))
+    answer_add_done (leg_free a) p.number (InSteps p.position) (omega (arith, (h.numbers p m).least)) refl (h.on_grid p m) (h.new p m) (omega (arith, h.few))
 
 -- the sites x were added, and the rest still may be
 record Filled (a x rest : List Site) : Type 0 where

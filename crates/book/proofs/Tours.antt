@@ -21,7 +21,7 @@ use Rattle.book.specs.Reply.{Reply, done, refused, listed}
 use Rattle.book.specs.Answer.{answer, after}
 use Rattle.book.specs.Run.{Turn, after_all}
 use Rattle.book.specs.Listener.{said_list, Exchange, Trip, onward, hear, hear_all, after_told, after_heard, last_heard, said_at, LegTold, heard_leg}
-use Rattle.book.proofs.Answers.{answer-list-done, done-not-listed, accepted-listed, CornerFits, corner-accepted, corner-not-done}
+use Rattle.book.proofs.Answers.{answer_list_done, done_not_listed, accepted_listed, CornerFits, corner_accepted, corner_not_done}
 use Rattle.book.proofs.ProperBooks.{proper_numbered}
 use Rattle.book.proofs.LegRecords.{last_read, last_append, left_last, left_said, opens_some}
 use Rattle.book.proofs.Runs.{Answered, answered_at}
@@ -53,7 +53,7 @@ module _ (b : Book) (ok : Proper b) where
             let t : Tour = record { corner = k.corner; last = last_heard k } in
             let same : f.tour ≡ t = cc in
             let last : last_number t.last (left_out t.last (split_of (leg_to t p) (sites_of b))) ≡ last_number none (split_of (leg_to t p) (sites_of b)) =
-            left_last t.last (split_of (leg_to t p) (sites_of b)) (whole_some t p f.some-site) in
+            left_last t.last (split_of (leg_to t p) (sites_of b)) (whole_some t p f.some_site) in
             let shown : es ≡ left_out t.last (split_of (leg_to t p) (sites_of b)) =
             f.is ∙ ap (λ (x : Tour). left_out x.last (split_of (leg_to x p) (sites_of b))) same in
             ap (λ (x : Option Tour). goes_on x p (list_of (tour_leg x p) (sites_of b))) q
@@ -70,18 +70,18 @@ module _ (b : Book) (ok : Proper b) where
     done_heard (Stand l) a = e
     done_heard Print a = e
     done_heard (Begin p) a = refl
-    done_heard (Corner p) a = absurd (corner-not-done b p a)
+    done_heard (Corner p) a = absurd (corner_not_done b p a)
 
     listed_heard : (c : Command) (es : List Entry) → answer b c ≡ listed es → (change c b).tour ≡ as_tour (hear h c (told_of (listed es)))
     unfolding change
-    listed_heard (Add n l) es a = absurd (done-not-listed es (accepted-listed b (Add n l) es a))
-    listed_heard (Remove n) es a = absurd (done-not-listed es (accepted-listed b (Remove n) es a))
-    listed_heard (Move n l) es a = absurd (done-not-listed es (accepted-listed b (Move n l) es a))
+    listed_heard (Add n l) es a = absurd (done_not_listed es (accepted_listed b (Add n l) es a))
+    listed_heard (Remove n) es a = absurd (done_not_listed es (accepted_listed b (Remove n) es a))
+    listed_heard (Move n l) es a = absurd (done_not_listed es (accepted_listed b (Move n l) es a))
     listed_heard (ListOf l) es a = e
-    listed_heard (Stand l) es a = absurd (done-not-listed es (accepted-listed b (Stand l) es a))
+    listed_heard (Stand l) es a = absurd (done_not_listed es (accepted_listed b (Stand l) es a))
     listed_heard Print es a = e
-    listed_heard (Begin p) es a = absurd (done-not-listed es (accepted-listed b (Begin p) es a))
-    listed_heard (Corner p) es a = corner_heard p es (corner-accepted b p es a)
+    listed_heard (Begin p) es a = absurd (done_not_listed es (accepted_listed b (Begin p) es a))
+    listed_heard (Corner p) es a = corner_heard p es (corner_accepted b p es a)
 
     -- WHAT THE BOOK REMEMBERS IS WHAT IS HEARD
     turn_heard : (c : Command) (y : Reply) → y ≡ answer b c → (after b c y).tour ≡ as_tour (hear h c (told_of y))
@@ -94,11 +94,11 @@ module _ (b : Book) (ok : Proper b) where
     corner_told p es a = go h e
       where
         f : CornerFits b p es
-        f = corner-accepted b p es a
+        f = corner_accepted b p es a
 
         go : (o : Option Trip) → b.tour ≡ as_tour o → LegTold b o p (map listed_of es)
         go none q = absurd (let z : ◌≡◌ {A = ℕ} 0 1 = (let s = f.runs in cc) in omega arith)
-        go (some k) q = by (split_of (leg_to t p) (sites_of b)) (whole_is t p) refl (whole_some t p f.some-site)
+        go (some k) q = by (split_of (leg_to t p) (sites_of b)) (whole_is t p) refl (whole_some t p f.some_site)
           where
             t : Tour
             t = record { corner = k.corner; last = last_heard k }
@@ -120,7 +120,7 @@ module _ (b : Book) (ok : Proper b) where
                   tour = k;
                   heard = refl;
                   whole = x ∷ w;
-                  by4_c = answer-list-done b (leg_to t p) (record { s = fits.on_grid; e = f.on_grid }) f.some-site ∙ ap listed z;
+                  by4_c = answer_list_done b (leg_to t p) (record { s = fits.on_grid; e = f.on_grid }) f.some_site ∙ ap listed z;
                   everywhere = λ u fu.
                       record {
                         site = name_from u x w;

@@ -32,7 +32,7 @@ use Rattle.book.specs.Reply.{Reply, done, refused, listed, record_of}
 use Rattle.book.specs.Answer.{answer, after}
 use Rattle.book.specs.Run.{Turn, records, Outcome, ends, run}
 use Rattle.book.specs.WrittenOut.{step_operands, add_written, move_written, whole_written, cut_written, finite_whole, written_by, written_in, written_bytes, FiniteBy, FiniteIn, AllFinite}
-use Rattle.book.proofs.Answers.{same_add, same_move, same-added, same-moved}
+use Rattle.book.proofs.Answers.{same_add, same_move, same_added, same_moved}
 use Rattle.book.proofs.Parsing.{parse_whole, parse_cut, parse_next, parse_end}
 use Rattle.book.proofs.ReadBack.{made_behind}
 use Rattle.book.proofs.Prefixes.{made_front, parse_front}
@@ -183,7 +183,7 @@ module _ (q : List ℕ) (f : (finite? (long_at q 3) && finite? (long_at q 7)) �
             ∙ (λ j. Whole (add_at (written_number 0x41 j) (written_steps 0x41 j)) 7);
         same = record {
           replies = λ b. ap (answer b) e ∙ same_add b (word_at q 1) (InMetres (reading_at q 3)) are_finite steps w;
-          changes = λ b. ap (λ (x : Command). change x b) e ∙ same-added b (word_at q 1) (InMetres (reading_at q 3)) steps w;
+          changes = λ b. ap (λ (x : Command). change x b) e ∙ same_added b (word_at q 1) (InMetres (reading_at q 3)) steps w;
         };
       }
 
@@ -200,7 +200,7 @@ module _ (q : List ℕ) (f : (finite? (long_at q 3) && finite? (long_at q 7)) �
             ∙ (λ j. Whole (move_to (written_number 0x4D j) (written_steps 0x4D j)) 7);
         same = record {
           replies = λ b. ap (answer b) e ∙ same_move b (word_at q 1) (InMetres (reading_at q 3)) are_finite steps w;
-          changes = λ b. ap (λ (x : Command). change x b) e ∙ same-moved b (word_at q 1) (InMetres (reading_at q 3)) steps w;
+          changes = λ b. ap (λ (x : Command). change x b) e ∙ same_moved b (word_at q 1) (InMetres (reading_at q 3)) steps w;
         };
       }
 

@@ -1,11 +1,13 @@
 // The site book of document 01: commands, causes and reasons as the code has them. What the book does with them
 // stands in specs/.
+#![tactic(auto)]
+
 use grid::{Leg, Position};
 use readings::Location;
 
 // A command with its operands. Document 01, "Buffers and batches"; the last two are those of document 02, C-13. Added
 // and moved is to steps or to receiver readings: document 02, C-15, "Commands 61 and 6D do what 41 and 4D do".
-#[derive(Drop)]
+#[derive(Clone, Copy)]
 pub enum Command {
     Add(u16, Location),
     Remove(u16),
@@ -19,7 +21,7 @@ pub enum Command {
 
 // The operands of a command. Document 01, the column "Operands": none; number; position; number,
 // position; S, E; and a number with two receiver readings (document 02, C-15).
-#[derive(Drop)]
+#[derive(Clone, Copy)]
 pub enum Shape {
     Nothing,
     Number,
@@ -31,7 +33,7 @@ pub enum Shape {
 
 // What stands at a byte of the commands: their end, no command, a command that is cut short, or a whole one and where
 // the next begins.
-#[derive(Drop)]
+#[derive(Clone, Copy)]
 pub enum Parsed {
     End,
     Unknown,
@@ -40,7 +42,7 @@ pub enum Parsed {
 }
 
 // Why a command is refused. Document 01, "Causes and numbers", 1 to 7; document 02, 8 (C-13) and 11 (C-15).
-#[derive(Drop)]
+#[derive(Clone, Copy)]
 pub enum Cause {
     NumberZero,
     OffGrid,
@@ -54,7 +56,7 @@ pub enum Cause {
 }
 
 // How a call ends: 0, and 64 to 69.
-#[derive(Drop)]
+#[derive(Clone, Copy)]
 pub enum Reason {
     AllUsed,
     WrongLength,
@@ -66,7 +68,7 @@ pub enum Reason {
 }
 
 // What a batch call returns: the reason, the command bytes used, the report bytes written.
-#[derive(Drop)]
+#[derive(Clone, Copy)]
 pub struct BatchResult {
     pub reason: Reason,
     pub used: usize,

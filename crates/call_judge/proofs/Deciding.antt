@@ -26,7 +26,7 @@ use Rattle.book.specs.Book.{sites_of}
 use Rattle.book.specs.Proper.{LegOk, NumberOk}
 use Rattle.book.specs.Reply.{refused, listed}
 use Rattle.book.specs.Answer.{answer}
-use Rattle.book.proofs.Answers.{answer-add-zero, answer-add-not-finite, answer-add-off, answer-add-held, answer-add-full, answer-add-done, answer-remove-zero, answer-remove-absent, answer-remove-done, answer-move-zero, answer-move-not-finite, answer-move-off, answer-move-absent, answer-move-done, answer-list-off, answer-list-empty, answer-list-done, answer-stand-off, answer-stand-done, answer-print-legless, answer-print-empty, answer-print-done, same_add, same_move}
+use Rattle.book.proofs.Answers.{answer_add_zero, answer_add_not_finite, answer_add_off, answer_add_held, answer_add_full, answer_add_done, answer_remove_zero, answer_remove_absent, answer_remove_done, answer_move_zero, answer_move_not_finite, answer_move_off, answer_move_absent, answer_move_done, answer_list_off, answer_list_empty, answer_list_done, answer_stand_off, answer_stand_done, answer_print_legless, answer_print_empty, answer_print_done, same_add, same_move}
 use Rattle.split.specs.SplitOf.{split_of}
 use Rattle.table_header.specs.declared.Standing.{Standing}
 use Rattle.table_header.specs.Header.{count_in, leg_in, as_option}
@@ -155,9 +155,9 @@ module _ (n : ℕ) (l : Location) (r : Tested) (h : TestedAs r n l) where
     bad_add x e = refused_so_lem b (Add n l) x (go x (bad x e))
       where
         go : (y : Cause) → BadFor y n l → answer (book_of b) (Add n l) ≡ refused y
-        go NumberZero k = answer-add-zero (book_of b) n l k
-        go NotFinite k = answer-add-not-finite (book_of b) n l k.0 k.1
-        go OffGrid k = answer-add-off (book_of b) n l k.0 k.1 k.2
+        go NumberZero k = answer_add_zero (book_of b) n l k
+        go NotFinite k = answer_add_not_finite (book_of b) n l k.0 k.1
+        go OffGrid k = answer_add_off (book_of b) n l k.0 k.1 k.2
         go Held k = absurd k
         go NotHeld k = absurd k
         go Full k = absurd k
@@ -169,9 +169,9 @@ module _ (n : ℕ) (l : Location) (r : Tested) (h : TestedAs r n l) where
     bad_move x e = refused_so_lem b (Move n l) x (go x (bad x e))
       where
         go : (y : Cause) → BadFor y n l → answer (book_of b) (Move n l) ≡ refused y
-        go NumberZero k = answer-move-zero (book_of b) n l k
-        go NotFinite k = answer-move-not-finite (book_of b) n l k.0 k.1
-        go OffGrid k = answer-move-off (book_of b) n l k.0 k.1 k.2
+        go NumberZero k = answer_move_zero (book_of b) n l k
+        go NotFinite k = answer_move_not_finite (book_of b) n l k.0 k.1
+        go OffGrid k = answer_move_off (book_of b) n l k.0 k.1 k.2
         go Held k = absurd k
         go NotHeld k = absurd k
         go Full k = absurd k
@@ -191,18 +191,18 @@ module _ (b : List ℕ) (n : ℕ) (f : Found) (k : ℕ) (t : Sound b) (a : Found
 
 module _ (b : List ℕ) (n : ℕ) where
   pub remove_zero : n ≡ 0 → Settled (Verdict.Refuse NumberZero) (Remove n) b
-  remove_zero z = refused_so_lem b (Remove n) NumberZero (answer-remove-zero (book_of b) n z)
+  remove_zero z = refused_so_lem b (Remove n) NumberZero (answer_remove_zero (book_of b) n z)
 
   module _ (f : Found) (k : ℕ) (z : n ≢ 0) (a : FoundAs f n (lines_in b)) where
     pub remove_absent : f ≡ Found.Absent k → Settled (Verdict.Refuse NotHeld) (Remove n) b
-    remove_absent e = refused_so_lem b (Remove n) NotHeld (answer-remove-absent (book_of b) n z (absent_held (found_absent e a)))
+    remove_absent e = refused_so_lem b (Remove n) NotHeld (answer_remove_absent (book_of b) n z (absent_held (found_absent e a)))
 
     pub remove_done : (r : ℕ) → f ≡ Found.At k → r ≡ k → Settled (Verdict.Delete r n) (Remove n) b
     remove_done r e q =
         subst⁻¹ (λ (x : ℕ). Settled (Verdict.Delete x n) (Remove n) b) q
         (record {
           decided = λ w. record {
-            judged = record { said = sym (answer-remove-done (book_of b) n z (at_held (found_at e a))); row = tt };
+            judged = record { said = sym (answer_remove_done (book_of b) n z (at_held (found_at e a))); row = tt };
             found = found_at e a;
             command = refl;
           };
@@ -213,12 +213,12 @@ module _ (b : List ℕ) (s : Site) (ok : NumberOk s) (on : OnGrid s.position) (f
   positive z = omega (arith, ok.least)
 
   pub add_held_lem : f ≡ Found.At k → Settled (Verdict.Refuse Held) (Add s.number (InSteps s.position)) b
-  add_held_lem e = refused_so_lem b (Add s.number (InSteps s.position)) Held (answer-add-held (book_of b) s.number (InSteps s.position) positive refl on (at_held (found_at e a)))
+  add_held_lem e = refused_so_lem b (Add s.number (InSteps s.position)) Held (answer_add_held (book_of b) s.number (InSteps s.position) positive refl on (at_held (found_at e a)))
 
   pub add_full : (m : ℕ) → f ≡ Found.Absent k → m ≡ count_in b → m ≡ max_sites → Settled (Verdict.Refuse Full) (Add s.number (InSteps s.position)) b
   add_full m e c x =
       refused_so_lem b (Add s.number (InSteps s.position)) Full
-      (answer-add-full (book_of b) s.number (InSteps s.position) positive refl on (absent_held (found_absent e a)) (lines_length b ∙ sym c ∙ x))
+      (answer_add_full (book_of b) s.number (InSteps s.position) positive refl on (absent_held (found_absent e a)) (lines_length b ∙ sym c ∙ x))
 
   pub add_done : (m r : ℕ) → Sound b → f ≡ Found.Absent k → m ≡ count_in b → m ≢ max_sites → r ≡ k → Settled (Verdict.Insert r s) (Add s.number (InSteps s.position)) b
   add_done m r t e c x q =
@@ -226,7 +226,7 @@ module _ (b : List ℕ) (s : Site) (ok : NumberOk s) (on : OnGrid s.position) (f
       (record {
         decided = λ w. record {
           judged = record {
-            said = sym (answer-add-done (book_of b) s.number (InSteps s.position) positive refl on (absent_held (found_absent e a)) (λ l. x (c ∙ sym (lines_length b) ∙ l)));
+            said = sym (answer_add_done (book_of b) s.number (InSteps s.position) positive refl on (absent_held (found_absent e a)) (λ l. x (c ∙ sym (lines_length b) ∙ l)));
             row = tt;
           };
           found = record { nowhere = found_absent e a; room = omega (arith, lines_length b, t.whole.sites.few); number = ok; on_grid = on };
@@ -236,14 +236,14 @@ module _ (b : List ℕ) (s : Site) (ok : NumberOk s) (on : OnGrid s.position) (f
 
   pub move_absent_lem : f ≡ Found.Absent k → Settled (Verdict.Refuse NotHeld) (Move s.number (InSteps s.position)) b
   move_absent_lem e =
-      refused_so_lem b (Move s.number (InSteps s.position)) NotHeld (answer-move-absent (book_of b) s.number (InSteps s.position) positive refl on (absent_held (found_absent e a)))
+      refused_so_lem b (Move s.number (InSteps s.position)) NotHeld (answer_move_absent (book_of b) s.number (InSteps s.position) positive refl on (absent_held (found_absent e a)))
 
   pub move_done : (r : ℕ) → f ≡ Found.At k → r ≡ k → Settled (Verdict.Place r s) (Move s.number (InSteps s.position)) b
   move_done r e q =
       subst⁻¹ (λ (y : ℕ). Settled (Verdict.Place y s) (Move s.number (InSteps s.position)) b) q
       (record {
         decided = λ w. record {
-          judged = record { said = sym (answer-move-done (book_of b) s.number (InSteps s.position) positive refl on (at_held (found_at e a))); row = tt };
+          judged = record { said = sym (answer_move_done (book_of b) s.number (InSteps s.position) positive refl on (at_held (found_at e a))); row = tt };
           found = (found_at e a, on);
           command = refl;
         };
@@ -262,35 +262,35 @@ module _ (b : List ℕ) (l : Leg) (q : Bool) (s : Says q (LegOnGrid l)) where
   leg_yes y = says_yes q s y
 
   pub list_off : (w : List ℕ) → q ≡ false → Decided (Verdict.Refuse OffGrid) (ListOf l) b w
-  list_off w e = refusal b (ListOf l) OffGrid (answer-list-off (book_of b) l (says_no q s e)) w
+  list_off w e = refusal b (ListOf l) OffGrid (answer_list_off (book_of b) l (says_no q s e)) w
 
   pub list_none : (w : List ℕ) (m : ℕ) → q ≡ true → m ≡ count_in b → m ≡ 0 → Decided (Verdict.Refuse NoSite) (ListOf l) b w
-  list_none w m y c z = refusal b (ListOf l) NoSite (answer-list-empty (book_of b) l (says_yes q s y) (lines_length b ∙ sym c ∙ z)) w
+  list_none w m y c z = refusal b (ListOf l) NoSite (answer_list_empty (book_of b) l (says_yes q s y) (lines_length b ∙ sym c ∙ z)) w
 
   pub list_done : (w : List ℕ) (m k : ℕ) → q ≡ true → m ≡ count_in b → m ≢ 0 → ListsTable l b w k → Decided (Verdict.Show l k) (ListOf l) b w
-  list_done w m k y c z f = shown b w (ListOf l) l k (says_yes q s y) f (answer-list-done (book_of b) l (says_yes q s y) (λ x. z (c ∙ sym (lines_length b) ∙ x))) refl
+  list_done w m k y c z f = shown b w (ListOf l) l k (says_yes q s y) f (answer_list_done (book_of b) l (says_yes q s y) (λ x. z (c ∙ sym (lines_length b) ∙ x))) refl
 
   pub stand_off : q ≡ false → Settled (Verdict.Refuse OffGrid) (Stand l) b
-  stand_off e = refused_so_lem b (Stand l) OffGrid (answer-stand-off (book_of b) l (says_no q s e))
+  stand_off e = refused_so_lem b (Stand l) OffGrid (answer_stand_off (book_of b) l (says_no q s e))
 
   pub stand_done : q ≡ true → Settled (Verdict.Stand l) (Stand l) b
   stand_done e =
       record {
-        decided = λ w. record { judged = record { said = sym (answer-stand-done (book_of b) l (says_yes q s e)); row = tt }; found = says_yes q s e; command = refl };
+        decided = λ w. record { judged = record { said = sym (answer_stand_done (book_of b) l (says_yes q s e)); row = tt }; found = says_yes q s e; command = refl };
       }
 
 -- ---- the standing list
 
 module _ (b : List ℕ) (l : Leg) (e : leg_in b ≡ some l) where
   pub stored_none : (w : List ℕ) (m : ℕ) → m ≡ count_in b → m ≡ 0 → Decided (Verdict.Refuse NoSite) Print b w
-  stored_none w m c z = refusal b Print NoSite (answer-print-empty (book_of b) l e (lines_length b ∙ sym c ∙ z)) w
+  stored_none w m c z = refusal b Print NoSite (answer_print_empty (book_of b) l e (lines_length b ∙ sym c ∙ z)) w
 
   pub stored_done : (w : List ℕ) (m k : ℕ) → Sound b → m ≡ count_in b → m ≢ 0 → ListsTable l b w k → Decided (Verdict.Show l k) Print b w
-  stored_done w m k t c z f = shown b w Print l k (subst LegOk e t.standing.leg) f (answer-print-done (book_of b) l e (λ x. z (c ∙ sym (lines_length b) ∙ x))) refl
+  stored_done w m k t c z f = shown b w Print l k (subst LegOk e t.standing.leg) f (answer_print_done (book_of b) l e (λ x. z (c ∙ sym (lines_length b) ∙ x))) refl
 
 module _ (b : List ℕ) (s : Standing) (q : as_option s ≡ leg_in b) where
   pub print_unset : (w : List ℕ) → s ≡ Standing.Unset → Decided (Verdict.Refuse NoLeg) Print b w
-  print_unset w u = refusal b Print NoLeg (answer-print-legless (book_of b) (sym q ∙ ap as_option u)) w
+  print_unset w u = refusal b Print NoLeg (answer_print_legless (book_of b) (sym q ∙ ap as_option u)) w
 
   pub print_along : (l : Leg) → s ≡ Standing.Along l → leg_in b ≡ some l
   print_along l u = sym q ∙ ap as_option u

@@ -27,11 +27,9 @@ use Rattle.list_row.proofs.Entries.{entries_one, entries_length}
 use Rattle.book.specs.declared.Cause.TheVariants.{OffGrid, NoSite, NoTour}
 use Rattle.book.specs.declared.Command.TheVariants.{Begin, Corner}
 use Rattle.book.specs.Tour.{Tour, last_number, left_out}
-use Rattle.book.specs.Book.{sites_of}
 use Rattle.book.specs.Proper.{TourOk}
 use Rattle.book.specs.Reply.{listed}
-use Rattle.book.specs.Answer.{answer}
-use Rattle.book.proofs.Answers.{answer-begin-off, answer-begin-done, answer-corner-tourless, answer-corner-off, answer-corner-empty, answer-corner-done}
+use Rattle.book.proofs.Answers.{answer_begin_off, answer_begin_done, answer_corner_tourless, answer_corner_off, answer_corner_empty, answer_corner_done}
 use Rattle.book.proofs.ProperBooks.{proper_numbered}
 use Rattle.book.proofs.LegRecords.{opens_some}
 use Rattle.book.proofs.Lists.{first_held}
@@ -50,12 +48,12 @@ use Rattle.call_judge.proofs.Deciding.{refusal, refused_so_lem}
 
 module _ (b : List ℕ) (p : Position) (q : Bool) (s : Says q (OnGrid p)) where
   pub begin_off : q ≡ false → Settled (Verdict.Refuse OffGrid) (Begin p) b
-  begin_off e = refused_so_lem b (Begin p) OffGrid (answer-begin-off (book_of b) p (says_no q s e))
+  begin_off e = refused_so_lem b (Begin p) OffGrid (answer_begin_off (book_of b) p (says_no q s e))
 
   pub begin_done : q ≡ true → Settled (Verdict.Begin p) (Begin p) b
   begin_done e =
       record {
-        decided = λ w. record { judged = record { said = sym (answer-begin-done (book_of b) p (says_yes q s e)); row = tt }; found = says_yes q s e; command = refl };
+        decided = λ w. record { judged = record { said = sym (answer_begin_done (book_of b) p (says_yes q s e)); row = tt }; found = says_yes q s e; command = refl };
       }
 
 -- ---- what is left out
@@ -148,7 +146,7 @@ module _ (b w : List ℕ) (l : Leg) (last k : ℕ) (s : Sound b) (runs : tour_in
         by (suc m) e =
             record {
               judged = record {
-                said = ap listed (shown_as m e) ∙ sym (answer-corner-done (book_of b) l.e (tour_at l.s last) runs on (site_held h));
+                said = ap listed (shown_as m e) ∙ sym (answer_corner_done (book_of b) l.e (tour_at l.s last) runs on (site_held h));
                 row = (record { s = from_grid; e = on }, f.held, omega (arith, hj, passed_few first last k h));
               };
               found = record { tour = tour_at l.s last; runs = runs; from = refl; on_grid = on; last = last_as m e };
@@ -159,11 +157,11 @@ module _ (b w : List ℕ) (l : Leg) (last k : ℕ) (s : Sound b) (runs : tour_in
 
 module _ (b : List ℕ) (corner : Position) (last : ℕ) (p : Position) (s : Sound b) (runs : tour_in b ≡ some (tour_at corner last)) (q : Bool) (g : Says q (OnGrid p)) where
   pub onward_off : (w : List ℕ) → q ≡ false → Decided (Verdict.Refuse OffGrid) (Corner p) b w
-  onward_off w e = refusal b (Corner p) OffGrid (answer-corner-off (book_of b) p (tour_at corner last) runs (says_no q g e)) w
+  onward_off w e = refusal b (Corner p) OffGrid (answer_corner_off (book_of b) p (tour_at corner last) runs (says_no q g e)) w
 
   pub onward_none : (w : List ℕ) (m : ℕ) → q ≡ true → m ≡ count_in b → m ≡ 0 → Decided (Verdict.Refuse NoSite) (Corner p) b w
   onward_none w m y c z =
-      refusal b (Corner p) NoSite (answer-corner-empty (book_of b) p (tour_at corner last) runs (says_yes q g y) (lines_length b ∙ sym c ∙ z)) w
+      refusal b (Corner p) NoSite (answer_corner_empty (book_of b) p (tour_at corner last) runs (says_yes q g y) (lines_length b ∙ sym c ∙ z)) w
 
   pub onward_leg : q ≡ true → LegOnGrid (record { s = corner; e = p })
   onward_leg y =
@@ -187,7 +185,7 @@ onward_some b w l m k f s c z = by k refl
 
 module _ (b : List ℕ) (p : Position) (r : Touring) (q : touring_as r ≡ tour_in b) where
   pub corner_idle : (w : List ℕ) → r ≡ Touring.Idle → Decided (Verdict.Refuse NoTour) (Corner p) b w
-  corner_idle w u = refusal b (Corner p) NoTour (answer-corner-tourless (book_of b) p (sym q ∙ ap touring_as u)) w
+  corner_idle w u = refusal b (Corner p) NoTour (answer_corner_tourless (book_of b) p (sym q ∙ ap touring_as u)) w
 
   pub corner_runs : (from : Position) (last : ℕ) → r ≡ Touring.From from last → tour_in b ≡ some (tour_at from last)
   corner_runs from last u = sym q ∙ ap touring_as u

@@ -15,7 +15,7 @@ use readings::{Located, Location};
 use table_sites::Found;
 
 // What the tests of a number and a position find: a cause, or the site that they make.
-#[derive(Drop)]
+#[derive(Clone, Copy)]
 pub enum Tested {
     Bad(Cause),
     Good(Site),

@@ -1,5 +1,7 @@
 // What each command is to be answered and done: the tests of its row in order, the list that it asks for, and where
 // in the table its site stands or goes. Document 01, the column "Tests in order".
+#![tactic(auto)]
+
 pub mod change;
 pub mod list;
 pub mod tour;
@@ -14,7 +16,7 @@ use grid::{Leg, Position, Site};
 
 // What the record of a command says: accepted, refused for a cause, or answered by a list, that of the leg in the row
 // that begins the work buffer, from one entry up to another.
-#[derive(Drop)]
+#[derive(Clone, Copy)]
 pub enum Answer {
     Done,
     Refused(Cause),
@@ -24,7 +26,7 @@ pub enum Answer {
 // What is to be done, with what was found: nothing but a refusal; nothing but a list; a site inserted before a
 // record; the record of a number deleted; a record given a new position; a standing leg set; a tour begun; a tour that
 // goes on along a leg, with so many entries of its list left out, the site that ends it, and the list's length.
-#[derive(Drop)]
+#[derive(Clone, Copy)]
 pub enum Verdict {
     Refuse(Cause),
     Show(Leg, usize),

@@ -1,4 +1,6 @@
 // Reads the command that stands at a byte of the commands. Document 01, "Buffers and batches": the table of commands.
+#![tactic(auto)]
+
 ghost use Rattle.std.specs.Prelude.{◌≡◌, ◌+◌, ◌≤◌, length};
 ghost use Rattle.book.specs.Command.{operand_bytes, position_at, leg_at, form_of, parse_at};
 ghost use Rattle.call_parse.specs.Operands.{mark_of, Reads, Makes};
@@ -8,14 +10,14 @@ use grid::{Leg, Position};
 use readings::{Location, Reading};
 
 // What a byte says: it is no command's, or it is that of one with operands of this shape.
-#[derive(Drop)]
+#[derive(Clone, Copy)]
 enum Mark {
     Unknown,
     Takes(Shape),
 }
 
 // The operands of a command: number, position, leg and receiver readings. Those that its shape does not have are 0.
-#[derive(Drop)]
+#[derive(Clone, Copy)]
 struct Operands(u16, Position, Leg, Reading);
 
 // The table of commands: the operands of each.

@@ -1,5 +1,7 @@
 // The records of a report, and their sizes: 2B of an accepted change, 21 of a refusal, 3D of the list in a row.
 // Document 01, "Buffers and batches".
+#![tactic(auto)]
+
 ghost use Rattle.std.specs.Prelude.{◌≡◌, ◌+◌, ◌*◌, ◌-◌, ◌%◌, ◌^◌, ◌<◌, ◌≤◌, length};
 ghost use Rattle.limits.specs.Limits.{max_sites};
 ghost use Rattle.grid.specs.Fraction.{lowest};

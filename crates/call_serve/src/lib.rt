@@ -1,4 +1,6 @@
 // The commands of a batch, in turn, on a sound table. Document 01, "The site book".
+#![tactic(auto)]
+
 pub mod carry;
 pub mod record;
 

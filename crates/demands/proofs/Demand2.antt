@@ -23,7 +23,7 @@ use Rattle.book.specs.Proper.{LegOk, TourFits, TourOk, Proper}
 use Rattle.book.specs.Reply.{Reply, listed, record_of}
 use Rattle.book.specs.Answer.{answer, shown_by}
 use Rattle.book.specs.Run.{Turn, Outcome, records, run, after_all}
-use Rattle.book.proofs.Answers.{answer-print-done, answer-corner-done}
+use Rattle.book.proofs.Answers.{answer_print_done, answer_corner_done}
 use Rattle.book.proofs.Runs.{turn_of, records_append, call_right, run_ends, run_book, answered_at}
 use Rattle.book.proofs.ReadBack.{Encodable}
 use Rattle.book.proofs.Prefixes.{Grown, comes_to}
@@ -127,7 +127,7 @@ module _ (t : List ℕ) (c : Call) (t' : List ℕ) (v : IsServed t c t') where
       let ok : Encodable (Corner p) = small p on in
       let fits : TourFits k (sites_of o.book) = subst (λ (x : Option Tour). TourOk x (sites_of o.book)) e (proper_before (Corner p) ok o a).tour_ok in
       gives (Corner p) ok (leg_to k p) o a (record { s = fits.on_grid; e = on })
-      (answer-corner-done o.book p k e on (held_some (sites_of o.book) held)
+      (answer_corner_done o.book p k e on (held_some (sites_of o.book) held)
       ∙ ap (λ (x : Option Tour). listed (left_out (remembered x) (split_of (leg_to k p) (sites_of o.book)))) (sym e))
 
   -- DEMAND 2
@@ -137,6 +137,6 @@ module _ (t : List ℕ) (c : Call) (t' : List ℕ) (v : IsServed t c t') where
         right = right_is;
         given = λ l o a on held. gives (ListOf l) (list_encodable l on) l o a on (list_answer o.book l on held);
         given_standing = λ l o a e held.
-            gives Print tt l o a (subst LegOk e (proper_before Print tt o a).leg_ok) (answer-print-done o.book l e (held_some (sites_of o.book) held));
+            gives Print tt l o a (subst LegOk e (proper_before Print tt o a).leg_ok) (answer_print_done o.book l e (held_some (sites_of o.book) held));
         given_corner = given_corner;
       }

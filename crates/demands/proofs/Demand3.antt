@@ -36,7 +36,7 @@ use Rattle.book.specs.Reply.{Reply, done, refused, listed, record_of}
 use Rattle.book.specs.Answer.{answer, after}
 use Rattle.book.specs.Run.{Outcome, ends, run}
 use Rattle.book.proofs.Lines.{HeldLine, holds_member, write_sites, strike_sites}
-use Rattle.book.proofs.Answers.{answer-print-legless, answer-print-empty, answer-print-done, remove-accepted}
+use Rattle.book.proofs.Answers.{answer_print_legless, answer_print_empty, answer_print_done, remove_accepted}
 use Rattle.book.proofs.ProperBooks.{proper_numbered}
 use Rattle.book.proofs.Runs.{call_right, run_not_broken, run_not_standing}
 use Rattle.book.proofs.ReadBack.{Encodable}
@@ -123,7 +123,7 @@ module _ (b : Book) (t' : List ℕ) (h : Holds t' b) (ok : Proper b) where
       → WroteReport c (record_bytes (standing_list b)) × WroteReport d (record_bytes (standing_list b))
   standing_is k e held c d t'' u'' ac ad rc rd =
       let s : standing_list b ≡ split_of k (sites_of b) = ap (λ (o : Option Leg). list_of o (sites_of b)) e in
-      let p : answer b Print ≡ listed (standing_list b) = answer-print-done b k e (held_some (sites_of b) held) ∙ ap listed (sym s) in (
+      let p : answer b Print ≡ listed (standing_list b) = answer_print_done b k e (held_some (sites_of b) held) ∙ ap listed (sym s) in (
         wrote_print (listed (standing_list b)) p c t'' ac rc,
         subst (λ (x : List Entry). WroteReport d (record_bytes x)) (sym s)
             (listed_is k (subst LegOk e ok.leg_ok) held d u'' ad (subst (λ (x : List Entry). HasRoom d (record_bytes x)) s rd)).0,
@@ -131,10 +131,10 @@ module _ (b : Book) (t' : List ℕ) (h : Holds t' b) (ok : Proper b) where
 
   siteless_is : (k : Leg) → b.leg ≡ some k → sites_of b ≡ []
       → (c : Call) (t'' : List ℕ) → Asks t' print50 c t'' → 2 ≤ length c.report → WroteReport c (0x21 ∷ 6 ∷ []) × (standing_list b ≡ [])
-  siteless_is k e z c t'' a room = (wrote_print (refused NoSite) (answer-print-empty b k e (ap length z)) c t'' a room, (λ i. list_of (e i) (z i)) ∙ no_site_lem k)
+  siteless_is k e z c t'' a room = (wrote_print (refused NoSite) (answer_print_empty b k e (ap length z)) c t'' a room, (λ i. list_of (e i) (z i)) ∙ no_site_lem k)
 
   unset_is : b.leg ≡ none → (c : Call) (t'' : List ℕ) → Asks t' print50 c t'' → 2 ≤ length c.report → WroteReport c (0x21 ∷ 7 ∷ [])
-  unset_is e c t'' a room = wrote_print (refused NoLeg) (answer-print-legless b e) c t'' a room
+  unset_is e c t'' a room = wrote_print (refused NoLeg) (answer_print_legless b e) c t'' a room
 
   -- ---- one addition, one removal
 
@@ -172,7 +172,7 @@ module _ (b : Book) (t' : List ℕ) (h : Holds t' b) (ok : Proper b) where
   unfolding change
   removed_is n most old new g t f =
       let enc : Encodable (Remove n) = omega arith in
-      let l : HeldLine n b.lines = holds_member n b.lines (remove-accepted b n (accepted (Remove n) enc old new g).0).held in
+      let l : HeldLine n b.lines = holds_member n b.lines (remove_accepted b n (accepted (Remove n) enc old new g).0).held in
       let s = strike_sites n b.lines l.line ok.rising l.held l.named in
       rw (old_is (Remove n) enc old new g, new_is (Remove n) enc old new g)
       (⊎_map sym (λ e. e ∙ ap some l.named)

@@ -44,7 +44,7 @@ use Rattle.demands.specs.Whole.{Call, MadeOn, Ran, said, book_of_run, Asks, HasR
 use Rattle.demands.specs.Demands.{RefusedWith, FreshOf, list4_c}
 use Rattle.demands.specs.Faults.{BreaksWhole, BreaksStanding, AllRefused, OneWord, SitesRead, FaultTold}
 use Rattle.demands.specs.Faults.BreaksWhole.{sites, other_layout, other_flag, not_zero, tour, tree}
-use Rattle.demands.specs.Faults.BreaksStanding.{off_grid_lem, legless, siteless, too_long, not_held, other_list}
+use Rattle.demands.specs.Faults.BreaksStanding.{off_grid, legless, siteless, too_long, not_held, other_list}
 use Rattle.demands.proofs.Demand1.{demand1}
 use Rattle.demands.proofs.Demand3.{filled_is, demand3}
 use Rattle.demands.proofs.WholeRun.{ran_holds}
@@ -94,7 +94,7 @@ named_held (some l) s n i h = numbers_held s (split_of l s) (listed_held l s (sp
 -- WHERE THE SECOND HALF IS KEPT, too, none of these is so
 unbroken_standing : (t : List ℕ) → Whole t → BreaksStanding t → ¬ StandingOk t
 unfolding numbers_of
-unbroken_standing t w (off_grid_lem l e n) s = n (subst LegOk e s.leg)
+unbroken_standing t w (off_grid l e n) s = n (subst LegOk e s.leg)
 unbroken_standing t w (legless e n) s =
     n (omega (arith, standing_length t, ap length (s.list ∙ ap (λ (o : Option Leg). numbers_of (list_of o (sites_of (book_of t)))) e)))
 unbroken_standing t w (siteless e n) s = n (omega (arith, standing_few t w s, ap length e))

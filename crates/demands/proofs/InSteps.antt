@@ -108,7 +108,7 @@ in_steps_lem t u cs ds t' u' a =
     let x = all_calls t b (record { sound = a.sound.0; book = refl }) cs t' a.made.0 in
     let y = all_calls u b (record { sound = a.sound.1; book = sym a.book }) ds u' a.made.1 in
     record {
-      said_written_lem =
+      said_as_written =
           y.0 ∙ ap (replies b) a.asked_written ∙ all_said b (map asked cs) f
           ∙ ap (all_in_steps (map asked cs)) (sym x.0) ∙ as_written cs;
       left_written = as_left cs (subst⁻¹ (LeftAsks (map asked cs)) x.0 (all_left b (map asked cs) f));
@@ -121,7 +121,7 @@ pub rest_written : (t u : List ℕ) (c d : Call) (t' u' : List ℕ) → AskedInS
     → drop d.result.used d.commands ≡ written_bytes (drop c.result.used c.commands)
 rest_written t u c d t' u' a =
     let r = in_steps_lem t u (c ∷ []) (d ∷ []) t' u' a in
-    let used : d.result.used ≡ used_written c = ap (λ (y : List Said). first_used y) r.said_written_lem in
+    let used : d.result.used ≡ used_written c = ap (λ (y : List Said). first_used y) r.said_as_written in
     let bytes : d.commands ≡ written_bytes c.commands = ap (λ (y : List Ask). first_bytes y) a.asked_written in
     (λ i. drop (used i) (bytes i)) ∙ r.left_written.0
   where

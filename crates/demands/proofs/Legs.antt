@@ -19,7 +19,7 @@ use Rattle.book.specs.Book.{Book, sites_of}
 use Rattle.book.specs.Proper.{Proper}
 use Rattle.book.specs.Reply.{listed}
 use Rattle.book.specs.Answer.{answer}
-use Rattle.book.proofs.Answers.{answer-list-done}
+use Rattle.book.proofs.Answers.{answer_list_done}
 use Rattle.book.proofs.ProperBooks.{proper_numbered}
 use Rattle.book.proofs.Lists.{list_read}
 use Rattle.book.proofs.ReadBack.{PositionSmall, Encodable}
@@ -37,7 +37,7 @@ held_some (p ∷ s) h e = omega arith
 
 pub list_answer : (b : Book) (l : Leg) → LegOnGrid l → sites_of b ≢ []
     → answer b (ListOf l) ≡ listed (split_of l (sites_of b))
-list_answer b l on h = answer-list-done b l on (held_some (sites_of b) h)
+list_answer b l on h = answer_list_done b l on (held_some (sites_of b) h)
 
 all_nearest : (l : Leg) (s : List Site) (es : List Entry) → Stretches l s es → AllNearest l s es
 all_nearest l s [] h = tt

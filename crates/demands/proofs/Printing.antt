@@ -27,7 +27,7 @@ use Rattle.book.specs.Book.{Book, sites_of, list_of, standing_list}
 use Rattle.book.specs.Proper.{Proper, LegOk}
 use Rattle.book.specs.Reply.{Reply, done, refused, listed, record_of}
 use Rattle.book.specs.Answer.{answer}
-use Rattle.book.proofs.Answers.{answer-print-legless, answer-print-empty, answer-print-done}
+use Rattle.book.proofs.Answers.{answer_print_legless, answer_print_empty, answer_print_done}
 use Rattle.table_rules.proofs.Books.{sound_proper}
 use Rattle.demands.specs.Step.{Holds, keeps}
 use Rattle.demands.specs.Whole.{Said, HasRoom}
@@ -50,15 +50,15 @@ print_list b ok = by_leg b.leg refl
     by_sites : (l : Leg) → b.leg ≡ some l → (s : List Site) → sites_of b ≡ s
         → list_in (record_of (answer b Print)) ≡ map listed_of (standing_list b)
     by_sites l e [] z =
-        ap (λ (y : Reply). list_in (record_of y)) (answer-print-empty b l e (ap length z))
+        ap (λ (y : Reply). list_in (record_of y)) (answer_print_empty b l e (ap length z))
         ∙ ap (map listed_of) (sym ((λ i. list_of (e i) (z i)) ∙ no_site_lem l))
     by_sites l e (p ∷ s) z =
-        ap (λ (y : Reply). list_in (record_of y)) (answer-print-done b l e (λ n. omega (arith, ap length z)))
+        ap (λ (y : Reply). list_in (record_of y)) (answer_print_done b l e (λ n. omega (arith, ap length z)))
         ∙ listed_in b ok l e ∙ ap (λ (o : Option Leg). map listed_of (list_of o (sites_of b))) (sym e)
 
     by_leg : (o : Option Leg) → b.leg ≡ o → list_in (record_of (answer b Print)) ≡ map listed_of (standing_list b)
     by_leg none e =
-        ap (λ (y : Reply). list_in (record_of y)) (answer-print-legless b e)
+        ap (λ (y : Reply). list_in (record_of y)) (answer_print_legless b e)
         ∙ ap (λ (o : Option Leg). map listed_of (list_of o (sites_of b))) (sym e)
     by_leg (some l) e = by_sites l e (sites_of b) refl
 

@@ -23,7 +23,7 @@ use Rattle.book.specs.Answer.{answer}
 use Rattle.book.specs.Run.{records, turn, run_from}
 use Rattle.book.specs.Tour.{left_out}
 use Rattle.book.specs.Listener.{Exchange, hear_records, commands_from, Trip, tour_heard, book_heard, last_heard, said_at, leg_of, LegTold, heard_leg}
-use Rattle.book.proofs.Answers.{list-accepted}
+use Rattle.book.proofs.Answers.{list_accepted}
 use Rattle.demands.specs.Whole.{Call, Ran, Said, said, Ask, asked, replies_asking, replies, heard_in, heard_of_run}
 use Rattle.demands.specs.Starred.{given, written}
 use Rattle.demands.specs.Demands.{ToursTold}
@@ -58,7 +58,7 @@ said_out : (past : List Exchange) (p : Position) (es : List Listed) (k : Trip) (
 said_out past p es k s runs sites h =
     let same : h.tour ≡ k = let q = h.heard in cc in
     let list : h.whole ≡ split_of (leg_of k p) s =
-    (list-accepted (book_heard past) (leg_of h.tour p) h.whole h.by4_c).is ∙ (λ i. split_of (leg_of (same i) p) (sites i)) in (
+    (list_accepted (book_heard past) (leg_of h.tour p) h.whole h.by4_c).is ∙ (λ i. split_of (leg_of (same i) p) (sites i)) in (
       (λ t f.
           let d = h.everywhere t f in (
             d.site,

@@ -19,7 +19,7 @@ use Rattle.demands.specs.Batch.{lengths_ok}
 use Rattle.demands.specs.Whole.{Call, MadeOn}
 use Rattle.demands.specs.Demands.{RefusedWith}
 use Rattle.demands.specs.TourRules.{BreaksTour}
-use Rattle.demands.specs.TourRules.BreaksTour.{off_grid_lem, not_held, other_flag, not_zero, not_kept}
+use Rattle.demands.specs.TourRules.BreaksTour.{off_grid, not_held, other_flag, not_zero, not_kept}
 use Rattle.demands.proofs.Demand1.{demand1}
 
 -- the flag is 0 where no tour is under way
@@ -38,7 +38,7 @@ whole_tour t s k e = subst (λ (o : Option Tour). TourOk o (sites_of (book_of t)
 -- SUCH A TABLE BREAKS NONE
 pub tour_unbroken : (t : List ℕ) → BreaksTour t → ¬ Whole t
 unfolding ZeroFrom
-tour_unbroken t (off_grid_lem k e n) s = n (whole_tour t s k e).on_grid
+tour_unbroken t (off_grid k e n) s = n (whole_tour t s k e).on_grid
 tour_unbroken t (not_held k n e f h) s =
     true≢false (sym (subst (λ (o : Option ℕ). LastHeld o (sites_of (book_of t))) f (whole_tour t s k e).held) ∙ h)
 tour_unbroken t (other_flag l) s = omega (arith, l, s.header.tour.flag)

@@ -13,7 +13,7 @@ use Rattle.book.specs.declared.Command.{Command}
 use Rattle.book.specs.declared.Reason.TheVariants.{WrongLength}
 use Rattle.book.specs.Book.{Book, empty_book}
 use Rattle.book.specs.Answer.{after}
-use Rattle.book.specs.Run.{Turn, records, Outcome, ends, run, after_all}
+use Rattle.book.specs.Run.{Turn, records, ends, run, after_all}
 use Rattle.book.specs.Listener.{Exchange, hear_records, commands_in, commands_from}
 use Rattle.book.proofs.Runs.{after_append, Answered, run_ends, run_book}
 use Rattle.book.proofs.Hearing.{heard_of, Along, records_heard, run_commands_heard}
@@ -22,7 +22,7 @@ use Rattle.table_rules.specs.Table.{Sound, book_of}
 use Rattle.table_rules.proofs.Books.{sound_proper}
 use Rattle.demands.specs.Step.{Holds, Chain}
 use Rattle.demands.specs.Step.Chain.{none, next}
-use Rattle.demands.specs.Whole.{Call, MadeOn, Made, Ran, Said, said, asked, taken, heard_in, heard_of_run}
+use Rattle.demands.specs.Whole.{Call, MadeOn, Made, Ran, asked, taken, heard_in, heard_of_run}
 use Rattle.demands.specs.Whole.Made.{none as no_call, next as more-calls}
 use Rattle.demands.specs.Demands.{ToursTold}
 use Rattle.demands.proofs.Chains.{step_holds}

@@ -60,7 +60,7 @@ pub data Batch (t w cs rep : List ℕ) (r : Return) (t' w' rep' : List ℕ) : Ty
   served : lengths_ok t w ≡ true → Sound t → Served (run cs (length rep) (book_of t)) t rep r t' w' rep'
       → Batch t w cs rep r t' w' rep'
 
--- ONE LAYING-OUT CALL: the table before, the reason's number, the table after. "The laying_out call returns 0, or
+-- ONE LAYING-OUT CALL: the table before, the reason's number, the table after. "The laying-out call returns 0, or
 -- 64 and leaves the bytes."
 pub data LaidOut (t : List ℕ) (r : ℕ) (t' : List ℕ) : Type 0 where
   wrong : eqb (length t) table_bytes ≡ false → r ≡ 64 → t' ≡ t → LaidOut t r t'

@@ -108,10 +108,10 @@ pub record Demand1 (t : List ℕ) (c : Call) (t' : List ℕ) : Type 0 where
   -- every other call takes commands
   pub taken : lengths_ok t c.work ≡ true → Sound t → Kept t c t'
 
--- DEMAND 1 of a laying_out call: the table before, the reason's number, the table after.
+-- DEMAND 1 of a laying-out call: the table before, the reason's number, the table after.
 pub record Demand1Laid (t : List ℕ) (r : ℕ) (t' : List ℕ) : Type 0 where
   pub ends : (r ≡ 0) ⊎ (r ≡ 64)
-  -- "The laying_out call writes an empty table with no standing leg", and returns 0
+  -- "The laying-out call writes an empty table with no standing leg", and returns 0
   pub laid : length t ≡ table_bytes → (r ≡ 0) × (t' ≡ empty_table)
   -- "or 64 and leaves the bytes"
   pub wrong : length t ≢ table_bytes → (r ≡ 64) × (t' ≡ t)

@@ -44,7 +44,7 @@ pub data BreaksWhole (t : List ℕ) : Type 0 where
 -- what gets 69 in a table that keeps all of those: one of these is enough
 pub data BreaksStanding (t : List ℕ) : Type 0 where
   -- "a standing leg off the grid"
-  off_grid_lem : (l : Leg) → leg_in t ≡ some l → ¬ LegOnGrid l → BreaksStanding t
+  off_grid : (l : Leg) → leg_in t ≡ some l → ¬ LegOnGrid l → BreaksStanding t
   -- a list without a standing leg
   legless : leg_in t ≡ none → length_in t ≢ 0 → BreaksStanding t
   -- "empty while no site is held"

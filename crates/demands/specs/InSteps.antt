@@ -43,7 +43,7 @@ pub record AskedInSteps (t u : List ℕ) (cs ds : List Call) (t' u' : List ℕ) 
 
 -- C-15: they are answered alike, whatever the reasons, and leave tables of one book
 pub record AnsweredInSteps (cs ds : List Call) (t' u' : List ℕ) : Type 0 where
-  pub said_written_lem : map said ds ≡ map said_written cs
+  pub said_as_written : map said ds ≡ map said_written cs
   pub left_written : LeftWritten cs
   pub sound : Sound t' × Sound u'
   pub book : book_of t' ≡ book_of u'

@@ -14,7 +14,7 @@ use Rattle.table_rules.specs.Table.{book_of}
 -- one of these is enough
 pub data BreaksTour (t : List ℕ) : Type 0 where
   -- "a stored corner off the grid"
-  off_grid_lem : (k : Tour) → tour_in t ≡ some k → ¬ OnGrid k.corner → BreaksTour t
+  off_grid : (k : Tour) → tour_in t ≡ some k → ¬ OnGrid k.corner → BreaksTour t
   -- "a remembered site that isn't held"
   not_held : (k : Tour) (n : ℕ) → tour_in t ≡ some k → k.last ≡ some n → holds n (sites_of (book_of t)) ≡ false
       → BreaksTour t

@@ -1,2 +1,3 @@
 // What the public calls promise, and the three demands, as definitions and theorems. The calls themselves stand in
 // `service`.
+#![tactic(auto)]

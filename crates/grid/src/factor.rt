@@ -50,14 +50,14 @@ pub fn lowest_terms(n: u64, d: u64) -> Fraction
 }
 
 // Two numbers.
-#[derive(Drop)]
+#[derive(Clone, Copy)]
 struct Pair {
     x: u64,
     y: u64,
 }
 
 // Two fractions.
-#[derive(Drop)]
+#[derive(Clone, Copy)]
 pub struct Fractions {
     pub first: Fraction,
     pub second: Fraction,

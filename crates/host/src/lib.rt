@@ -1,5 +1,7 @@
 // The two calls as the depot server's host program links them (include/stops.h). Document 01: "The batch call is
 // also exported to the host program of the depot server".
+#![tactic(auto)]
+
 ghost use Rattle.demands.specs.Batch.{LaidOut};
 ghost use Rattle.host.specs.Exported.{ExportedBatch};
 

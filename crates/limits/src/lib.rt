@@ -1,5 +1,6 @@
 // The numbers that document 01 fixes, the grid as C-12 of document 02 has it and the work buffer as C-21 has it, and
 // how many nodes the pool has, as the code uses them. specs/Limits.antt has the same for the definitions.
+#![tactic(auto)]
 
 // The largest coordinate on either side of the grid's middle, in steps of 100 m.
 pub const HALF_WIDTH: u16 = 12000;

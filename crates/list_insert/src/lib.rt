@@ -1,6 +1,8 @@
 // Inserting a site into the list in a row, in place. Follows Handle_Leaf_Entry of document 002 (figure 4.6): on
 // either side the neighbour is the last vertex that is not taken over, and no breakpoint is made at 0 or at 1. What
 // stays on the right moves up to the site or makes room for it.
+#![tactic(auto)]
+
 ghost use Rattle.std.specs.Prelude.{◌≡◌, ◌+◌, ◌*◌, ◌-◌, ◌^◌, ◌<◌, ◌≤◌};
 ghost use Rattle.words.specs.Words.{Copied};
 ghost use Rattle.grid.specs.Position.{LegOnGrid};
@@ -17,8 +19,8 @@ use list_row::Vertex;
 
 // Whether u hides x, which is not left of it.
 fn hides(t: &[u8], leg: Leg, u: Vertex, x: Vertex) -> bool
-    requires vertex { IsVertex leg t.now u.place u × HasSite t.now u.place }
-    requires vertex_2 { IsVertex leg t.now x.place x × HasSite t.now x.place }
+    requires hider { IsVertex leg t.now u.place u × HasSite t.now u.place }
+    requires hidden { IsVertex leg t.now x.place x × HasSite t.now x.place }
     ensures { Says result
         (Hides (point_at leg t.now u.place) (point_at leg t.now x.place)) }
 {
@@ -36,8 +38,8 @@ fn hides(t: &[u8], leg: Leg, u: Vertex, x: Vertex) -> bool
 
 // Whether the breakpoint of s and u comes before that of u and x.
 fn bends(s: Vertex, u: Vertex, x: Vertex) -> bool
-    requires a_le_a { (s.a ≤ u.a) × (u.a ≤ x.a) × (x.a < 2 ^ 31) }
-    requires c_le_c { (x.c ≤ u.c) × (u.c ≤ s.c) × (s.c < 2 ^ 31) }
+    requires rising { (s.a ≤ u.a) × (u.a ≤ x.a) × (x.a < 2 ^ 31) }
+    requires falling { (x.c ≤ u.c) × (u.c ≤ s.c) × (s.c < 2 ^ 31) }
     ensures { Says result (BendsInHand s u x) }
 {
     let before = list_row::product(u.a - s.a, u.c - x.c);
@@ -69,7 +71,7 @@ fn stands(t: &[u8], row: &[u8], leg: Leg, j: usize, u: Vertex, x: Vertex) -> boo
 }
 
 // Where a vertex goes: on the first so many, or nowhere.
-#[derive(Drop)]
+#[derive(Clone, Copy)]
 struct Spot {
     on: usize,
     add: bool,

@@ -60,9 +60,9 @@ module _ {l : Leg} {t : List ℕ} {b n : ℕ} {w₀ w : List ℕ} {k i : ℕ} (g
         record {
           small = omega (arith, hs.small, g.upto);
           inside = omega (arith, hs.inside, g.upto, hs.even);
-          on_grid_lem =
+          on_grid =
               rw place
-              (hs.on_grid_lem (site_at_byte t (b + 8 * (i - 1))) (member t n b (i - 1) (omega (arith, g.upto))));
+              (hs.on_grid (site_at_byte t (b + 8 * (i - 1))) (member t n b (i - 1) (omega (arith, g.upto))));
         }
 
     pub build_space : Space l t w k (b / 2 + 4 * (i - 1))

@@ -44,13 +44,13 @@ module _ {t : List ℕ} {n last i : ℕ} (d : Tested t n last i) (h : i < n) {p 
   not_rising g o = omega (arith, (next o).above)
 
   pub not_on_grid : (b : Bool) → b ≡ false → Says b (OnGrid p.position) → ¬ Orderly 0 (sites_from t 0 n)
-  not_on_grid b e g o = (rw e at g) (next o).on_grid_lem
+  not_on_grid b e g o = (rw e at g) (next o).on_grid
 
   pub tested_one : last < p.number → p.number < 65536 → (b : Bool) → b ≡ true → Says b (OnGrid p.position) → Tested t n p.number (i + 1)
   tested_one g small b e og =
       record {
         upto = omega arith;
-        to = λ o. d.to (rw (split_off t n i h) (subst (λ (q : Site). NextSite last q) is (record { above = g; small = omega arith; on_grid_lem = rw e at og }), same o));
+        to = λ o. d.to (rw (split_off t n i h) (subst (λ (q : Site). NextSite last q) is (record { above = g; small = omega arith; on_grid = rw e at og }), same o));
         back = λ o. back (rw (split_off t n i h) at (d.back o)).1;
       }
     where

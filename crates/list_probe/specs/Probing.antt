@@ -20,7 +20,7 @@ leg_of se sn ee en = record { s = record { east = se; north = sn }; e = record {
 pub record NextSite (m : ℕ) (p : Site) : Type 0 where
   pub above : m < p.number
   pub small : p.number ≤ max_number
-  pub on_grid_lem : OnGrid p.position
+  pub on_grid : OnGrid p.position
 
 -- the numbers rise, from above m, and the positions are on the grid
 abbrev pub Orderly : ℕ → List Site → Type 0

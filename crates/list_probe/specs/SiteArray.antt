@@ -28,7 +28,7 @@ pub record HasSites (t : List ℕ) (i n : ℕ) : Type 0 where
   pub even : i % 2 ≡ 0
   pub small : i + probe_bytes * n ≤ 131072
   pub numbered : Numbered (sites_from t i n)
-  pub on_grid_lem : SitesOnGrid (sites_from t i n)
+  pub on_grid : SitesOnGrid (sites_from t i n)
 
 -- THE ROW HAS THE SPLIT LIST OF THE ARRAY'S SITES: its first r vertices stand for it
 pub record Built (l : Leg) (t : List ℕ) (i n : ℕ) (w w' : List ℕ) (r : ℕ) : Type 0 where

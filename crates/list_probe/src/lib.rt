@@ -1,4 +1,6 @@
 // One call for tests: the record of the list of a leg over an array of site records, built with no tree.
+#![tactic(auto)]
+
 ghost use Rattle.std.specs.Prelude.{◌*◌, ◌≤◌, length};
 ghost use Rattle.limits.specs.Limits.{max_sites};
 ghost use Rattle.grid.specs.Position.{LegOnGrid};

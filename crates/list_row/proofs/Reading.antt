@@ -22,7 +22,7 @@ site_is t i n e o hn he ho = λ j. record { number = hn j; position = record { e
 -- The site at p, measured.
 module _ {t : List ℕ} {p : ℕ} {s : Site} (e : s ≡ site_at t p) where
   pub read_on_grid : HasSite t p → OnGrid s.position
-  read_on_grid h = subst (λ (q : Site). OnGrid q.position) (sym e) h.on_grid_lem
+  read_on_grid h = subst (λ (q : Site). OnGrid q.position) (sym e) h.on_grid
 
   pub vertex_is : {l : Leg} {a c : ℕ} → (a ≡ distance s.position l.s) × (a ≤ max_distance) → (c ≡ distance s.position l.e) × (c ≤ max_distance)
       → IsVertex l t p (record { place = p; a = a; c = c })

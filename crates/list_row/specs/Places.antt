@@ -18,4 +18,4 @@ site_at t p = site_at_byte t (2 * p)
 pub record HasSite (t : List ℕ) (p : ℕ) : Type 0 where
   pub small : p < 65536
   pub inside : 2 * p + 6 ≤ length t
-  pub on_grid_lem : OnGrid (site_at t p).position
+  pub on_grid : OnGrid (site_at t p).position

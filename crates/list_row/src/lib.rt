@@ -1,5 +1,7 @@
 // Split lists in rows of places. A place is half the byte offset of a site record; a row is 16-bit places, one after
 // the other, the vertex that is nearest to S first.
+#![tactic(auto)]
+
 ghost use Rattle.std.specs.Prelude.{◌≡◌, ◌+◌, ◌*◌, ◌-◌, ◌^◌, ◌<◌, ◌≤◌, length};
 ghost use Rattle.grid.specs.Position.{LegOnGrid};
 ghost use Rattle.grid.specs.Says.{Says};
@@ -14,7 +16,7 @@ use grid::{Leg, Position, Site};
 pub const ROW_BYTES: usize = 2 * limits::MAX_SITES;
 
 // A site in hand: its place, its squared distances from S and from E.
-#[derive(Drop)]
+#[derive(Clone, Copy)]
 pub struct Vertex {
     pub place: usize,
     pub a: u32,
@@ -150,7 +152,7 @@ fn bisect(t: &[u8], row: &[u8], leg: Leg, k: usize, a: u32, from: usize, to: usi
 
 // A cut, and two vertices of the row about it: the last that is not right of the cut and the first that is; at an end
 // of the row, that end twice.
-#[derive(Drop)]
+#[derive(Clone, Copy)]
 pub struct Gap {
     pub n: usize,
     pub left: Vertex,

@@ -25,6 +25,7 @@ again : {p : Point} {Q h : List Point} → In p h → IsHull Q h → IsHull (p �
 again {p} {Q} i k = grow (λ v m. Memᴰ.tail m) (covers_cons (self one) (self (λ v m. m))) k
   where
     one : (v : Point) → In v (p ∷ []) → In v Q
+    one v (Memᴰ.tail x4) = elim x4 [ ]
     one v (Memᴰ.head e) = subst (λ (q : Point). In q Q) (sym e) (k.sub p i)
 
 module _ {l : Leg} {t r : List ℕ} {k p : ℕ} (hd : Held l t r k) where

@@ -2,6 +2,8 @@
 // enough for a skip: the vertex before the cut, or the one edge at the cut. Ties are no skip (document 01, "Where a
 // list goes astray"; heuristic 2 of document 002 skips them). A list only falls as sites are added, so what was a
 // witness stays one.
+#![tactic(auto)]
+
 ghost use Rattle.std.specs.Prelude.{◌≡◌, ◌+◌, ◌*◌, ◌^◌, ◌<◌, ◌≤◌, length};
 ghost use Rattle.grid.specs.Position.{LegOnGrid};
 ghost use Rattle.grid.specs.Says.{If};
@@ -69,7 +71,7 @@ fn above(u: Corner, v: Corner, corner: Corner) -> bool
 
 // Two sites that were listed when they were looked at, by their squared distances: what is known of a list without
 // reading it.
-#[derive(Drop)]
+#[derive(Clone, Copy)]
 pub struct Edge {
     pub left: Corner,
     pub right: Corner,
@@ -102,7 +104,7 @@ pub fn shuts(edge: Edge, corner: Corner) -> bool
 }
 
 // What a look at a corner found: whether the list shuts it out, its cut, and the edge there.
-#[derive(Drop)]
+#[derive(Clone, Copy)]
 pub struct Seen {
     pub shut: bool,
     pub cut: usize,

@@ -1,1 +1,2 @@
 // Definitions and laws alone: a list in another order.
+#![tactic(auto)]

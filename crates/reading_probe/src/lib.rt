@@ -1,4 +1,6 @@
 // One call for tests: the coordinate of a receiver reading, for every pattern of 32 bits.
+#![tactic(auto)]
+
 ghost use Rattle.reading_probe.specs.Probed.{Probed};
 
 // The coordinate of a pattern's reading, counted from the grid's south-west corner, or 65,536 where it is not finite.

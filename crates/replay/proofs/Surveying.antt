@@ -301,16 +301,16 @@ module _ (m s : Readings) (v w : Badly) (t₁ t₂ u₁ u₂ : List ℕ) (k : Ru
         unknown = sym (called_said _ m.rest.unknown _ _ b.unknown) ∙ unknown_said;
         cut = sym (said_longer_lem _ m.rest.cut _ _ b.cut) ∙ cut_said;
         full_steps =
-            sym (called_said _ s.full _ _ c.called) ∙ ap (λ (z : List Said). first_of z) promise.said_written_lem
+            sym (called_said _ s.full _ _ c.called) ∙ ap (λ (z : List Said). first_of z) promise.said_as_written
             ∙ in_steps_said a.called.call survey (reply 68 11 (0x2B ∷ [])) 7 (ap (λ (h : Ask). h.commands) a.called.asked_so) full_said first_long;
         used_steps =
-            sym (called_said _ s.rest.used _ _ d.used) ∙ ap (λ (z : List Said). first_of (rest_of z)) promise.said_written_lem
+            sym (called_said _ s.rest.used _ _ d.used) ∙ ap (λ (z : List Said). first_of (rest_of z)) promise.said_as_written
             ∙ in_steps_said b.used.call move_one (reply 0 11 (0x2B ∷ [])) 7 (ap (λ (h : Ask). h.commands) b.used.asked_so) used_said second_long;
         unknown_steps =
-            sym (called_said _ s.rest.unknown _ _ d.unknown) ∙ ap (λ (z : List Said). first_of (rest_of (rest_of z))) promise.said_written_lem
+            sym (called_said _ s.rest.unknown _ _ d.unknown) ∙ ap (λ (z : List Said). first_of (rest_of (rest_of z))) promise.said_as_written
             ∙ in_steps_said b.unknown.call add_beyond (reply 66 11 (0x21 ∷ 2 ∷ [])) 7 (ap (λ (h : Ask). h.commands) b.unknown.asked_so) unknown_said beyond_long;
         cut_steps =
-            sym (said_longer_lem _ s.rest.cut _ _ d.cut) ∙ ap (λ (z : List Said). first_of (rest_of (rest_of (rest_of z)))) promise.said_written_lem
+            sym (said_longer_lem _ s.rest.cut _ _ d.cut) ∙ ap (λ (z : List Said). first_of (rest_of (rest_of (rest_of z)))) promise.said_as_written
             ∙ in_steps_said b.cut.call list_cut (reply 67 16 (0x2B ∷ ten_bytes)) 16 (ap (λ (h : Ask). h.commands) b.cut.asked_so) cut_said third_long;
         left =
             sym (λ i. drop (c.called.result i).used (c.called.asked_so i).commands)

@@ -7,7 +7,7 @@ use crate::{Heard, small_call};
 
 // What was said of tables with a wrong length of the standing list, with a wrong flag of its leg beside it, with a
 // coordinate and no leg, with a coordinate off the grid, and with a list where no site is held.
-#[derive(Drop)]
+#[derive(Clone, Copy)]
 pub struct Damaged {
     length: Heard,
     flag: Heard,

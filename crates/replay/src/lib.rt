@@ -1,6 +1,8 @@
 // Real calls, and the theorem over whole lists of calls cited for them: whoever makes calls of the service may cite
 // it so. Calls that end with 64, 0, 66, 67 and 68, each with buffers of its own, and then one leg asked of this
 // table and of a fresh one with the same sites.
+#![tactic(auto)]
+
 pub mod damage;
 pub mod survey;
 
@@ -11,21 +13,21 @@ ghost use Rattle.replay.specs.Replayed.{ask, Called, Opened, Closed, Refilled, A
 use book::BatchResult;
 
 // What a call returned, and its report.
-#[derive(Drop)]
+#[derive(Clone, Copy)]
 pub struct Heard {
     result: BatchResult,
     report: [u8; 2],
 }
 
 // What the first two calls said: with too short a work buffer, and with all commands used.
-#[derive(Drop)]
+#[derive(Clone, Copy)]
 pub struct Opening {
     short: Heard,
     used: Heard,
 }
 
 // What the three behind them said: ended by an unknown command, by a cut one, and for want of room.
-#[derive(Drop)]
+#[derive(Clone, Copy)]
 pub struct Closing {
     unknown: Heard,
     cut: Heard,
@@ -33,7 +35,7 @@ pub struct Closing {
 }
 
 // These, and the reports of the leg on both tables.
-#[derive(Drop)]
+#[derive(Clone, Copy)]
 pub struct Row {
     opening: Opening,
     closing: Closing,

@@ -11,14 +11,14 @@ use crate::{Heard, call, small_call};
 use book::BatchResult;
 
 // What a call with more room returned, and its report.
-#[derive(Drop)]
+#[derive(Clone, Copy)]
 pub struct Longer {
     result: BatchResult,
     report: [u8; 24],
 }
 
 // What was said of three calls behind the first: with all commands used, ended by an unknown one, and by a cut one.
-#[derive(Drop)]
+#[derive(Clone, Copy)]
 pub struct Rest {
     used: Heard,
     unknown: Heard,
@@ -26,7 +26,7 @@ pub struct Rest {
 }
 
 // What was said of readings that are not taken, for more than one cause: the number 0, not finite, off the grid.
-#[derive(Drop)]
+#[derive(Clone, Copy)]
 pub struct Refusals {
     zero: Heard,
     infinite: Heard,
@@ -34,14 +34,14 @@ pub struct Refusals {
 }
 
 // Of additions and of moves.
-#[derive(Drop)]
+#[derive(Clone, Copy)]
 pub struct Badly {
     adds: Refusals,
     moves: Refusals,
 }
 
 // What was said of these, the first ended for want of room.
-#[derive(Drop)]
+#[derive(Clone, Copy)]
 pub struct Readings {
     full: Heard,
     rest: Rest,
@@ -49,7 +49,7 @@ pub struct Readings {
 
 // What was said of readings, of the same with the steps written out, and on both tables of readings that are not
 // taken.
-#[derive(Drop)]
+#[derive(Clone, Copy)]
 pub struct Surveyed {
     metres: Readings,
     steps: Readings,

@@ -1,4 +1,6 @@
 // The two public calls: laying out a table, and a batch of commands on it. Document 01, "Buffers and batches".
+#![tactic(auto)]
+
 ghost use Rattle.std.specs.Prelude.{◌≡◌, length};
 ghost use Rattle.demands.specs.Batch.{returns, return_of, Served, Batch, LaidOut};
 ghost use Rattle.limits.specs.Limits.{work_bytes};

@@ -77,6 +77,8 @@ onto_cases (w ∷ r) l x i = go (onto_cases r (w ∷ l) x i)
 module _ (m n : ℕ) (pm : 0 < m) where
   -- Lower than the vertex before, lower than all before.
   before_all : (v : Point) (l : List Point) → Convex (v ∷ l) → Lower m n v l → (x : Point) → In x l → value m n v < value m n x
+  before_all v [] h k x x5 = elim x5 [ ]
+  before_all v (u ∷ []) h k x (Memᴰ.tail i) = elim i [ ]
   before_all v (u ∷ l) h k x (Memᴰ.head e) = rw e k
   before_all v (u ∷ s ∷ l) h k x (Memᴰ.tail i) =
       let t = turn m n pm (under_step l h.1.0) h.0.0 h.0.1 (omega arith) in
@@ -84,6 +86,8 @@ module _ (m n : ℕ) (pm : 0 < m) where
 
   -- Lower than the vertex after, lower than all after.
   after_all_lem : (r : List Point) (v : Point) (l : List Point) → Convex (onto r (v ∷ l)) → Lower m n v r → (x : Point) → In x r → value m n v < value m n x
+  after_all_lem [] v l h k x x5 = elim x5 [ ]
+  after_all_lem (w ∷ []) v l h k x (Memᴰ.tail i) = elim i [ ]
   after_all_lem (w ∷ r) v l h k x (Memᴰ.head e) = rw e k
   after_all_lem (w ∷ w' ∷ r) v l h k x (Memᴰ.tail i) =
       omega (arith, after_all_lem (w' ∷ r) w (v ∷ l) h (rises (dec_lt (value m n w) (value m n w'))) x i)

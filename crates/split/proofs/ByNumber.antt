@@ -2,7 +2,7 @@
 -- Assumes nothing.
 use mathlib.Core.Path.{◌≡◌, refl, sym, ◌∙◌}
 use mathlib.Core.List.{List, [], ◌∷◌, Memᴰ}
-use Prim.Native.Nat.{◌-◌, ◌≤◌}
+use Prim.Native.Nat.{◌≤◌}
 use native.Mathlib.Decide.{dec_le}
 use native.Mathlib.Omega.{arith}
 use Rattle.grid.specs.declared.Fraction.{Fraction}
@@ -42,6 +42,8 @@ module _ (l : Leg) (s : List Site) where
   flip t = record { a = sym t.a; c = sym t.c; left = t.right; right = t.left }
 
   flips : (h r : List Point) → Twins h r → Twins r h
+  flips [] (v ∷ r) t = elim t [ ]
+  flips (u ∷ h) [] t = elim t [ ]
   flips [] [] t = tt
   flips (u ∷ h) (v ∷ r) t = (flip t.0, flips h r t.1)
 
@@ -52,6 +54,9 @@ module _ (l : Leg) (s : List Site) where
   step_twin t q k = record { right = omega (arith, t.a, q.a, k.right); down = omega (arith, t.c, q.c, k.down) }
 
   under_twin : (x y : Point) (h r : List Point) → Twin x y → Twins h r → Under x h → Under y r
+  under_twin x y [] (v ∷ _) q t k = elim t [ ]
+  under_twin x y (u ∷ []) [] q t k = elim t [ ]
+  under_twin x y (u ∷ (w ∷ h)) [] q t k = elim t [ ]
   under_twin x y [] [] q t k = tt
   under_twin x y (u ∷ []) (v ∷ []) q t k = step_twin t.0 q k
   under_twin x y (u ∷ []) (v ∷ z ∷ r) q t k = absurd t.1
@@ -60,6 +65,8 @@ module _ (l : Leg) (s : List Site) where
       (step_twin t.0 q k.0, rw (t.0.a, t.0.c, t.1.0.a, t.1.0.c, q.a, q.c) at k.1)
 
   convex_twin : (h r : List Point) → Twins h r → Convex h → Convex r
+  convex_twin [] (v ∷ r) t k = elim t [ ]
+  convex_twin (u ∷ h) [] t k = elim t [ ]
   convex_twin [] [] t k = tt
   convex_twin (u ∷ h) (v ∷ r) t k = (under_twin u v h r t.0 t.1 k.0, convex_twin h r t.1 k.1)
 
@@ -83,6 +90,8 @@ module _ (l : Leg) (s : List Site) where
         rw (push_hides x u h k, f) (record { a = t.0.a ∙ a; c = t.0.c ∙ c; left = t.0.left; right = q.right }, t.1)
 
   push_twins : (x y : Point) (h r : List Point) → Twin x y → Twins h r → Convex h → ((v : Point) → In v h → v.a ≤ x.a) → Twins (push x h) (push y r)
+  push_twins x y [] (v ∷ r) q t cv near = elim t [ ]
+  push_twins x y (u ∷ h) [] q t cv near = elim t [ ]
   push_twins x y [] [] q t cv near = rw (push_empty x, push_empty y) (q, tt)
   push_twins x y (u ∷ h) (v ∷ r) q t cv near =
       go (hides? u x) (hides? v y) (under? x (u ∷ h)) (push_twins x y h r q t.1 cv.1 (λ z i. near z (Memᴰ.tail i)))
@@ -106,6 +115,8 @@ module _ (l : Leg) (s : List Site) where
 
   insert_twins : (p q : Point) (h r : List Point) → Twin p q → Twins h r → Convex h → Twins (insert p h) (insert q r)
   unfolding insert
+  insert_twins p q [] (v ∷ r) e t cv = elim t [ ]
+  insert_twins p q (u ∷ h) [] e t cv = elim t [ ]
   insert_twins p q [] [] e t cv = (e, tt)
   insert_twins p q (u ∷ h) (v ∷ r) e t cv = go (dec_le u.a p.a) (dec_le v.a q.a) (insert_twins p q h r e t.1 cv.1)
     where
@@ -137,6 +148,8 @@ module _ (l : Leg) where
       here = record { held = sub p (Memᴰ.head refl); a_is = refl; c_is = refl }
 
   onto_twins : (s : List Site) (h r j k : List Point) → Twins l s h r → Twins l s j k → Twins l s (onto h j) (onto r k)
+  onto_twins s [] (v ∷ r) j k t e = elim t [ ]
+  onto_twins s (u ∷ h) [] j k t e = elim t [ ]
   onto_twins s [] [] j k t e = e
   onto_twins s (u ∷ h) (v ∷ r) j k t e = onto_twins s h r (u ∷ j) (v ∷ k) t.1 (t.0, e)
 
@@ -151,11 +164,15 @@ module _ (l : Leg) where
       }
 
   after_twins : (s : List Site) (u v : Point) (h r : List Point) → Twin l s u v → Twins l s h r → SameStretches l s (entries_after u h) (entries_after v r)
+  after_twins s u v [] (z ∷ r) t e = elim e [ ]
+  after_twins s u v (w ∷ h) [] t e = elim e [ ]
   after_twins s u v [] [] t e = tt
   after_twins s u v (w ∷ h) (z ∷ r) t e =
       (same_stretch s w z e.0 _ _ (rw (t.a, t.c, e.0.a, e.0.c) refl), after_twins s w z h r e.0 e.1)
 
   along_twins : (s : List Site) (h r : List Point) → Twins l s h r → SameStretches l s (entries_along h) (entries_along r)
+  along_twins s [] (v ∷ r) t = elim t [ ]
+  along_twins s (u ∷ h) [] t = elim t [ ]
   along_twins s [] [] t = tt
   along_twins s (u ∷ h) (v ∷ r) t = (same_stretch s u v t.0 _ _ refl, after_twins s u v h r t.0 t.1)
 
@@ -168,6 +185,8 @@ module _ (l : Leg) where
       along_twins s (onto h []) (onto r []) (onto_twins s h r [] [] (build_twins s s (λ p i. i)) tt)
 
   same_entries : (s : List Site) → NoTie l s → (es fs : List Entry) → SameStretches l s es fs → es ≡ fs
+  same_entries s n [] (f ∷ fs) t = elim t [ ]
+  same_entries s n (e ∷ es) [] t = elim t [ ]
   same_entries s n [] [] t = refl
   same_entries s n (e ∷ es) (f ∷ fs) t =
       let site = n e.site f.site t.0.held.0 t.0.held.1 t.0.tie in

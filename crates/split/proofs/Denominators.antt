@@ -25,9 +25,12 @@ use Rattle.split.proofs.Ties.{tie_along}
 use Rattle.split.proofs.Weights.{Weights, weights, weigh_le}
 
 -- a start is below 1
+start_of : (l : Leg) (s : List Site) (f : Entry) (es : List Entry) → Stretches l s es → Memᴰ f es → f.start.num < f.start.den
+start_of l s f es h (Memᴰ.head {x = e} {xs = rest} q) = subst (λ (g : Entry). g.start.num < g.start.den) (sym q) h.0.below1
+start_of l s f es h (Memᴰ.tail {x = e} {xs = rest} m) = start_of l s f rest h.1 m
+
 pub start_below : (l : Leg) (s : List Site) (es : List Entry) → Stretches l s es → (f : Entry) → Memᴰ f es → f.start.num < f.start.den
-start_below l s es h f (Memᴰ.head {x = e} {xs = rest} q) = subst (λ (g : Entry). g.start.num < g.start.den) (sym q) h.0.below1
-start_below l s es h f (Memᴰ.tail {x = e} {xs = rest} m) = start_below l s rest h.1 f m
+start_below l s es h f m = start_of l s f es h m
 
 le_times : (r b x : ℕ) → x ≡ r * b → 1 ≤ x → b ≤ x
 le_times zero b x e p = absurd (omega arith)
@@ -145,13 +148,13 @@ module _ (l : Leg) (s : List Site) (numbered : Numbered s) (onLeg : LegOnGrid l)
           )
       go (no a) (no b) = absurd (same (omega arith) (rest_eq (c.den - c.num) c.num (A x) (A y) (C x) (C y) (omega arith) (omega (arith, xy, yx)) above))
 
-  all : (es : List Entry) → Stretches l s es → (e : Entry) → e.start.den ≤ max_denominator → Stretches l s (e ∷ es)
-      → (f : Entry) → Memᴰ f (e ∷ es) → f.start.den ≤ max_denominator
-  all es k e b h f (Memᴰ.head q) = rw q b
-  all [] k e b h f (Memᴰ.tail m) = absurd (Memᴰ.not-nil m)
-  all (g ∷ gs) k e b h f (Memᴰ.tail m) = all gs k.1 g (next e g gs h) k f m
+  all : (f : Entry) (es : List Entry) → Stretches l s es → (e : Entry) → e.start.den ≤ max_denominator → Stretches l s (e ∷ es)
+      → Memᴰ f (e ∷ es) → f.start.den ≤ max_denominator
+  all f es k e b h (Memᴰ.head q) = rw q b
+  all f [] k e b h (Memᴰ.tail m) = absurd (Memᴰ.not-nil m)
+  all f (g ∷ gs) k e b h (Memᴰ.tail m) = all f gs k.1 g (next e g gs h) k m
 
   -- NO DENOMINATOR PASSES 2,304,000,000
   pub bounded : (es : List Entry) → IsSplitList l s es → (f : Entry) → Memᴰ f es → f.start.den ≤ max_denominator
   bounded [] h f m = absurd (Memᴰ.not-nil m)
-  bounded (e ∷ es) h f m = all es h.rules.1 e (rw h.opens (omega arith)) h.rules f m
+  bounded (e ∷ es) h f m = all f es h.rules.1 e (rw h.opens (omega arith)) h.rules m

@@ -138,10 +138,12 @@ positive_left a b (suc c) d h = omega arith
 
 -- members of the points
 pub of_points : (l : Leg) (s : List Site) (v : Point) → In v (points l s) → Memᴰ v.site s × (v ≡ point_of l v.site)
+of_points l [] v x' = elim x' [ ]
 of_points l (p ∷ s) v (Memᴰ.head e) = (Memᴰ.head (ap (λ (x : Point). x.site) e), e ∙ ap (point_of l) (sym (ap (λ (x : Point). x.site) e)))
 of_points l (p ∷ s) v (Memᴰ.tail i) = let (m, e) = of_points l s v i in (Memᴰ.tail m, e)
 
 pub to_points : (l : Leg) (s : List Site) (p : Site) → Memᴰ p s → In (point_of l p) (points l s)
+to_points l [] p x' = elim x' [ ]
 to_points l (q ∷ s) p (Memᴰ.head e) = Memᴰ.head (ap (point_of l) e)
 to_points l (q ∷ s) p (Memᴰ.tail i) = Memᴰ.tail (to_points l s p i)
 

@@ -27,6 +27,7 @@ pub own : (l : List Point) → Convex l → IsHull l l
 own l h = record { convex = h; sub = λ v i. i; covers = λ m n pm pn q i. (q, i, beats_refl q) }
 
 pub covers_one : {p : Point} {Q : List Point} → ((m n : ℕ) → 0 < m → 0 < n → (v : Point) × In v Q × Beats m n v p) → Covers Q (p ∷ [])
+covers_one {p = p} {Q = Q} h m n pm pn q (Memᴰ.tail x4) = elim x4 [ ]
 covers_one h m n pm pn q (Memᴰ.head e) = rw e (h m n pm pn)
 
 pub covers_cons : {p : Point} {Q R : List Point} → Covers Q (p ∷ []) → Covers Q R → Covers Q (p ∷ R)
@@ -52,4 +53,5 @@ members {p} {Q} {l} {r} h k =
     k
   where
     one : (v : Point) → In v (p ∷ []) → In v (p ∷ l)
+    one v (Memᴰ.tail x4) = elim x4 [ ]
     one v (Memᴰ.head e) = Memᴰ.head e

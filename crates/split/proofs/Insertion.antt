@@ -75,9 +75,13 @@ lost x u l cv ua nh nu m n pm pn = height (dec_lt x.c u.c)
     height (no k) = there (level (same_place u x nh (omega arith)))
 
 -- The highest a of a convex list is its head's.
+most_right : (v u : Point) (l : List Point) → Convex (u ∷ l) → In v (u ∷ l) → v.a ≤ u.a
+most_right v u l h (Memᴰ.head e) = rw e (omega arith)
+most_right v u [] h (Memᴰ.tail i) = elim i [ ]
+most_right v u (s ∷ l) h (Memᴰ.tail i) = omega (arith, most_right v s l h.1 i, under_step l h.0)
+
 pub convex_right : (u : Point) (l : List Point) → Convex (u ∷ l) → (v : Point) → In v (u ∷ l) → v.a ≤ u.a
-convex_right u l h v (Memᴰ.head e) = rw e (omega arith)
-convex_right u (s ∷ l) h v (Memᴰ.tail i) = omega (arith, convex_right s l h.1 v i, under_step l h.0)
+convex_right u l h v i = most_right v u l h i
 
 pub pushed : (x : Point) (l : List Point) → Convex l → ((v : Point) → In v l → v.a ≤ x.a) → IsHull (x ∷ l) (push x l)
 unfolding push
@@ -96,6 +100,7 @@ pushed x (u ∷ l) h k =
     ua = k u (Memᴰ.head refl)
 
     only : Sub (x ∷ []) (x ∷ l)
+    only v (Memᴰ.tail x7) = elim x7 [ ]
     only v (Memᴰ.head e) = Memᴰ.head e
 
 -- 1. Push: x is as far right as every listed vertex.

@@ -17,10 +17,12 @@ use Rattle.split.proofs.Ties.{tie_ends}
 
 module _ (l : Leg) where
   of_number : (u : List Site) (v : Point) → In v (number_points l u) → v ≡ number_point l v.site
+  of_number [] v x' = elim x' [ ]
   of_number (p ∷ u) v (Memᴰ.head e) = e ∙ ap (number_point l) (sym (ap (λ (x : Point). x.site) e))
   of_number (p ∷ u) v (Memᴰ.tail i) = of_number u v i
 
   to_number : (u : List Site) (p : Site) → Memᴰ p u → In (number_point l p) (number_points l u)
+  to_number [] p x' = elim x' [ ]
   to_number (q ∷ u) p (Memᴰ.head e) = Memᴰ.head (ap (number_point l) e)
   to_number (q ∷ u) p (Memᴰ.tail i) = Memᴰ.tail (to_number u p i)
 
@@ -34,11 +36,13 @@ module _ (l : Leg) (s : List Site) where
       subst (λ (x : ℕ). x ≤ q.number) (ap (λ (x : Point). x.order) e) o
 
   after_lowest : (r : List Point) (v : Point) (k : List Point) → IsHull (number_points l s) (onto r (v ∷ k)) → LowestOfTies l s (entries_after v r)
+  after_lowest [] v k h e x'' = elim x'' [ ]
   after_lowest (w ∷ r) v k h e (Memᴰ.head i) =
       subst⁻¹ (λ (g : Entry). (q : Site) → Memᴰ q s → TieAlong l g.site q → g.site.number ≤ q.number) i (vertex_lowest r w (v ∷ k) h)
   after_lowest (w ∷ r) v k h e (Memᴰ.tail i) = after_lowest r w (v ∷ k) h e i
 
   along_lowest : (r : List Point) → IsHull (number_points l s) (onto r []) → LowestOfTies l s (entries_along r)
+  along_lowest [] h e x'' = elim x'' [ ]
   along_lowest (v ∷ r) h e (Memᴰ.head i) =
       subst⁻¹ (λ (g : Entry). (q : Site) → Memᴰ q s → TieAlong l g.site q → g.site.number ≤ q.number) i (vertex_lowest r v [] h)
   along_lowest (v ∷ r) h e (Memᴰ.tail i) = after_lowest r v [] h e i

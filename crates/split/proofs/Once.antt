@@ -44,8 +44,8 @@ module _ (l : Leg) (s : List Site) (numbered : Numbered s) where
         leads = h.0.leads _ (mid_fraction _ _ fs fe) (omega arith) (omega arith);
       }
 
-  after_end : (es : List Entry) → Stretches l s es → (f : Entry) → Memᴰ f es → (u : Fraction) → IsFraction u → Below u (end_of es) → Later l s u f.site
-  after_end es h f (Memᴰ.head {x} {xs} e) u fu b =
+  after_end : (f : Entry) (es : List Entry) → Stretches l s es → Memᴰ f es → (u : Fraction) → IsFraction u → Below u (end_of es) → Later l s u f.site
+  after_end f es h (Memᴰ.head {x} {xs} e) u fu b =
       let r : Later l s x.start x.site = first x xs h in
       record {
         at = r.at;
@@ -53,8 +53,8 @@ module _ (l : Leg) (s : List Site) (numbered : Numbered s) where
         after = below_trans u x.start r.at fu.positive r.frac.positive b r.after;
         leads = subst (λ (g : Entry). Leads l s r.at g.site) (sym e) r.leads;
       }
-  after_end es h f (Memᴰ.tail {x} {xs} m) u fu b =
-      after_end xs h.1 f m u fu
+  after_end f es h (Memᴰ.tail {x} {xs} m) u fu b =
+      after_end f xs h.1 m u fu
       (below_trans u x.start (end_of xs) fu.positive (end_fraction l s xs h.1).positive b h.0.rises)
 
   -- an entry's site is not that of a later one
@@ -101,7 +101,7 @@ module _ (l : Leg) (s : List Site) (numbered : Numbered s) where
       go : (f ≡ g) ⊎ Memᴰ f gs → ⊥
       go (inl q) = h.0.changes (ap (λ (p : Site). p.number) (z ∙ ap (λ (x : Entry). x.site) q))
       go (inr m') =
-          let r : Later l s u f.site = after_end gs h.1.1 f m' u fu (omega arith) in
+          let r : Later l s u f.site = after_end f gs h.1.1 m' u fu (omega arith) in
           h.0.changes
           (three l s numbered t u r.at e.site g.site ft fu r.frac (omega (arith, eg, gz, ez)) r.after ht hu
           (subst (λ (p : Site). Leads l s r.at p) (sym z) r.leads))
@@ -112,13 +112,13 @@ pub record Without (s : List Site) (p : Site) : Type 0 where
   pub shorter : length s ≡ suc (length rest)
   pub keeps : (q : Site) → Memᴰ q s → q ≢ p → Memᴰ q rest
 
-without : (s : List Site) (p : Site) → Memᴰ p s → Without s p
-without s p (Memᴰ.head {x} {xs} e) = record { rest = xs; shorter = refl; keeps = λ q m d. go q d (Memᴰ.cases_cons m) }
+without : (p : Site) (s : List Site) → Memᴰ p s → Without s p
+without p s (Memᴰ.head {x} {xs} e) = record { rest = xs; shorter = refl; keeps = λ q m d. go q d (Memᴰ.cases_cons m) }
   where
     go : (q : Site) → q ≢ p → (q ≡ x) ⊎ Memᴰ q xs → Memᴰ q xs
     go q d (inl z) = absurd (d (z ∙ sym e))
     go q d (inr m) = m
-without s p (Memᴰ.tail {x} {xs} m) = go (without xs p m)
+without p s (Memᴰ.tail {x} {xs} m) = go (without p xs m)
   where
     go : Without xs p → Without (x ∷ xs) p
     go w = record { rest = x ∷ w.rest; shorter = ap suc w.shorter; keeps = λ q n d. pick q d (Memᴰ.cases_cons n) }
@@ -128,13 +128,13 @@ without s p (Memᴰ.tail {x} {xs} m) = go (without xs p m)
         pick q d (inr n) = Memᴰ.tail (w.keeps q n d)
 
 -- what is listed is held
-listed_held : (l : Leg) (s : List Site) → Numbered s → (es : List Entry) → Stretches l s es → (f : Entry) → Memᴰ f es → Memᴰ f.site s
-listed_held l s numbered es h f (Memᴰ.head {x} {xs} e) = subst (λ (g : Entry). Memᴰ g.site s) (sym e) (first l s numbered x xs h).leads.held
-listed_held l s numbered es h f (Memᴰ.tail {x} {xs} m) = listed_held l s numbered xs h.1 f m
+listed_held : (l : Leg) (s : List Site) → Numbered s → (f : Entry) (es : List Entry) → Stretches l s es → Memᴰ f es → Memᴰ f.site s
+listed_held l s numbered f es h (Memᴰ.head {x} {xs} e) = subst (λ (g : Entry). Memᴰ g.site s) (sym e) (first l s numbered x xs h).leads.held
+listed_held l s numbered f es h (Memᴰ.tail {x} {xs} m) = listed_held l s numbered f xs h.1 m
 
 count : (l : Leg) (s u : List Site) → Numbered s → (es : List Entry) → Stretches l s es → ((f : Entry) → Memᴰ f es → Memᴰ f.site u) → length es ≤ length u
 count l s u numbered [] h m = zero-le
-count l s u numbered (e ∷ es) h m = go (without u e.site (m e (Memᴰ.head refl))) (λ v. count l s v numbered es h.1)
+count l s u numbered (e ∷ es) h m = go (without e.site u (m e (Memᴰ.head refl))) (λ v. count l s v numbered es h.1)
   where
     go : Without u e.site → ((v : List Site) → ((f : Entry) → Memᴰ f es → Memᴰ f.site v) → length es ≤ length v) → suc (length es) ≤ length u
     go w ih =
@@ -146,4 +146,4 @@ count l s u numbered (e ∷ es) h m = go (without u e.site (m e (Memᴰ.head ref
 
 -- AT MOST AS MANY ENTRIES AS SITES
 pub few : (l : Leg) (s : List Site) → Numbered s → (es : List Entry) → IsSplitList l s es → length es ≤ length s
-few l s numbered es h = count l s s numbered es h.rules (listed_held l s numbered es h.rules)
+few l s numbered es h = count l s s numbered es h.rules (λ f. listed_held l s numbered f es h.rules)

@@ -47,11 +47,11 @@ module _ (l : Leg) (s : List Site) (numbered : Numbered s) where
       let f : IsFraction t = mid_fraction e.start (end_of rest) (omega arith) (end_fraction l s rest h.1) in
       leads_first e.site t f (h.0.leads t f (omega (arith, h.0.rises)) (omega (arith, h.0.rises)))
 
-  stretches_first : (es : List Entry) → Stretches l s es → FirstOfTies l s es
-  stretches_first es h e (Memᴰ.head {x = f} {xs = rest} i) =
+  stretches_first : (e : Entry) (es : List Entry) → Stretches l s es → Memᴰ e es → (q : Site) → Memᴰ q s → TieAlong l e.site q → ComesFirst l e.site q
+  stretches_first e es h (Memᴰ.head {x = f} {xs = rest} i) =
       subst⁻¹ (λ (g : Entry). (q : Site) → Memᴰ q s → TieAlong l g.site q → ComesFirst l g.site q) i (stretch_first f rest h)
-  stretches_first es h e (Memᴰ.tail {x = f} {xs = rest} i) = stretches_first rest h.1 e i
+  stretches_first e es h (Memᴰ.tail {x = f} {xs = rest} i) = stretches_first e rest h.1 i
 
   -- OF SITES THAT TIE along the whole leg a list names one on the right before others; then the lower number
   pub first_of_ties : (es : List Entry) → IsSplitList l s es → FirstOfTies l s es
-  first_of_ties es h = stretches_first es h.rules
+  first_of_ties es h = λ e. stretches_first e es h.rules

@@ -1,5 +1,7 @@
 // The one door for a lent table: lengths, then contents. Document 01, "The table's length is tested first, then the
 // work buffer's, then the table's contents"; document 02, C-17: 69 is "tested directly after 65".
+#![tactic(auto)]
+
 ghost use Rattle.std.specs.Prelude.{◌≡◌};
 ghost use Rattle.demands.specs.Batch.{lengths_ok};
 ghost use Rattle.table_admit.specs.Admitted.{AdmittedAs};
@@ -7,7 +9,7 @@ ghost use Rattle.table_admit.specs.Admitted.{AdmittedAs};
 use book::Reason;
 
 // A lent table is taken, or the call is refused for this reason.
-#[derive(Drop)]
+#[derive(Clone, Copy)]
 pub enum Admission {
     Taken,
     Refused(Reason),

@@ -1,4 +1,6 @@
 // Accepted changes, carried out: the site array, the tree, and then the standing list; the tour.
+#![tactic(auto)]
+
 ghost use Rattle.std.specs.Prelude.{◌<◌, ◌≤◌, length, ◌≡◌};
 ghost use Rattle.limits.specs.Limits.{max_sites};
 ghost use Rattle.grid.specs.Position.{OnGrid, LegOnGrid};

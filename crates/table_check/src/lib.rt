@@ -1,5 +1,7 @@
 // The two tests of a table's contents, of any 32,768 bytes: whether layout, tree, sites and tour keep their rules
 // (document 01, reason 65), and whether the standing leg and list do (document 02, C-17, reason 69).
+#![tactic(auto)]
+
 ghost use Rattle.std.specs.Prelude.{◌≡◌, ◌≤◌, length};
 ghost use Rattle.limits.specs.Limits.{table_bytes};
 ghost use Rattle.grid.specs.Says.{Says};

@@ -1,4 +1,4 @@
--- What laying out writes: "The laying_out call writes an empty table with no standing leg." Every byte is fixed:
+-- What laying out writes: "The laying-out call writes an empty table with no standing leg." Every byte is fixed:
 -- zero, but for the layout's number and the stack of free nodes, on which all nodes of the pool stand.
 -- Assumes nothing.
 use Rattle.std.specs.Prelude.{List, ℕ, zero, suc, ◌+◌, ◌*◌, replicate}

@@ -1,4 +1,6 @@
 // Laying out: the bytes of an empty table, and buffers set to zero.
+#![tactic(auto)]
+
 ghost use Rattle.std.specs.Prelude.{◌≡◌, length};
 ghost use Rattle.limits.specs.Limits.{table_bytes, max_nodes};
 ghost use Rattle.table_empty.specs.EmptyTable.{zeros, stacked, empty_table};

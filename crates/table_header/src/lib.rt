@@ -1,6 +1,8 @@
 // The table's header: the number of sites, the standing leg, the length of the standing list, the layout's number,
 // the tour, and the bytes that are kept for later: docs/LAYOUT.md. Each field is read and written here and nowhere
 // else, but that laying out first sets the whole table to 0.
+#![tactic(auto)]
+
 ghost use Rattle.std.specs.Prelude.{◌≡◌, ◌+◌, ◌<◌, ◌≤◌, length};
 ghost use Rattle.limits.specs.Limits.{table_bytes};
 ghost use Rattle.words.specs.Words.{put_word};
@@ -14,14 +16,14 @@ ghost use Rattle.std.proofs.Math.Option.{none, some};
 use grid::{Leg, Position};
 
 // A standing leg, or none.
-#[derive(Drop)]
+#[derive(Clone, Copy)]
 pub enum Standing {
     Unset,
     Along(Leg),
 }
 
 // A tour, or none: its last corner, and the number of the site that is remembered, 0 where there is none yet.
-#[derive(Drop)]
+#[derive(Clone, Copy)]
 pub enum Touring {
     Idle,
     From(Position, u16),

@@ -25,6 +25,7 @@ word_in b o (suc k) (suc j) h =
 
 not_in : (b : List ℕ) (n o k : ℕ) → ((j : ℕ) → j < k → word_at b (o + 2 * j) ≡ n → ⊥) → ¬ Memᴰ n (words_from b o k)
 unfolding words_from
+not_in b n o zero h x'' = elim x'' [ ]
 not_in b n o (suc k) h (Memᴰ.head e) = h 0 (omega arith) (ap (word_at b) (let z : o + 2 * 0 ≡ o = omega arith in z) ∙ sym e)
 not_in b n o (suc k) h (Memᴰ.tail m) =
     not_in b n (o + 2) k (λ j g q. h (suc j) (omega arith) (ap (word_at b) (let z : o + 2 * suc j ≡ o + 2 + 2 * j = omega arith in z) ∙ q)) m

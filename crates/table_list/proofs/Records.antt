@@ -35,7 +35,7 @@ module _ (b : List ℕ) (n : ℕ) (len : length b ≡ table_bytes) (s : SitesOk 
       record {
         number = ap (λ (x : Site). x.number) at ∙ g.number;
         line = m;
-        site = record { small = omega (arith, s.few); inside = omega (arith, s.few); on_grid_lem = s.on_grid (site_at b p) m };
+        site = record { small = omega (arith, s.few); inside = omega (arith, s.few); on_grid = s.on_grid (site_at b p) m };
       }
 
   pub never_absent : (r : Found) (k : ℕ) → r ≡ Found.Absent k → FoundAs r n (lines_in b) → holds n (lines_in b) ≡ true → PlaceOf b n 0

@@ -1,5 +1,7 @@
 // The stored standing list: loaded into a row of places, from site numbers back to records, searched for a number,
 // and asked whether it keeps a site out.
+#![tactic(auto)]
+
 ghost use Rattle.std.specs.Prelude.{◌≡◌, true, ◌<◌, ◌≤◌, length};
 ghost use Rattle.std.proofs.Math.Option.{some};
 ghost use mathlib.Core.List.{Memᴰ};

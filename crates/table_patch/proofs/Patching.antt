@@ -51,6 +51,7 @@ numbered_same s u w n =
 
 numbers_in_lem : (es : List Entry) (f : Entry) → Memᴰ f es → Memᴰ f.site.number (numbers_of es)
 unfolding numbers_of
+numbers_in_lem [] f x' = elim x' [ ]
 numbers_in_lem (e ∷ es) f (Memᴰ.head q) = Memᴰ.head (ap (λ (x : Entry). x.site.number) q)
 numbers_in_lem (e ∷ es) f (Memᴰ.tail m) = Memᴰ.tail (numbers_in_lem es f m)
 

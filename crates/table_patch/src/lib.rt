@@ -1,5 +1,7 @@
 // The standing list after a change of the sites: patched by the one site whose record has changed, or made anew by a
 // search of the tree.
+#![tactic(auto)]
+
 ghost use Rattle.std.specs.Prelude.{◌≡◌, false, ◌≤◌, length};
 ghost use Rattle.std.proofs.Math.Option.{some};
 ghost use Rattle.list_row.specs.Vertices.{row_bytes};

@@ -1,1 +1,2 @@
 // The table: what its bytes mean and when they are sound. Definitions alone, in specs/, and their laws, in proofs/.
+#![tactic(auto)]

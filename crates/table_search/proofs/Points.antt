@@ -23,10 +23,11 @@ line_points : (s : List Site) → SitesOnGrid s → Each LeafPoint (leaf_entries
 unfolding Each leaf_entries
 line_points [] g = tt
 line_points (p ∷ s) g =
-    (record { east = refl; north = refl; on_grid_lem = g p (Memᴰ.head refl) }, line_points s (λ q m. g q (Memᴰ.tail m)))
+    (record { east = refl; north = refl; on_grid = g p (Memᴰ.head refl) }, line_points s (λ q m. g q (Memᴰ.tail m)))
 
 entry_of : (s : List Site) (p : Site) → Memᴰ p s → Memᴰ (leaf_entry p) (leaf_entries s)
 unfolding leaf_entries
+entry_of [] p x' = elim x' [ ]
 entry_of (q ∷ s) p (Memᴰ.head e) = Memᴰ.head (ap leaf_entry e)
 entry_of (q ∷ s) p (Memᴰ.tail m) = Memᴰ.tail (entry_of s p m)
 
@@ -43,6 +44,7 @@ module _ (b : List ℕ) (w : Whole b) where
 
 site_of_lem : (l : List NodeEntry) (e : NodeEntry) → Memᴰ e l → Memᴰ (site_of e) (sites l)
 unfolding sites
+site_of_lem [] e x' = elim x' [ ]
 site_of_lem (d ∷ l) e (Memᴰ.head q) = Memᴰ.head (ap site_of q)
 site_of_lem (d ∷ l) e (Memᴰ.tail m) = Memᴰ.tail (site_of_lem l e m)
 
@@ -54,11 +56,13 @@ record From (l : List NodeEntry) (p : Site) : Type 0 where
 
 from : (l : List NodeEntry) (p : Site) → Memᴰ p (sites l) → From l p
 unfolding sites
+from [] p x' = elim x' [ ]
 from (d ∷ l) p (Memᴰ.head q) = record { entry = d; member = Memᴰ.head refl; is = sym q }
 from (d ∷ l) p (Memᴰ.tail m) = let f = from l p m in record { entry = f.entry; member = Memᴰ.tail f.member; is = f.is }
 
 line_of : (s : List Site) (e : NodeEntry) → Memᴰ e (leaf_entries s) → Memᴰ (site_of e) s
 unfolding leaf_entries
+line_of [] e x' = elim x' [ ]
 line_of (q ∷ s) e (Memᴰ.head z) = Memᴰ.head (ap site_of z)
 line_of (q ∷ s) e (Memᴰ.tail m) = Memᴰ.tail (line_of s e m)
 

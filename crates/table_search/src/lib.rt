@@ -1,5 +1,7 @@
 // The list of a leg over a whole table. One search answers 4C, makes the standing list anew, and gives the list that
 // a stored one is tested against.
+#![tactic(auto)]
+
 ghost use Rattle.std.specs.Prelude.{◌≤◌, length};
 ghost use Rattle.grid.specs.Position.{LegOnGrid};
 ghost use Rattle.list_row.specs.Vertices.{row_bytes};

@@ -1,5 +1,7 @@
 // The site array of the table, sorted by site number: it is the site book's lines. Document 01, "The site book";
 // docs/LAYOUT.md. A record is a site's number, its easting and its northing, and a word that is 0, 16 bits each.
+#![tactic(auto)]
+
 ghost use Rattle.std.specs.Prelude.{◌≡◌, ◌*◌, ◌-◌, ◌<◌, ◌≤◌, length};
 ghost use Rattle.limits.specs.Limits.{max_sites, table_bytes};
 ghost use Rattle.words.specs.Words.{word_at};
@@ -24,7 +26,7 @@ const NORTH_OFFSET: usize = 4;
 const SPARE_OFFSET: usize = 6;
 
 // Where a number stands: at a record, or in none, and then where it would go.
-#[derive(Drop)]
+#[derive(Clone, Copy)]
 pub enum Found {
     At(usize),
     Absent(usize),

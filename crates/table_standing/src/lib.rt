@@ -1,4 +1,6 @@
 // The standing list, as the table stores it: the site number of each entry.
+#![tactic(auto)]
+
 ghost use Rattle.std.specs.Prelude.{◌≡◌, ◌<◌, length};
 ghost use Rattle.limits.specs.Limits.{max_sites, table_bytes};
 ghost use Rattle.list_row.specs.Vertices.{Held, entries_in};

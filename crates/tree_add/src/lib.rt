@@ -2,6 +2,8 @@
 // so: a ninth entry is never stored but handed back, and the parent deals the eight and the one (crate tree_split);
 // on the way up a box grows by the new one, and is recomputed from the child's entries where the child was split. It
 // never fails: that a node is free for each split, and that the levels fit, is proved.
+#![tactic(auto)]
+
 ghost use Rattle.std.specs.Prelude.{◌<◌, length};
 ghost use Rattle.limits.specs.Limits.{max_sites};
 ghost use Rattle.tree_node.specs.Header.{root_in};
@@ -15,7 +17,7 @@ pub mod insert;
 pub mod root;
 
 // Whether a node took an entry, or hands one back: its ninth.
-#[derive(Drop)]
+#[derive(Clone, Copy)]
 pub enum Room {
     Kept,
     Over(NodeEntry),

@@ -1,6 +1,8 @@
 // The test of arbitrary bytes: whether the tree in a table keeps its rules and its leaf entries are those of the site
 // array. Follows document 01, "The tree", and its cause 65. The test walks the tree once and marks each node and each
 // record that it meets, so that no node is read twice: rubbish costs no more than a full tree.
+#![tactic(auto)]
+
 pub mod free;
 pub mod hints;
 pub mod marks;

@@ -1,5 +1,7 @@
 // A node of the tree and its entries in the table's bytes, the stack of free nodes, and the tree's header.
 // Follows document 01, "The tree". specs/Layout.antt says where each stands.
+#![tactic(auto)]
+
 pub mod boxes;
 pub mod free;
 pub mod header;
@@ -40,7 +42,7 @@ const ENTRY_SPARE: usize = 10;
 // An entry of a node: at a leaf the number of a site, above the leaves the child node's id, and the smallest box of
 // what lies under it. Coordinates are counted from the grid's south-west corner. The spare number is 0. The box comes
 // first, so that a copied entry's box lies in one machine word.
-#[derive(Drop)]
+#[derive(Clone, Copy)]
 pub struct NodeEntry {
     pub west: u16,
     pub south: u16,
@@ -52,7 +54,7 @@ pub struct NodeEntry {
 
 // The tree: nothing, or the height at which the root's entries stand, 0 where they are leaf entries, and the root's
 // node.
-#[derive(Drop)]
+#[derive(Clone, Copy)]
 pub enum Root {
     Empty,
     Top(usize, usize),

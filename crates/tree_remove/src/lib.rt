@@ -1,6 +1,8 @@
 // A leaf entry is removed from the tree. Follows document 01, "The tree", and Guttman's deletion: find the leaf, take
 // the entry, repair on the way up, shorten the tree. A node left with two entries is joined with a sibling on the
 // spot, where Guttman puts its entries in again at the end.
+#![tactic(auto)]
+
 pub mod root;
 pub mod take;
 
@@ -12,7 +14,7 @@ ghost use Rattle.tree_remove.specs.Removal.{Removed};
 use tree_node::{NodeEntry, header};
 
 // How a search for a leaf entry went: it is not there and nothing has changed, or it is gone.
-#[derive(Drop)]
+#[derive(Clone, Copy)]
 pub enum Removal {
     Absent,
     Gone,

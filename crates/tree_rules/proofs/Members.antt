@@ -64,6 +64,7 @@ counts x e = 1 - differ x e
 
 total_member : (x : NodeEntry) (l : List NodeEntry) → Memᴰ x l → 0 < total (counts x) l
 unfolding total
+total_member x [] x'' = elim x'' [ ]
 total_member x (e ∷ l) (Memᴰ.head q) = omega (arith, differ_itself x, ap (differ x) q)
 total_member x (e ∷ l) (Memᴰ.tail m) = omega (arith, total_member x l m)
 

@@ -99,7 +99,7 @@ module _ (t : List ℕ) (n i p : ℕ) (lt : i < length (entries t n)) (at : 2 * 
         record {
           small = omega (arith, eight t n, rd.id);
           inside = omega (arith, eight t n, rd.id, rd.len);
-          on_grid_lem = subst⁻¹ (λ (s : Site). OnGrid s.position) leaf_site (leaf_point ah).on_grid_lem;
+          on_grid = subst⁻¹ (λ (s : Site). OnGrid s.position) leaf_site (leaf_point ah).on_grid;
         }
 
     leaf_far : (q : Position) → area_distance (area_of (entry_of t n i)) q ≡ distance (site_at t p).position q

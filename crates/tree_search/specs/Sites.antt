@@ -16,7 +16,7 @@ site_of e = record { number = e.reference; position = record { east = e.west; no
 pub record LeafPoint (e : NodeEntry) : Type 0 where
   pub east : e.east ≡ e.west
   pub north : e.north ≡ e.south
-  pub on_grid_lem : OnGrid (site_of e).position
+  pub on_grid : OnGrid (site_of e).position
 
 -- the sites of leaf entries
 unfoldable pub sites : List NodeEntry → List Site

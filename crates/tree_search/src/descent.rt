@@ -63,7 +63,7 @@ fn search_leaf(
 }
 
 // After an entry: the length of the list, and the edge that was looked at last.
-#[derive(Drop)]
+#[derive(Clone, Copy)]
 struct Progress {
     k: usize,
     edge: Edge,

@@ -2,6 +2,8 @@
 // section 4, over the tree of document 01. There the entries of a node are sorted; here the nearest one is read first
 // and the others in stored order, since sorting them all did not pay. What the list shuts out is skipped, a whole
 // subtree at a time; ties are no skip. Each entry is read at most once, so a row of 512 is enough.
+#![tactic(auto)]
+
 pub mod boxes;
 pub mod descent;
 

@@ -2,6 +2,8 @@
 // Guttman's R-tree, which document 01, "The tree", names. That no entry is lost or doubled holds for any mask
 // (deal.rt); which mask is good is a heuristic with no contract beyond safety (mask.rt): it tries every cut along
 // both axes, where Guttman grows two groups from two seeds.
+#![tactic(auto)]
+
 ghost use Rattle.std.specs.Prelude.{◌≡◌, ◌<◌, length};
 ghost use Rattle.limits.specs.Limits.{max_entries, max_nodes, table_bytes};
 ghost use Rattle.tree_node.specs.Node.{entries};

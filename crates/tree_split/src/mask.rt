@@ -12,7 +12,7 @@ use limits::{MAX_ENTRIES, MIN_ENTRIES};
 use tree_node::{NodeEntry, pool};
 
 // A division of an order of boxes: how many come before the cut, and how bad it is.
-#[derive(Drop)]
+#[derive(Clone, Copy)]
 struct Division {
     at: usize,
     cost: u64,

@@ -1,4 +1,6 @@
 // Numbers of 16 bits in lent bytes, lowest byte first; bytes copied between two buffers, and moved within one.
+#![tactic(auto)]
+
 ghost use Rattle.std.specs.Prelude.{◌≡◌, ◌+◌, ◌-◌, ◌<◌, ◌≤◌, length};
 ghost use Rattle.words.specs.Words.{word_at, put_word, Copied};
 

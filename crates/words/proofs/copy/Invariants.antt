@@ -1,10 +1,9 @@
-use Rattle.std.proofs.Common.{◌-◌, ◌≡◌, ◌+◌, ◌<◌, ◌≤◌, length, ℕ, ◌*◌}
-use Rattle.words.specs.Words.{word_at, put_word, Copied}
+use Prim.Native.Nat.{◌-◌}
+use Rattle.words.proofs.Copying.{Copying}
 use Rattle.words.proofs.copy.Given as goal
 
 abbrev pub invariant-loop-k : goal.invariant-loop-k
-invariant-loop-k l = ?
+invariant-loop-k l = Copying l.src l.from l.initial.dst l.to l.n l.dst l.k
 
--- proposed from the loop's first test
 abbrev pub decreases-loop-k : goal.decreases-loop-k
 decreases-loop-k l = l.n - l.k

@@ -1,0 +1,15 @@
+use Rattle.call_judge.proofs.Deciding.{remove_zero, at_few, remove_done, remove_absent}
+use borrow.Author.Rules.{rules}
+use Rattle.call_judge.proofs.change.remove.Goals as goal
+
+pub returns-then-n-eq0 : goal.returns-then-n-eq0
+returns-then-n-eq0 c = search (rules, remove_zero)
+
+pub narrow-index-requires : goal.narrow-index-requires
+narrow-index-requires c = search (rules, at_few)
+
+pub returns-in-At : goal.returns-in-At
+returns-in-At c = search (rules, remove_done)
+
+pub returns-in-Absent : goal.returns-in-Absent
+returns-in-Absent c = search (rules, remove_absent)

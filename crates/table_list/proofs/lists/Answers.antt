@@ -1,0 +1,16 @@
+use borrow.Author.Rules.{rules}
+use Prim.Native.Nat.{◌-◌}
+use Rattle.table_list.proofs.Naming.{unnamed_none, unnamed_one, unnamed_all, named}
+use Rattle.table_list.proofs.lists.Goals as goal
+
+pub loop-i-init : goal.loop-i-init
+loop-i-init c = search (rules, unnamed_none)
+
+pub returns-then-m-n : goal.returns-then-m-n
+returns-then-m-n c = search (rules, named)
+
+pub loop-i-preserved : goal.loop-i-preserved
+loop-i-preserved c = search (rules, unnamed_one)
+
+pub returns : goal.returns
+returns c = search (rules, unnamed_all)

@@ -1,0 +1,9 @@
+use Prim.Native.Nat.{◌-◌, ◌≤◌}
+use Rattle.table_sites.specs.Lines.{Narrowed}
+use Rattle.table_sites.proofs.fall.Given as goal
+
+abbrev pub invariant-loop-step : goal.invariant-loop-step
+invariant-loop-step l = Narrowed l.t l.n l.from l.hi × (1 ≤ l.step)
+
+abbrev pub decreases-loop-step : goal.decreases-loop-step
+decreases-loop-step l = l.hi - l.from

@@ -1,0 +1,33 @@
+use Rattle.std.proofs.Common.{rules, arith}
+use Rattle.tree_check.proofs.Passing.{left_all, left_none, left_no, left_next, node_leaf, entry_far, entry_met, entry_unfit, entry_told, prepared_one}
+use Rattle.tree_check.proofs.walk.+check_entry_check_node.Goals as goal
+
+pub check_entry-returns-then-c-ge-MAX_NODES : goal.check_entry-returns-then-c-ge-MAX_NODES
+check_entry-returns-then-c-ge-MAX_NODES t c = search entry_far
+
+pub check_entry-check_node-requires : goal.check_entry-check_node-requires
+check_entry-check_node-requires t c = (omega arith, (search prepared_one, search rules))
+
+pub check_entry-returns-then-fits : goal.check_entry-returns-then-fits
+check_entry-returns-then-fits t c = search entry_told
+
+pub check_entry-returns-else-fits : goal.check_entry-returns-else-fits
+check_entry-returns-else-fits t c = search entry_unfit
+
+pub check_entry-returns-else-first : goal.check_entry-returns-else-first
+check_entry-returns-else-first t c = search entry_met
+
+pub check_node-loop-k-preserved : goal.check_node-loop-k-preserved
+check_node-loop-k-preserved t c = search left_next
+
+pub check_node-returns-in-loop-k : goal.check_node-returns-in-loop-k
+check_node-returns-in-loop-k t c = search left_no
+
+pub check_node-returns : goal.check_node-returns
+check_node-returns t c = search left_none
+
+pub check_node-loop-k-init : goal.check_node-loop-k-init
+check_node-loop-k-init t c = search left_all
+
+pub check_node-returns-then-h-eq0 : goal.check_node-returns-then-h-eq0
+check_node-returns-then-h-eq0 t c = search node_leaf

@@ -1,0 +1,9 @@
+use Rattle.tree_check.proofs.Passing.{fits_few, fits_told}
+use borrow.Author.Rules.{rules}
+use Rattle.tree_check.proofs.walk.fits.Goals as goal
+
+pub returns-then-count-lt-MIN_ENTRIES : goal.returns-then-count-lt-MIN_ENTRIES
+returns-then-count-lt-MIN_ENTRIES c = search (rules, fits_few)
+
+pub returns : goal.returns
+returns c = search fits_told
