@@ -7,13 +7,14 @@ PREFIX ?= /usr/local
 MINUTES ?= 10
 
 VERSION := $(shell sed -n 's/^\#define STOPS_VERSION "\(.*\)"/\1/p' include/stops.h)
-SOURCES := crates.txt $(shell find crates -type f \( -name '*.rt' -o -name '*.antt' \))
+SOURCES := crates.txt $(shell find crates -path '*/out' -prune -o -type f \( -name '*.rt' -o -name '*.antt' \) -print)
 HOST = target/staticlib/libhost.a
 PROBE = target/staticlib/liblist_probe.a
 READING_PROBE = target/staticlib/libreading_probe.a
-PROGRAM = target/bin/stops
+PROGRAM = target/obj/stops.o
 STOPS = target/package/stops
 STOPS_TEXT = text/target/release/stops-text
+KIT = $(dir $(realpath $(shell command -v rt)))..
 EXAMPLE = crates/stops/stdin
 ANSWERS = target/demo.answers
 
@@ -30,19 +31,20 @@ help:
 test:
 	bash .ci/run
 
+# rt leaves what it builds in the crate's out/, and `rt ci` sets that aside while it runs.
 $(HOST) $(PROBE) $(READING_PROBE): target/staticlib/lib%.a: $(SOURCES)
-	@rt staticlib $* >&2
-	@touch $@
+	@cd crates/$* && rt lib >&2
+	@install -D -m 644 crates/$*/out/lib$*.a $@
 
+# Built by a run on no commands.
 $(PROGRAM): $(SOURCES)
-	@rt check stops >&2
-	@touch $@
+	@cd crates/stops && rt run </dev/null >/dev/null
+	@install -D -m 644 crates/stops/out/stops.o $@
 
-# rt links the program against the C library of its kit, whose remainder of two floats (fmodf) asks for
-# glibc 2.38. This is the same proved object, linked against the C library of this machine.
-$(STOPS): $(PROGRAM)
+# The same proved object as in crates/stops/out/stops, linked once more: that one ignores SIGPIPE.
+$(STOPS): $(PROGRAM) package/sigpipe.c
 	@mkdir -p $(PACKAGE)
-	@cc target/obj/stops.o $(dir $(realpath $(shell command -v rt)))../lib/libos_c.a -lm -o $@
+	@cc -Wl,--wrap=__sysv_signal $^ $(KIT)/c/libos_c.a $(KIT)/c/liblibc_c.a -o $@
 
 text: $(HOST)
 	@cargo build --offline --release --manifest-path text/Cargo.toml >&2
@@ -65,8 +67,8 @@ bench: $(HOST) $(PROBE)
 soak: $(HOST)
 	cargo run --offline --release --manifest-path tests/Cargo.toml -p soak --features proved -- $(MINUTES) $(SEED)
 
-# All 2^32 patterns of a receiver's reading: the proved rounding beside the second program's, with the
-# remainder of Rust's own library, and beside the rule in C, with that of the C library.
+# All 2^32 patterns of a receiver's reading: the proved rounding beside the second program's, as a Rust program
+# links it, and beside the rule in C, as a C program does.
 readings: $(READING_PROBE)
 	cargo run --offline --release --manifest-path tests/Cargo.toml -p readings
 	@mkdir -p $(PACKAGE)
@@ -85,9 +87,9 @@ $(PACKAGE)/libstops.a: $(PACKAGE)/stops.o
 	ar rcs $@ $<
 
 $(SHARED): $(PACKAGE)/stops.o package/stops.map
-	cc -shared -Wl,-soname,$(SONAME) -Wl,--version-script=package/stops.map -Wl,--no-undefined $< -lm -o $@
+	cc -shared -Wl,-soname,$(SONAME) -Wl,--version-script=package/stops.map -Wl,--no-undefined $< -o $@
 
 include package/install.mk
 
 clean:
-	rm -rf target binding/target tests/target text/target bench/*/target
+	rm -rf target crates/*/out binding/target tests/target text/target bench/*/target

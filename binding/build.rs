@@ -27,7 +27,7 @@ fn link(library: &str) {
     let archive = own.join(FOLDER).join(&name);
     assert!(
         archive.is_file(),
-        "{} is missing: `rt staticlib {library}` writes it",
+        "{} is missing: `make target/staticlib/{name}` writes it",
         archive.display()
     );
     // Only paths within OUT_DIR follow a checkout that is copied with what it has built.

@@ -31,7 +31,8 @@ fn an_input_is_not_overwritten() {
     let folder = folder("input");
     let lines = folder.join("lines.txt");
     std::fs::write(&lines, STOPS).unwrap();
-    std::os::unix::fs::symlink("lines.txt", folder.join("link.svg")).unwrap();
+    let link = folder.join("link.svg");
+    std::os::unix::fs::symlink("lines.txt", &link).unwrap();
     for out in ["lines.txt", "./lines.txt", "link.svg"] {
         let ran = drawn(&folder, &["--svg", out, "lines.txt"], "");
         refused(&ran, "it is an input; --force overwrites it");
@@ -39,6 +40,8 @@ fn an_input_is_not_overwritten() {
         assert_eq!(ran.text(), "");
         assert_eq!(std::fs::read_to_string(&lines).unwrap(), STOPS);
     }
+    // The gate takes no link in the checkout.
+    std::fs::remove_file(&link).unwrap();
     let mut redirected = Command::new(PROGRAM);
     redirected
         .arg("--svg")

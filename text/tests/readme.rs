@@ -15,9 +15,12 @@ fn readme() -> String {
 fn shell(command: &str) -> String {
     let folder = scratch("readme");
     std::fs::create_dir_all(folder.join("docs")).unwrap();
-    let _ = std::fs::remove_file(folder.join("examples"));
-    let examples = std::fs::canonicalize(at_root("examples")).unwrap();
-    std::os::unix::fs::symlink(examples, folder.join("examples")).unwrap();
+    std::fs::create_dir_all(folder.join("examples")).unwrap();
+    for example in std::fs::read_dir(at_root("examples")).unwrap() {
+        let example = example.unwrap();
+        let copy = folder.join("examples").join(example.file_name());
+        std::fs::copy(example.path(), copy).unwrap();
+    }
     let command = command.replace(SHOWN, PROGRAM);
     let mut shell = Command::new("sh");
     let output = shell

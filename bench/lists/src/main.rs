@@ -1,6 +1,6 @@
 //! How long the proved building of a split list takes, against plain Rust.
 //!
-//! `make bench` runs it: `rt staticlib list_probe` writes the proved code, then
+//! `make bench` runs it: `rt lib` in crates/list_probe writes the proved code, then
 //! `cargo run --release --manifest-path bench/lists/Cargo.toml`.
 //!
 //! Every time is for one list over 512 sites, its record included. The programs take turns at a

@@ -1,6 +1,6 @@
 //! How many nodes the search of a leg reads, beside the optimal number.
 //!
-//! `make bench` runs it: `rt staticlib host` writes the proved service, then
+//! `make bench` runs it: `rt lib` in crates/host writes the proved service, then
 //! `cargo run --release --manifest-path bench/nodes/Cargo.toml`.
 //!
 //! The proved service makes the tables. The nodes are counted by the same search in plain Rust

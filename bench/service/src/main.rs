@@ -1,6 +1,6 @@
 //! How long the calls of the proved service take, against plain Rust.
 //!
-//! `make bench` runs it: `rt staticlib host` writes the proved service, then
+//! `make bench` runs it: `rt lib` in crates/host writes the proved service, then
 //! `cargo run --release --manifest-path bench/service/Cargo.toml`.
 //!
 //! The programs take turns at each table; a time is the mean over the tables of the medians over

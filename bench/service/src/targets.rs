@@ -52,8 +52,8 @@ impl Targets {
         self.hold(what, HULL, ratio, Bound::AtLeast(hull));
     }
 
-    /// Of readings: than the hull only to be seen. Their remainders are the C library's, and what these
-    /// take differs from one to the next.
+    /// Of readings: than the hull only to be seen. It has no target, since the time of their remainders was the
+    /// C library's when it was set.
     pub fn faster_by_readings(&mut self, what: &str, times: &Times, wrap: f64) {
         self.faster_than_wrapping(what, times, wrap);
         self.show(what, HULL, times.hull / times.together);

@@ -1,5 +1,5 @@
-/* The proved rounding as a C program links it, with the C library's remainder (fmodf), beside the rule in whole
- * numbers. Rust programs take the remainder of Rust's own library, so the other tests here try that one.
+/* The proved rounding as a C program links it, beside the rule in whole numbers. The other tests here link it into a
+ * Rust program.
  *
  * readings near   the patterns near every half and every step, and at every exponent
  * readings all    all 2^32, on two threads
