@@ -4,7 +4,7 @@ use mathlib.Core.Path.{◌≡◌, refl, sym, ap, ◌∙◌}
 use mathlib.Core.Logic.{◌≢◌}
 use mathlib.Core.Bool.{Bool, true, false, cond, not, ◌&&◌, true≢false}
 use mathlib.Core.List.{List, [], ◌∷◌}
-use mathlib.Core.Option.{Option, none, some}
+use Rattle.std.specs.Prelude.{Option, None, Some}
 use Prim.Native.Nat.{ℕ}
 use native.Mathlib.Omega.{arith}
 use lib.ListN.{length}
@@ -206,17 +206,17 @@ module _ (b : Book) (l : Leg) where
 
 module _ (b : Book) where
   -- cause 7: no leg stands
-  pub answer_print_legless : b.leg ≡ none → answer b Print ≡ refused NoLeg
+  pub answer_print_legless : b.leg ≡ None → answer b Print ≡ refused NoLeg
   unfolding answer
   answer_print_legless h = rw h refl
 
   -- cause 6: no site is held
-  pub answer_print_empty : (l : Leg) → b.leg ≡ some l → length (sites_of b) ≡ 0 → answer b Print ≡ refused NoSite
+  pub answer_print_empty : (l : Leg) → b.leg ≡ Some l → length (sites_of b) ≡ 0 → answer b Print ≡ refused NoSite
   unfolding answer
   answer_print_empty l h e = rw (h, eq-eqb (length (sites_of b)) 0 e) refl
 
   -- no cause: the list of the standing leg
-  pub answer_print_done : (l : Leg) → b.leg ≡ some l → length (sites_of b) ≢ 0
+  pub answer_print_done : (l : Leg) → b.leg ≡ Some l → length (sites_of b) ≢ 0
       → answer b Print ≡ listed (split_of l (sites_of b))
   unfolding answer
   answer_print_done l h e = rw (h, ne_eqb (length (sites_of b)) 0 e) refl
@@ -237,11 +237,11 @@ module _ (b : Book) (p : Position) where
   -- ---- 43: a tour's next leg
 
   -- cause 8: no tour
-  pub answer_corner_tourless : b.tour ≡ none → answer b (Corner p) ≡ refused NoTour
+  pub answer_corner_tourless : b.tour ≡ None → answer b (Corner p) ≡ refused NoTour
   unfolding answer
   answer_corner_tourless h = rw h refl
 
-  module _ (k : Tour) (h : b.tour ≡ some k) where
+  module _ (k : Tour) (h : b.tour ≡ Some k) where
     -- cause 2: off the grid
     pub answer_corner_off : ¬ OnGrid p → answer b (Corner p) ≡ refused OffGrid
     unfolding answer
@@ -323,14 +323,14 @@ list_accepted b l es h =
 -- A STANDING LIST THAT IS GIVEN
 pub record PrintFits (b : Book) (es : List Entry) : Type 0 where
   pub line : Leg
-  pub stands : b.leg ≡ some line
+  pub stands : b.leg ≡ Some line
   pub some_site : length (sites_of b) ≢ 0
   pub is : es ≡ split_of line (sites_of b)
 
 -- a leg stands
-leg_stands : (o : Option Leg) → legless o ≡ false → (l : Leg) × (o ≡ some l)
-leg_stands none h = absurd (true≢false h)
-leg_stands (some l) h = (l, refl)
+leg_stands : (o : Option Leg) → legless o ≡ false → (l : Leg) × (o ≡ Some l)
+leg_stands None h = absurd (true≢false h)
+leg_stands (Some l) h = (l, refl)
 
 -- every list that 50 is answered with is given so
 pub print_accepted : (b : Book) (es : List Entry) → answer b Print ≡ listed es → PrintFits b es
@@ -347,15 +347,15 @@ print_accepted b es h =
 -- A LEG OF A TOUR THAT IS ANSWERED
 pub record CornerFits (b : Book) (p : Position) (es : List Entry) : Type 0 where
   pub tour : Tour
-  pub runs : b.tour ≡ some tour
+  pub runs : b.tour ≡ Some tour
   pub on_grid : OnGrid p
   pub some_site : length (sites_of b) ≢ 0
   pub is : es ≡ left_out tour.last (split_of (leg_to tour p) (sites_of b))
 
 -- a tour is under way
-tour_runs : (o : Option Tour) → tourless o ≡ false → (k : Tour) × (o ≡ some k)
-tour_runs none h = absurd (true≢false h)
-tour_runs (some k) h = (k, refl)
+tour_runs : (o : Option Tour) → tourless o ≡ false → (k : Tour) × (o ≡ Some k)
+tour_runs None h = absurd (true≢false h)
+tour_runs (Some k) h = (k, refl)
 
 -- every list that 43 is answered with is given so
 pub corner_accepted : (b : Book) (p : Position) (es : List Entry) → answer b (Corner p) ≡ listed es → CornerFits b p es

@@ -1,7 +1,7 @@
 -- The lists that a book answers: document 01's split lists, short enough for any report record, and nothing of them is cut off.
 -- Assumes nothing.
 use mathlib.Core.Path.{◌≡◌, refl, sym, ap, ◌∙◌, subst, subst⁻¹}
-use mathlib.Core.Option.{Option, none, some}
+use Rattle.std.specs.Prelude.{Option, None, Some}
 use mathlib.Core.List.{List, [], ◌∷◌, ◌++◌, map, Memᴰ}
 use Prim.Native.Nat.{ℕ, ◌≤◌, ◌<◌}
 use native.Mathlib.Omega.{arith}
@@ -49,7 +49,7 @@ listed_held l s es h f m = held_of l s f es h m
 pub last_held : (l : Leg) (s : List Site) (o : Option ℕ) (es : List Entry) → Stretches l s es → LastHeld o s → LastHeld (last_number o es) s
 last_held l s o [] h k = k
 last_held l s o (e ∷ es) h k =
-    last_held l s (some e.site.number) es h.1
+    last_held l s (Some e.site.number) es h.1
     (member_holds e.site.number s e.site (listed_held l s (e ∷ es) h e (Memᴰ.head refl)) refl)
 
 -- THE SIZE OF A RECORD is the number of its bytes
@@ -62,23 +62,23 @@ record_size_lem (listed es) = record_length es
 -- sites
 pub record BookList (b : Book) (c : Command) (es : List Entry) : Type 0 where
   pub leg : Leg
-  pub asked : leg_asked b c ≡ some leg
+  pub asked : leg_asked b c ≡ Some leg
   pub is : es ≡ shown_by b c (split_of leg (sites_of b))
   pub on_grid : LegOnGrid leg
 
 -- what a command shows is the end of the list
 pub shown_ends : (b : Book) (c : Command) (es : List Entry) → EndOf (shown_by b c es) es
-shown_ends b (Add n l) es = left_ends none es
-shown_ends b (Remove n) es = left_ends none es
-shown_ends b (Move n l) es = left_ends none es
-shown_ends b (ListOf l) es = left_ends none es
-shown_ends b (Stand l) es = left_ends none es
-shown_ends b Print es = left_ends none es
-shown_ends b (Begin p) es = left_ends none es
+shown_ends b (Add n l) es = left_ends None es
+shown_ends b (Remove n) es = left_ends None es
+shown_ends b (Move n l) es = left_ends None es
+shown_ends b (ListOf l) es = left_ends None es
+shown_ends b (Stand l) es = left_ends None es
+shown_ends b Print es = left_ends None es
+shown_ends b (Begin p) es = left_ends None es
 shown_ends b (Corner p) es = left_ends (remembered b.tour) es
 
 module _ (b : Book) (ok : Proper b) where
-  leg_ok_lem : (l : Leg) → b.leg ≡ some l → LegOnGrid l
+  leg_ok_lem : (l : Leg) → b.leg ≡ Some l → LegOnGrid l
   leg_ok_lem l e = subst (λ (o : Option Leg). LegOk o) e ok.leg_ok
 
   split_list : (l : Leg) → IsSplitList l (sites_of b) (split_of l (sites_of b))

@@ -2,7 +2,7 @@
 -- Assumes nothing.
 use mathlib.Core.Path.{◌≡◌, refl}
 use mathlib.Core.Bool.{Bool, true, false, cond}
-use mathlib.Core.Option.{Option, none, some}
+use Rattle.std.specs.Prelude.{Option, None, Some}
 use mathlib.Core.List.{List, [], ◌∷◌}
 use Prim.Native.Nat.{ℕ, ◌+◌, ◌≤◌, ◌<◌}
 use native.Mathlib.Omega.{arith}
@@ -22,11 +22,11 @@ module _ (s : List ℕ) (at : ℕ) where
 
   module _ (l : at < length s) where
     -- no command
-    pub parse_unknown : form_of (get_or s at 0) ≡ none → parse_at s at ≡ Unknown
+    pub parse_unknown : form_of (get_or s at 0) ≡ None → parse_at s at ≡ Unknown
     unfolding parse_at
     parse_unknown e = rw (lt-leb (length s) at l, e) refl
 
-    module _ (f : Form) (e : form_of (get_or s at 0) ≡ some f) where
+    module _ (f : Form) (e : form_of (get_or s at 0) ≡ Some f) where
       -- a command that is cut short
       pub parse_cut : length s < at + form_bytes f → parse_at s at ≡ Cut
       unfolding parse_at
@@ -56,8 +56,8 @@ parse_finds s at = go (leb (length s) at) refl (form_of (get_or s at 0))
 
     go : (t : Bool) → leb (length s) at ≡ t → (f : Option Form) → Finds s at (cond t End (command_at s at f))
     go true h f = leb-true (length s) at h
-    go false h none = leb-false (length s) at h
-    go false h (some f) = here (leb-false (length s) at h) f (ltb (length s) (at + form_bytes f)) refl
+    go false h None = leb-false (length s) at h
+    go false h (Some f) = here (leb-false (length s) at h) f (ltb (length s) (at + form_bytes f)) refl
 
 -- a whole command takes at least a byte, and ends within the bytes
 pub parse_next : (s : List ℕ) (at : ℕ) (c : Command) (next : ℕ) → parse_at s at ≡ Whole c next → (at < next) × (next ≤ length s)
@@ -88,7 +88,7 @@ module _ (s : List ℕ) (at m : ℕ) where
       here false h x = absurd (let z : ◌≡◌ {A = ℕ} 0 1 = cc in omega arith)
 
       go : (t u : Bool) → leb (longest_in fs) (form_bytes f) ≡ u → (command_at s at (form_in fs m) ≡ Cut → length s < at + longest_in fs)
-          → command_at s at (cond t (some f) (form_in fs m)) ≡ Cut → length s < at + cond u (form_bytes f) (longest_in fs)
+          → command_at s at (cond t (Some f) (form_in fs m)) ≡ Cut → length s < at + cond u (form_bytes f) (longest_in fs)
       go true true h ih x = here (ltb (length s) (at + form_bytes f)) refl x
       go true false h ih x = omega (arith, leb-false (longest_in fs) (form_bytes f) h, here (ltb (length s) (at + form_bytes f)) refl x)
       go false true h ih x = omega (arith, leb-true (longest_in fs) (form_bytes f) h, ih x)

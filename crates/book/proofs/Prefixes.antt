@@ -2,7 +2,7 @@
 -- Assumes nothing.
 use mathlib.Core.Path.{◌≡◌, refl, sym, ap, ◌∙◌, subst, subst⁻¹}
 use mathlib.Core.Bool.{Bool, true, false, cond}
-use mathlib.Core.Option.{Option, none, some}
+use Rattle.std.specs.Prelude.{Option, None, Some}
 use mathlib.Core.List.{List, [], ◌∷◌, ◌++◌, append_assoc, append-nil}
 use Prim.Native.Nat.{ℕ, zero, suc, ◌+◌, ◌*◌, ◌≤◌, ◌<◌}
 use native.Mathlib.Omega.{arith}
@@ -80,8 +80,8 @@ module _ (s more : List ℕ) where
           (ap (λ (y : Command). Whole y (at + form_bytes f)) (made_front f.shape f.maker (at + 1) (omega arith)) ∙ x)
 
       found : (f : Option Form) → command_at s at f ≡ Whole d next → command_at (s ++ more) at f ≡ Whole d next
-      found none x = x
-      found (some f) x = here f (ltb (length s) (at + form_bytes f)) refl x
+      found None x = x
+      found (Some f) x = here f (ltb (length s) (at + form_bytes f)) refl x
 
       go : (t : Bool) → leb (length s) at ≡ t → cond t End (command_at s at (form_of (get_or s at 0))) ≡ Whole d next → parse_at (s ++ more) at ≡ Whole d next
       go true e x = absurd (subst⁻¹ IsWhole x tt)

@@ -4,7 +4,7 @@ use mathlib.Core.Path.{◌≡◌, refl, sym, ap, ◌∙◌, subst}
 use mathlib.Core.Logic.{◌≢◌}
 use mathlib.Core.Bool.{Bool, false}
 use mathlib.Core.List.{List, [], ◌∷◌, ◌++◌, append_assoc, append-nil}
-use mathlib.Core.Option.{some}
+use Rattle.std.specs.Prelude.{Some}
 use Prim.Native.Nat.{ℕ, ◌+◌, ◌*◌, ◌/◌, ◌%◌, ◌^◌, ◌≤◌, ◌<◌}
 use native.Mathlib.Nat.{add_assoc, zero-add}
 use native.Mathlib.Omega.{arith}
@@ -164,7 +164,7 @@ made_behind NumberReadings f pre s i =
 
 module _ (pre : List ℕ) (t : List ℕ) where
   -- a mark and its operands, whatever their shape
-  behind : (m : ℕ) (os : List ℕ) (f : Form) → form_of m ≡ some f → length os ≡ operand_bytes f.shape
+  behind : (m : ℕ) (os : List ℕ) (f : Form) → form_of m ≡ Some f → length os ≡ operand_bytes f.shape
       → (c : Command) → made_at f.shape f.maker (m ∷ os ++ t) 1 ≡ c
       → parse_at (pre ++ (m ∷ os ++ t)) (length pre) ≡ Whole c (length pre + (1 + length os))
   behind m os f e n c h =
@@ -173,15 +173,15 @@ module _ (pre : List ℕ) (t : List ℕ) where
       parse_whole (pre ++ s) (length pre) (omega arith) f (ap form_of (get_or-append_seam pre m (os ++ t) 0) ∙ e) k
       ∙ (λ j. Whole ((made_behind f.shape f.maker pre s 1 ∙ h) j) (length pre + (1 + sym n j)))
 
-  number_behind : (m : ℕ) (f : Maker Number) → form_of m ≡ some (form m Number f) → (n : ℕ) → n < 65536
+  number_behind : (m : ℕ) (f : Maker Number) → form_of m ≡ Some (form m Number f) → (n : ℕ) → n < 65536
       → parse_at (pre ++ (m ∷ bytes2 n ++ t)) (length pre) ≡ Whole (f n) (length pre + form_bytes (form m Number f))
   number_behind m f e n h = behind m (bytes2 n) (form m Number f) e refl (f n) (ap f (number_back m n t h))
 
-  one_position_behind : (m : ℕ) (f : Maker OnePosition) → form_of m ≡ some (form m OnePosition f) → (p : Position) → PositionSmall p
+  one_position_behind : (m : ℕ) (f : Maker OnePosition) → form_of m ≡ Some (form m OnePosition f) → (p : Position) → PositionSmall p
       → parse_at (pre ++ (m ∷ position_bytes p ++ t)) (length pre) ≡ Whole (f p) (length pre + form_bytes (form m OnePosition f))
   one_position_behind m f e p h = behind m (position_bytes p) (form m OnePosition f) e refl (f p) (ap f (place_back m p t h))
 
-  number_position_behind : (m : ℕ) (f : Maker NumberPosition) → form_of m ≡ some (form m NumberPosition f)
+  number_position_behind : (m : ℕ) (f : Maker NumberPosition) → form_of m ≡ Some (form m NumberPosition f)
       → (n : ℕ) (p : Position) → (n < 65536) × PositionSmall p
       → parse_at (pre ++ (m ∷ bytes2 n ++ position_bytes p ++ t)) (length pre)
       ≡ Whole (f n p) (length pre + form_bytes (form m NumberPosition f))
@@ -189,13 +189,13 @@ module _ (pre : List ℕ) (t : List ℕ) where
       behind m (bytes2 n ++ position_bytes p) (form m NumberPosition f) e refl (f n p)
       (λ j. f (number_back m n (position_bytes p ++ t) h.0 j) (position_back m (n % 256) (n / 256 % 256) p t h.1 j))
 
-  two_positions_behind : (m : ℕ) (f : Maker TwoPositions) → form_of m ≡ some (form m TwoPositions f)
+  two_positions_behind : (m : ℕ) (f : Maker TwoPositions) → form_of m ≡ Some (form m TwoPositions f)
       → (l : Leg) → PositionSmall l.s × PositionSmall l.e
       → parse_at (pre ++ (m ∷ leg_bytes l ++ t)) (length pre)
       ≡ Whole (f l) (length pre + form_bytes (form m TwoPositions f))
   two_positions_behind m f e l h = behind m (leg_bytes l) (form m TwoPositions f) e refl (f l) (ap f (leg_back m l t h.0 h.1))
 
-  number_readings_behind : (m : ℕ) (f : Maker NumberReadings) → form_of m ≡ some (form m NumberReadings f)
+  number_readings_behind : (m : ℕ) (f : Maker NumberReadings) → form_of m ≡ Some (form m NumberReadings f)
       → (n : ℕ) (r : Reading) → (n < 65536) × ReadingFits r
       → parse_at (pre ++ (m ∷ bytes2 n ++ reading_bytes r ++ t)) (length pre)
       ≡ Whole (f n r) (length pre + form_bytes (form m NumberReadings f))

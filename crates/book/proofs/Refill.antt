@@ -2,7 +2,7 @@
 -- Assumes nothing.
 use mathlib.Core.Path.{◌≡◌, refl, sym, ap, ◌∙◌, subst⁻¹}
 use mathlib.Core.Bool.{false}
-use mathlib.Core.Option.{none}
+use Rattle.std.specs.Prelude.{None}
 use mathlib.Core.List.{List, [], ◌∷◌, ◌++◌, map, Memᴰ}
 use Prim.Native.Nat.{ℕ, suc, ◌+◌, ◌≤◌}
 use native.Mathlib.Omega.{arith}
@@ -65,7 +65,7 @@ after_calls b (x ∷ xs) = after_calls (run (additions x.sites) x.room b).book x
 
 -- a book without a leg and a tour
 abbrev pub leg_free : List Site → Book
-leg_free s = record { lines = s; leg = none; tour = none }
+leg_free s = record { lines = s; leg = None; tour = None }
 
 -- ---- one call
 

@@ -2,7 +2,7 @@
 -- Assumes nothing.
 use mathlib.Core.Path.{◌≡◌, refl, sym, ap, ◌∙◌, subst}
 use mathlib.Core.Logic.{◌≢◌}
-use mathlib.Core.Option.{Option, none, some}
+use Rattle.std.specs.Prelude.{Option, None, Some}
 use mathlib.Core.List.{List, [], ◌∷◌, ◌++◌, map}
 use Prim.Native.Nat.{ℕ}
 use native.Mathlib.Omega.{arith}
@@ -29,8 +29,8 @@ use Rattle.book.proofs.Hearing.{told_of, heard_of, Along}
 
 -- a tour that was heard, as the book has it
 abbrev pub as_tour : Option Trip → Option Tour
-as_tour none = none
-as_tour (some k) = some (record { corner = k.corner; last = last_heard k })
+as_tour None = None
+as_tour (Some k) = Some (record { corner = k.corner; last = last_heard k })
 
 -- ---- one turn
 
@@ -48,17 +48,17 @@ module _ (b : Book) (ok : Proper b) where
       where
         go : (o : Option Trip) → b.tour ≡ as_tour o
             → goes_on b.tour p (list_of (tour_leg b.tour p) (sites_of b)) ≡ as_tour (onward o p (map listed_of es))
-        go none q = ap (λ (x : Option Tour). goes_on x p (list_of (tour_leg x p) (sites_of b))) q
-        go (some k) q =
+        go None q = ap (λ (x : Option Tour). goes_on x p (list_of (tour_leg x p) (sites_of b))) q
+        go (Some k) q =
             let t : Tour = record { corner = k.corner; last = last_heard k } in
             let same : f.tour ≡ t = cc in
-            let last : last_number t.last (left_out t.last (split_of (leg_to t p) (sites_of b))) ≡ last_number none (split_of (leg_to t p) (sites_of b)) =
+            let last : last_number t.last (left_out t.last (split_of (leg_to t p) (sites_of b))) ≡ last_number None (split_of (leg_to t p) (sites_of b)) =
             left_last t.last (split_of (leg_to t p) (sites_of b)) (whole_some t p f.some_site) in
             let shown : es ≡ left_out t.last (split_of (leg_to t p) (sites_of b)) =
             f.is ∙ ap (λ (x : Tour). left_out x.last (split_of (leg_to x p) (sites_of b))) same in
             ap (λ (x : Option Tour). goes_on x p (list_of (tour_leg x p) (sites_of b))) q
-            ∙ ap (λ (n : Option ℕ). some (record { corner = p; last = n }))
-            (sym (last_append none k.entries (map listed_of es) ∙ last_read (last_heard k) es
+            ∙ ap (λ (n : Option ℕ). Some (record { corner = p; last = n }))
+            (sym (last_append None k.entries (map listed_of es) ∙ last_read (last_heard k) es
             ∙ ap (λ (x : List Entry). last_number (last_heard k) x) shown ∙ last))
 
     done_heard : (c : Command) → answer b c ≡ done → (change c b).tour ≡ as_tour (hear h c (told_of done))
@@ -97,8 +97,8 @@ module _ (b : Book) (ok : Proper b) where
         f = corner_accepted b p es a
 
         go : (o : Option Trip) → b.tour ≡ as_tour o → LegTold b o p (map listed_of es)
-        go none q = absurd (let z : ◌≡◌ {A = ℕ} 0 1 = (let s = f.runs in cc) in omega arith)
-        go (some k) q = by (split_of (leg_to t p) (sites_of b)) (whole_is t p) refl (whole_some t p f.some_site)
+        go None q = absurd (let z : ◌≡◌ {A = ℕ} 0 1 = (let s = f.runs in cc) in omega arith)
+        go (Some k) q = by (split_of (leg_to t p) (sites_of b)) (whole_is t p) refl (whole_some t p f.some_site)
           where
             t : Tour
             t = record { corner = k.corner; last = last_heard k }
@@ -112,7 +112,7 @@ module _ (b : Book) (ok : Proper b) where
             fits : TourFits t (sites_of b)
             fits = subst (λ (x : Option Tour). TourOk x (sites_of b)) q ok.tour_ok
 
-            by : (w : List Entry) → IsSplitList (leg_to t p) (sites_of b) w → split_of (leg_to t p) (sites_of b) ≡ w → w ≢ [] → LegTold b (some k) p (map listed_of es)
+            by : (w : List Entry) → IsSplitList (leg_to t p) (sites_of b) w → split_of (leg_to t p) (sites_of b) ≡ w → w ≢ [] → LegTold b (Some k) p (map listed_of es)
             by [] r z n = absurd (n refl)
             by (x ∷ w) r z n =
                 let shows : es ≡ left_out (last_heard k) (x ∷ w) = shown ∙ ap (left_out (last_heard k)) z in
@@ -126,7 +126,7 @@ module _ (b : Book) (ok : Proper b) where
                         site = name_from u x w;
                         names = refl;
                         told =
-                            subst (λ (y : List Entry). said_at u (last_heard k) (map listed_of y) ≡ some (name_from u x w).number) (sym shows)
+                            subst (λ (y : List Entry). said_at u (last_heard k) (map listed_of y) ≡ Some (name_from u x w).number) (sym shows)
                             (left_said (leg_to t p) (sites_of b) u fu (last_heard k) x w r);
                       };
                   record_is = ap (map listed_of) shows;
@@ -201,9 +201,9 @@ recast : {b d : Book} {o h : Option Trip} {p : Position} {es fs : List Listed} �
 recast e f g r = rw (e, f, g) r
 
 -- A 43 THAT WAS HEARD TELLS ITS LEG
-pub heard_told : (b : Book) → b.tour ≡ none → (us : List Turn) → Answered b us → Along b us
+pub heard_told : (b : Book) → b.tour ≡ None → (us : List Turn) → Answered b us → Along b us
     → (past later : List Exchange) (p : Position) (fs : List Listed) → map heard_of us ≡ past ++ (heard_leg p fs ∷ later)
-    → LegTold (after_heard b past) (hear_all none past) p fs
+    → LegTold (after_heard b past) (hear_all None past) p fs
 heard_told b n us a k past later p fs e =
     let r = parted us past (heard_leg p fs) later e in
     let all = r.before ++ (r.here ∷ r.behind) in
@@ -214,7 +214,7 @@ heard_told b n us a k past later p fs e =
     let (es, q) = list_told r.here.reply fs told in
     let said : answer (after_all b r.before) (Corner p) ≡ listed es =
     ap (answer (after_all b r.before)) (sym command) ∙ sym (answered_at b r.before r.here r.behind a') ∙ q.0 in
-    let one : LegTold (after_all b r.before) (hear_all none (map heard_of r.before)) p (map listed_of es) =
-    corner_told (after_all b r.before) (along_end b r.before (r.here ∷ r.behind) k') (hear_all none (map heard_of r.before))
-    (along_heard b none n r.before (r.here ∷ r.behind) a' k') p es said in
-    recast (ap (after_heard b) r.heard_before ∙ heard_book b r.before) (ap (hear_all none) r.heard_before) q.1 one
+    let one : LegTold (after_all b r.before) (hear_all None (map heard_of r.before)) p (map listed_of es) =
+    corner_told (after_all b r.before) (along_end b r.before (r.here ∷ r.behind) k') (hear_all None (map heard_of r.before))
+    (along_heard b None n r.before (r.here ∷ r.behind) a' k') p es said in
+    recast (ap (after_heard b) r.heard_before ∙ heard_book b r.before) (ap (hear_all None) r.heard_before) q.1 one

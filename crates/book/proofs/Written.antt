@@ -3,7 +3,7 @@
 -- Assumes nothing.
 use mathlib.Core.Path.{◌≡◌, refl, sym, ap, ap₂, ◌∙◌, subst, subst⁻¹}
 use mathlib.Core.Bool.{Bool, true, false, cond, ◌&&◌, true≢false}
-use mathlib.Core.Option.{Option, none, some}
+use Rattle.std.specs.Prelude.{Option, None, Some}
 use mathlib.Core.List.{List, [], ◌∷◌, ◌++◌, append_assoc}
 use Prim.Native.Nat.{ℕ, zero, suc, ◌+◌, ◌-◌, ◌≤◌, ◌<◌}
 use native.Mathlib.Omega.{arith}
@@ -81,8 +81,8 @@ module _ (pre s : List ℕ) where
       last m n c false = refl
 
       found : (o : Option Form) → command_at (pre ++ s) (length pre) o ≡ shifted (length pre) (command_at s 0 o)
-      found none = refl
-      found (some f) =
+      found None = refl
+      found (Some f) =
           let e : length pre + 1 ≡ length pre + (0 + 1) = omega arith in
           let n : length pre + form_bytes f ≡ length pre + (0 + form_bytes f) = omega arith in
           (λ j. cond
@@ -99,7 +99,7 @@ module _ (pre s : List ℕ) where
 -- the form of a whole command at the beginning of s
 record Formed (s : List ℕ) (c : Command) (next : ℕ) : Type 0 where
   form : Form
-  found : form_of (get_or s 0 0) ≡ some form
+  found : form_of (get_or s 0 0) ≡ Some form
   next_is : next ≡ 0 + form_bytes form
   command : c ≡ made_at form.shape form.maker s (0 + 1)
 
@@ -107,14 +107,14 @@ whole_formed : (s : List ℕ) (c : Command) (next : ℕ) → parse_at s 0 ≡ Wh
 unfolding parse_at
 whole_formed s c next h = go (leb (length s) 0) h
   where
-    here : (f : Form) → form_of (get_or s 0 0) ≡ some f → (t : Bool)
+    here : (f : Form) → form_of (get_or s 0 0) ≡ Some f → (t : Bool)
         → cond t Cut (Whole (made_at f.shape f.maker s (0 + 1)) (0 + form_bytes f)) ≡ Whole c next → Formed s c next
     here f e true x = absurd (let z : ◌≡◌ {A = ℕ} 0 1 = cc in omega arith)
     here f e false x = record { form = f; found = e; next_is = cc; command = cc }
 
     found? : (o : Option Form) → form_of (get_or s 0 0) ≡ o → command_at s 0 o ≡ Whole c next → Formed s c next
-    found? none e x = absurd (let z : ◌≡◌ {A = ℕ} 0 1 = cc in omega arith)
-    found? (some f) e x = here f e (ltb (length s) (0 + form_bytes f)) x
+    found? None e x = absurd (let z : ◌≡◌ {A = ℕ} 0 1 = cc in omega arith)
+    found? (Some f) e x = here f e (ltb (length s) (0 + form_bytes f)) x
 
     go : (t : Bool) → cond t End (command_at s 0 (form_of (get_or s 0 0))) ≡ Whole c next → Formed s c next
     go true x = absurd (let z : ◌≡◌ {A = ℕ} 0 1 = cc in omega arith)
@@ -125,7 +125,7 @@ parse_alone : (q more : List ℕ) (c : Command) → parse_at (q ++ more) 0 ≡ W
 parse_alone q more c h =
     let f = whole_formed (q ++ more) c (length q) h in
     let n = parse_next (q ++ more) 0 c (length q) h in
-    let e : form_of (get_or q 0 0) ≡ some f.form = ap form_of (sym (get_or-append q more 0 0 n.0)) ∙ f.found in
+    let e : form_of (get_or q 0 0) ≡ Some f.form = ap form_of (sym (get_or-append q more 0 0 n.0)) ∙ f.found in
     parse_whole q 0 n.0 f.form e (omega (arith, f.next_is))
     ∙ (λ j. Whole ((sym (made_front q more f.form.shape f.form.maker (0 + 1) (omega (arith, f.next_is))) ∙ sym f.command) j) (sym f.next_is j))
 
@@ -208,7 +208,7 @@ module _ (q : List ℕ) (f : (finite? (long_at q 3) && finite? (long_at q 7)) �
 marked : (q : List ℕ) (m : ℕ) → eqb (get_or q 0 0) m ≡ true → get_or q 0 0 ≡ m
 marked q m e = eqb→eq (get_or q 0 0) m (subst T (sym e) tt)
 
-form_one : (f g : Form) (o : Option Form) → o ≡ some f → o ≡ some g → f ≡ g
+form_one : (f g : Form) (o : Option Form) → o ≡ Some f → o ≡ Some g → f ≡ g
 form_one f g o a b = cc
 
 -- EVERY WHOLE COMMAND, WRITTEN OUT, does the same
@@ -219,7 +219,7 @@ whole_stands q c h f = go (eqb (get_or q 0 0) 0x61) refl (eqb (get_or q 0 0) 0x6
     g : Formed q c (length q)
     g = whole_formed q c (length q) h
 
-    made : (m : ℕ) (x : Form) → get_or q 0 0 ≡ m → form_of m ≡ some x → c ≡ made_at x.shape x.maker q 1
+    made : (m : ℕ) (x : Form) → get_or q 0 0 ≡ m → form_of m ≡ Some x → c ≡ made_at x.shape x.maker q 1
     made m x e k =
         let s : g.form ≡ x = form_one g.form x (form_of (get_or q 0 0)) g.found (ap form_of e ∙ k) in
         g.command ∙ (λ j. made_at (s j).shape (s j).maker q 1)

@@ -2,7 +2,7 @@
 -- Document 01, the column "Tests in order" and "The site book": "the first cause met gives 21 and its number".
 -- Assumes nothing.
 use Rattle.std.specs.Prelude.{List, [], ◌∷◌, Bool, true, false, cond, not, ◌&&◌, ℕ, length, eqb, leb}
-use Rattle.std.proofs.Math.Option.{Option, none, some}
+use Rattle.std.specs.Prelude.{Option, None, Some}
 use Rattle.limits.specs.Limits.{grid_width, max_sites}
 use Rattle.grid.specs.declared.Position.{Position}
 use Rattle.grid.specs.declared.Leg.{Leg}
@@ -43,13 +43,13 @@ leg_off_grid l = not (not (off_grid l.s) && not (off_grid l.e))
 
 -- "no standing leg"
 abbrev pub legless : Option Leg → Bool
-legless none = true
-legless (some l) = false
+legless None = true
+legless (Some l) = false
 
 -- without a tour
 abbrev pub tourless : Option Tour → Bool
-tourless none = true
-tourless (some k) = false
+tourless None = true
+tourless (Some k) = false
 
 -- "no site held"
 abbrev pub siteless : Book → Bool
@@ -80,13 +80,13 @@ first_cause (t ∷ ts) y = cond t.met (refused t.cause) (first_cause ts y)
 -- the leg whose list a command asks for: "4C gives 3D with the split list of its leg over the lines, 50 with that of
 -- the standing leg"; 43 "answers the list of the leg from the last corner to this one"
 abbrev pub leg_asked : Book → Command → Option Leg
-leg_asked b (Add n l) = none
-leg_asked b (Remove n) = none
-leg_asked b (Move n l) = none
-leg_asked b (ListOf l) = some l
-leg_asked b (Stand l) = none
+leg_asked b (Add n l) = None
+leg_asked b (Remove n) = None
+leg_asked b (Move n l) = None
+leg_asked b (ListOf l) = Some l
+leg_asked b (Stand l) = None
 leg_asked b Print = b.leg
-leg_asked b (Begin p) = none
+leg_asked b (Begin p) = None
 leg_asked b (Corner p) = tour_leg b.tour p
 
 -- what of that list the record has: all of it, but "The record leaves out the list's first entry if that names the site

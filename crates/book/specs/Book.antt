@@ -2,8 +2,7 @@
 -- site book"; and a tour or none: document 02, C-13. Lines are kept in rising order of number, so that two books with
 -- the same lines are equal.
 -- Assumes nothing.
-use Rattle.std.specs.Prelude.{List, [], ◌∷◌, Bool, false, cond, ◌||◌, ℕ, eqb, ltb}
-use Rattle.std.proofs.Math.Option.{Option, none, some}
+use Rattle.std.specs.Prelude.{List, [], ◌∷◌, Bool, false, cond, ◌||◌, ℕ, eqb, ltb, Option, None, Some}
 use Rattle.grid.specs.declared.Position.{Position}
 use Rattle.grid.specs.declared.Site.{Site}
 use Rattle.grid.specs.declared.Leg.{Leg}
@@ -23,15 +22,15 @@ pub record Book : Type 0 where
 
 -- "At laying out it has no line and no leg."
 abbrev pub empty_book : Book
-empty_book = record { lines = []; leg = none; tour = none }
+empty_book = record { lines = []; leg = None; tour = None }
 
 -- the book with other lines: "An accepted 41, 44 or 4D ends the tour.", and so do 61 and 6D
 abbrev pub with_lines : List Site → Book → Book
-with_lines s b = record { lines = s; leg = b.leg; tour = none }
+with_lines s b = record { lines = s; leg = b.leg; tour = None }
 
 -- the book with this standing leg
 abbrev pub with_leg : Leg → Book → Book
-with_leg l b = record { lines = b.lines; leg = some l; tour = b.tour }
+with_leg l b = record { lines = b.lines; leg = Some l; tour = b.tour }
 
 -- the book with this tour or none
 abbrev pub with_tour : Option Tour → Book → Book
@@ -63,8 +62,8 @@ holds n (q ∷ s) = eqb q.number n || holds n s
 
 -- the list of a leg or none: "50 with that of the standing leg", none where there is no leg
 abbrev pub list_of : Option Leg → List Site → List Entry
-list_of none s = []
-list_of (some l) s = split_of l s
+list_of None s = []
+list_of (Some l) s = split_of l s
 
 -- "41 writes a line, 44 strikes it, 4D gives it the new position, 53 sets the leg"; document 02, C-13: 42 "begins a
 -- tour", and with 43 it goes on; C-15: "61 and 6D do what 41 and 4D do", with the step that each reading goes to
@@ -75,7 +74,7 @@ change (Move n l) b = with_lines (move_line n (placed l) b.lines) b
 change (ListOf l) b = b
 change (Stand l) b = with_leg l b
 change Print b = b
-change (Begin p) b = with_tour (some (begun p)) b
+change (Begin p) b = with_tour (Some (begun p)) b
 change (Corner p) b = with_tour (goes_on b.tour p (list_of (tour_leg b.tour p) (sites_of b))) b
 
 -- "The standing list is always the list of the standing leg, empty while no site is held."

@@ -2,8 +2,7 @@
 -- first; positions are two signed 16-bit numbers, site numbers unsigned 16-bit". Document 02, C-15: 61 and 6D have "the
 -- position as two 32-bit IEEE 754 numbers in metres from the grid's origin".
 -- Assumes nothing.
-use Rattle.std.specs.Prelude.{List, [], ◌∷◌, cond, ℕ, ◌+◌, length, get_or, eqb, leb, ltb}
-use Rattle.std.proofs.Math.Option.{Option, none, some}
+use Rattle.std.specs.Prelude.{List, [], ◌∷◌, cond, ℕ, ◌+◌, length, get_or, eqb, leb, ltb, Option, None, Some}
 use Rattle.words.specs.Words.{word_at}
 use Rattle.grid.specs.declared.Position.{Position}
 use Rattle.grid.specs.declared.Leg.{Leg}
@@ -105,8 +104,8 @@ form_bytes r = 1 + operand_bytes r.shape
 
 -- the form of a command byte, or none, among some rows
 abbrev pub form_in : List Form → ℕ → Option Form
-form_in [] m = none
-form_in (r ∷ rs) m = cond (eqb m r.mark) (some r) (form_in rs m)
+form_in [] m = None
+form_in (r ∷ rs) m = cond (eqb m r.mark) (Some r) (form_in rs m)
 
 -- in the table
 unfoldable pub form_of : ℕ → Option Form
@@ -125,8 +124,8 @@ whole s at r = cond (ltb (length s) (at + form_bytes r)) Cut (Whole (made_at r.s
 
 -- "For each command 66 is tested first, then 67"
 abbrev pub command_at : List ℕ → ℕ → Option Form → Parsed
-command_at s at none = Unknown
-command_at s at (some r) = whole s at r
+command_at s at None = Unknown
+command_at s at (Some r) = whole s at r
 
 -- what stands at byte `at`
 unfoldable pub parse_at : List ℕ → ℕ → Parsed

@@ -4,7 +4,7 @@
 -- that command 4C's list of that leg names there."
 -- Assumes nothing.
 use Rattle.std.specs.Prelude.{◌≡◌, List, [], ◌∷◌, ◌++◌, map, cond, ℕ, zero, suc, ◌*◌, get_or, drop, eqb, leb}
-use Rattle.std.proofs.Math.Option.{Option, none, some}
+use Rattle.std.specs.Prelude.{Option, None, Some}
 use Rattle.std.proofs.Math.Decide.{dec_le}
 use Rattle.grid.specs.declared.Position.{Position}
 use Rattle.grid.specs.declared.Leg.{Leg}
@@ -81,19 +81,19 @@ pub record Trip : Type 0 where
 
 -- the next leg's record; what is heard without a tour begins none
 abbrev pub onward : Option Trip → Position → List Listed → Option Trip
-onward none p es = none
-onward (some k) p es = some (record { corner = p; entries = k.entries ++ es })
+onward None p es = None
+onward (Some k) p es = Some (record { corner = p; entries = k.entries ++ es })
 
 -- after a command that got 2B: "Command 42 .. begins a tour"; "An accepted 41, 44 or 4D ends the tour.", and so do 61
 -- and 6D
 abbrev pub hear_done : Option Trip → Command → Option Trip
-hear_done o (Add n l) = none
-hear_done o (Remove n) = none
-hear_done o (Move n l) = none
+hear_done o (Add n l) = None
+hear_done o (Remove n) = None
+hear_done o (Move n l) = None
 hear_done o (ListOf l) = o
 hear_done o (Stand l) = o
 hear_done o Print = o
-hear_done o (Begin p) = some (record { corner = p; entries = [] })
+hear_done o (Begin p) = Some (record { corner = p; entries = [] })
 hear_done o (Corner p) = o
 
 -- after one that got a list: that of a 43 is the next leg's. (No command but 4C, 50 and 43 gets a list, and a 43 no 2B;
@@ -121,7 +121,7 @@ hear_all o (u ∷ us) = hear_all (hear o u.command u.told) us
 
 -- the tour that is under way, or none, from laying out on
 abbrev pub tour_heard : List Exchange → Option Trip
-tour_heard us = hear_all none us
+tour_heard us = hear_all None us
 
 -- the site book after a command and its record
 abbrev pub after_told : Book → Command → Told → Book
@@ -143,24 +143,24 @@ book_heard us = after_heard empty_book us
 -- the number of the last entry, or else this one
 abbrev pub last_in : Option ℕ → List Listed → Option ℕ
 last_in o [] = o
-last_in o (e ∷ es) = last_in (some e.number) es
+last_in o (e ∷ es) = last_in (Some e.number) es
 
 -- "the last entry in the tour's earlier records"
 abbrev pub last_heard : Trip → Option ℕ
-last_heard k = last_in none k.entries
+last_heard k = last_in None k.entries
 
 -- "the last entry of its record whose start is not above it, or else" this one
 abbrev pub said_at : Fraction → Option ℕ → List Listed → Option ℕ
 said_at t o [] = o
 said_at t o (e ∷ es) =
-    pick (dec_le (e.start.num * t.den) (t.num * e.start.den)) (said_at t (some e.number) es) (said_at t o es)
+    pick (dec_le (e.start.num * t.den) (t.num * e.start.den)) (said_at t (Some e.number) es) (said_at t o es)
 
 -- at t, the record es, or else what was heard in the tour k before it, "must name the site that command 4C's list ..
 -- names there"
 pub record ToldAt (t : Fraction) (k : Trip) (es : List Listed) (whole : List Entry) : Type 0 where
   pub site : Site
-  pub names : name_at t whole ≡ some site
-  pub told : said_at t (last_heard k) es ≡ some site.number
+  pub names : name_at t whole ≡ Some site
+  pub told : said_at t (last_heard k) es ≡ Some site.number
 
 -- the leg to p of a tour that was heard
 abbrev pub leg_of : Trip → Position → Leg
@@ -170,7 +170,7 @@ leg_of k p = record { s = k.corner; e = p }
 -- heard
 pub record LegTold (b : Book) (o : Option Trip) (p : Position) (es : List Listed) : Type 0 where
   pub tour : Trip
-  pub heard : o ≡ some tour
+  pub heard : o ≡ Some tour
   -- "command 4C's list of that leg"
   pub whole : List Entry
   pub by4_c : answer b (ListOf (leg_of tour p)) ≡ listed whole

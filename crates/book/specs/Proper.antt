@@ -1,9 +1,8 @@
 -- The rules on sites that every book keeps. Document 01, "Grid and sites"; the standing leg is on the grid. The tour's
 -- rules: document 02, C-13.
 -- Assumes nothing.
-use Rattle.std.specs.Prelude.{◌≡◌, true, ℕ, ◌≤◌, ◌<◌, length}
+use Rattle.std.specs.Prelude.{◌≡◌, true, ℕ, ◌≤◌, ◌<◌, length, Option, None, Some}
 use mathlib.Core.List.{List, [], ◌∷◌, Memᴰ}
-use Rattle.std.proofs.Math.Option.{Option, none, some}
 use Rattle.limits.specs.Limits.{max_number, max_sites}
 use Rattle.grid.specs.declared.Site.{Site}
 use Rattle.grid.specs.declared.Leg.{Leg}
@@ -25,13 +24,13 @@ pub record NumberOk (p : Site) : Type 0 where
 
 -- a leg, if there is one, on the grid
 abbrev pub LegOk : Option Leg → Type 0
-LegOk none = Unit {0}
-LegOk (some l) = LegOnGrid l
+LegOk None = Unit {0}
+LegOk (Some l) = LegOnGrid l
 
 -- the remembered site is held
 abbrev pub LastHeld : Option ℕ → List Site → Type 0
-LastHeld none s = Unit {0}
-LastHeld (some n) s = holds n s ≡ true
+LastHeld None s = Unit {0}
+LastHeld (Some n) s = holds n s ≡ true
 
 -- "a stored corner off the grid or a remembered site that isn't held counts under 65"
 pub record TourFits (k : Tour) (s : List Site) : Type 0 where
@@ -40,8 +39,8 @@ pub record TourFits (k : Tour) (s : List Site) : Type 0 where
 
 -- of a tour, if there is one
 abbrev pub TourOk : Option Tour → List Site → Type 0
-TourOk none s = Unit {0}
-TourOk (some k) s = TourFits k s
+TourOk None s = Unit {0}
+TourOk (Some k) s = TourFits k s
 
 -- "A site has a number from 1 to 65,535 and a position. Two sites may share a position, never a number. A table holds
 -- 0 to 512 sites."

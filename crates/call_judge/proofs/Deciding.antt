@@ -4,7 +4,7 @@ use mathlib.Core.Path.{◌≡◌, refl, sym, ap, subst, subst⁻¹, ◌∙◌}
 use mathlib.Core.Logic.{◌≢◌}
 use mathlib.Core.Bool.{Bool, true, false, cond}
 use mathlib.Core.List.{List}
-use mathlib.Core.Option.{some}
+use Rattle.std.specs.Prelude.{Some}
 use Prim.Native.Nat.{ℕ, ◌<◌, ◌≤◌}
 use native.Mathlib.Omega.{arith}
 use Rattle.limits.specs.Limits.{max_sites}
@@ -281,7 +281,7 @@ module _ (b : List ℕ) (l : Leg) (q : Bool) (s : Says q (LegOnGrid l)) where
 
 -- ---- the standing list
 
-module _ (b : List ℕ) (l : Leg) (e : leg_in b ≡ some l) where
+module _ (b : List ℕ) (l : Leg) (e : leg_in b ≡ Some l) where
   pub stored_none : (w : List ℕ) (m : ℕ) → m ≡ count_in b → m ≡ 0 → Decided (Verdict.Refuse NoSite) Print b w
   stored_none w m c z = refusal b Print NoSite (answer_print_empty (book_of b) l e (lines_length b ∙ sym c ∙ z)) w
 
@@ -292,7 +292,7 @@ module _ (b : List ℕ) (s : Standing) (q : as_option s ≡ leg_in b) where
   pub print_unset : (w : List ℕ) → s ≡ Standing.Unset → Decided (Verdict.Refuse NoLeg) Print b w
   print_unset w u = refusal b Print NoLeg (answer_print_legless (book_of b) (sym q ∙ ap as_option u)) w
 
-  pub print_along : (l : Leg) → s ≡ Standing.Along l → leg_in b ≡ some l
+  pub print_along : (l : Leg) → s ≡ Standing.Along l → leg_in b ≡ Some l
   print_along l u = sym q ∙ ap as_option u
 
 -- ---- all commands

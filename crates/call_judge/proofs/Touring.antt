@@ -4,7 +4,7 @@ use mathlib.Core.Path.{◌≡◌, refl, sym, ap, subst, ◌∙◌}
 use mathlib.Core.Logic.{◌≢◌}
 use mathlib.Core.Bool.{Bool, true, false, cond}
 use mathlib.Core.List.{List, [], ◌∷◌, ◌++◌}
-use mathlib.Core.Option.{Option, none, some}
+use Rattle.std.specs.Prelude.{Option, None, Some}
 use Prim.Native.Nat.{ℕ, zero, suc, ◌-◌, ◌≤◌, ◌<◌}
 use native.Mathlib.Omega.{arith}
 use lib.ListN.{length, drop}
@@ -73,7 +73,7 @@ passed_left e es last nz = zero? (eqb last 0) refl
     by true = refl
     by false = refl
 
-    zero? : (c : Bool) → eqb last 0 ≡ c → drop (passed_by e.site.number last) (e ∷ es) ≡ left_out (cond c none (some last)) (e ∷ es)
+    zero? : (c : Bool) → eqb last 0 ≡ c → drop (passed_by e.site.number last) (e ∷ es) ≡ left_out (cond c None (Some last)) (e ∷ es)
     zero? true z = rw (ne_eqb e.site.number last (λ k. nz (k ∙ eqb-true last 0 z))) refl
     zero? false z = by (eqb e.site.number last)
 
@@ -94,12 +94,12 @@ module _ (l : Leg) (t r : List ℕ) where
       let (es, e) = first_in k in
       (es ++ (row_entry l t r (suc k) ∷ []), entries_one l t r (suc k) ∙ ap (λ (x : List Entry). x ++ (row_entry l t r (suc k) ∷ [])) e)
 
-  last_behind : (o : Option ℕ) (es : List Entry) (e : Entry) → last_number o (es ++ (e ∷ [])) ≡ some e.site.number
+  last_behind : (o : Option ℕ) (es : List Entry) (e : Entry) → last_number o (es ++ (e ∷ [])) ≡ Some e.site.number
   last_behind o [] e = refl
-  last_behind o (x ∷ es) e = last_behind (some x.site.number) es e
+  last_behind o (x ∷ es) e = last_behind (Some x.site.number) es e
 
-  last_in_lem : (k : ℕ) → last_number none (entries_in l t r (suc k)) ≡ some (site_at t (place_at r k)).number
-  last_in_lem k = ap (last_number none) (entries_one l t r k) ∙ last_behind none (entries_in l t r k) (row_entry l t r k)
+  last_in_lem : (k : ℕ) → last_number None (entries_in l t r (suc k)) ≡ Some (site_at t (place_at r k)).number
+  last_in_lem k = ap (last_number None) (entries_one l t r k) ∙ last_behind None (entries_in l t r k) (row_entry l t r k)
 
 -- a row has its last place
 pub last_place : (l : Leg) (t r : List ℕ) (k i : ℕ) → Held l t r k → 0 < k → i ≡ k - 1 → HasSite t (place_at r i)
@@ -107,7 +107,7 @@ last_place l t r k i h g e = h.sites i (omega arith)
 
 -- ---- 43: the leg and its list are found
 
-module _ (b w : List ℕ) (l : Leg) (last k : ℕ) (s : Sound b) (runs : tour_in b ≡ some (tour_at l.s last)) (on : OnGrid l.e) (f : ListsTable l b w k) where
+module _ (b w : List ℕ) (l : Leg) (last k : ℕ) (s : Sound b) (runs : tour_in b ≡ Some (tour_at l.s last)) (on : OnGrid l.e) (f : ListsTable l b w k) where
   -- the tour's corner is on the grid
   from_grid : OnGrid l.s
   from_grid = (subst (λ (o : Option Tour). TourOk o (lines_in b)) runs s.whole.tour).on_grid
@@ -132,11 +132,11 @@ module _ (b w : List ℕ) (l : Leg) (last k : ℕ) (s : Sound b) (runs : tour_in
         ∙ passed_left (row_entry l b w 0) es last (λ z. omega (arith, z, least))
         ∙ ap (left_out (site_number last)) (sym whole)
 
-    last_as : (m : ℕ) → k ≡ suc m → last_number none (split_of l (lines_in b)) ≡ some ending
+    last_as : (m : ℕ) → k ≡ suc m → last_number None (split_of l (lines_in b)) ≡ Some ending
     last_as m e =
         let c : m ≡ k - 1 = omega arith in
-        ap (last_number none) (sym f.list ∙ ap (entries_in l b w) e) ∙ last_in_lem l b w m
-        ∙ ap (λ (x : ℕ). some (site_at b (place_at w x)).number) c ∙ ap some (sym he)
+        ap (last_number None) (sym f.list ∙ ap (entries_in l b w) e) ∙ last_in_lem l b w m
+        ∙ ap (λ (x : ℕ). Some (site_at b (place_at w x)).number) c ∙ ap Some (sym he)
 
     pub shown_done : 0 < k → Decided (Verdict.Follow l j ending k) (Corner l.e) b w
     shown_done h = by k refl
@@ -155,7 +155,7 @@ module _ (b w : List ℕ) (l : Leg) (last k : ℕ) (s : Sound b) (runs : tour_in
 
 -- ---- 43: position, site
 
-module _ (b : List ℕ) (corner : Position) (last : ℕ) (p : Position) (s : Sound b) (runs : tour_in b ≡ some (tour_at corner last)) (q : Bool) (g : Says q (OnGrid p)) where
+module _ (b : List ℕ) (corner : Position) (last : ℕ) (p : Position) (s : Sound b) (runs : tour_in b ≡ Some (tour_at corner last)) (q : Bool) (g : Says q (OnGrid p)) where
   pub onward_off : (w : List ℕ) → q ≡ false → Decided (Verdict.Refuse OffGrid) (Corner p) b w
   onward_off w e = refusal b (Corner p) OffGrid (answer_corner_off (book_of b) p (tour_at corner last) runs (says_no q g e)) w
 
@@ -187,5 +187,5 @@ module _ (b : List ℕ) (p : Position) (r : Touring) (q : touring_as r ≡ tour_
   pub corner_idle : (w : List ℕ) → r ≡ Touring.Idle → Decided (Verdict.Refuse NoTour) (Corner p) b w
   corner_idle w u = refusal b (Corner p) NoTour (answer_corner_tourless (book_of b) p (sym q ∙ ap touring_as u)) w
 
-  pub corner_runs : (from : Position) (last : ℕ) → r ≡ Touring.From from last → tour_in b ≡ some (tour_at from last)
+  pub corner_runs : (from : Position) (last : ℕ) → r ≡ Touring.From from last → tour_in b ≡ Some (tour_at from last)
   corner_runs from last u = sym q ∙ ap touring_as u

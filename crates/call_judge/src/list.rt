@@ -1,6 +1,5 @@
 // The commands with a leg: its list, the standing leg, the standing list.
-ghost use Rattle.std.specs.Prelude.{◌≡◌, ◌≤◌, length};
-ghost use Rattle.std.proofs.Math.Option.{some};
+ghost use Rattle.std.specs.Prelude.{◌≡◌, ◌≤◌, length, Some};
 ghost use Rattle.book.specs.declared.Command.{Command};
 ghost use Rattle.list_row.specs.Vertices.{row_bytes};
 ghost use Rattle.table_header.specs.Header.{leg_in};
@@ -40,7 +39,7 @@ pub fn stand(t: &[u8], leg: Leg) -> Verdict
 
 // The standing list of a leg: site.
 fn stored(t: &[u8], work: &mut [u8], leg: Leg) -> Verdict
-    requires { Sound t.now × (leg_in t.now ≡ some leg) × (row_bytes ≤ length work.old) }
+    requires { Sound t.now × (leg_in t.now ≡ Some leg) × (row_bytes ≤ length work.old) }
     ensures { Decided result Command.Print t.now work.new }
 {
     let n = table_header::count(t);

@@ -1,6 +1,5 @@
 // The commands of a tour: its beginning, its next leg. Document 02, C-13.
-ghost use Rattle.std.specs.Prelude.{◌≡◌, ◌≤◌, ◌<◌, length};
-ghost use Rattle.std.proofs.Math.Option.{some};
+ghost use Rattle.std.specs.Prelude.{◌≡◌, ◌≤◌, ◌<◌, length, Some};
 ghost use Rattle.grid.specs.Position.{OnGrid};
 ghost use Rattle.book.specs.declared.Command.{Command};
 ghost use Rattle.list_row.specs.Vertices.{row_bytes};
@@ -36,7 +35,7 @@ fn passed(first: u16, last: u16) -> u16
 
 // The verdict on a leg whose list is in the first k of the row.
 fn shown(t: &[u8], work: &[u8], leg: Leg, last: u16, k: usize) -> Verdict
-    requires sound { Sound t.now × (tour_in t.now ≡ some (tour_at leg.s last)) × OnGrid leg.e }
+    requires sound { Sound t.now × (tour_in t.now ≡ Some (tour_at leg.s last)) × OnGrid leg.e }
     requires lists_table { ListsTable leg t.now work.now k × (0 < k) }
     ensures { Decided result (Command.Corner leg.e) t.now work.now }
 {
@@ -48,7 +47,7 @@ fn shown(t: &[u8], work: &[u8], leg: Leg, last: u16, k: usize) -> Verdict
 
 // The next leg of a tour that is at this corner, where this site is remembered: position, site.
 fn onward(t: &[u8], work: &mut [u8], corner: Position, last: u16, p: Position) -> Verdict
-    requires { Sound t.now × (tour_in t.now ≡ some (tour_at corner last)) × (row_bytes ≤ length work.old) }
+    requires { Sound t.now × (tour_in t.now ≡ Some (tour_at corner last)) × (row_bytes ≤ length work.old) }
     ensures { Decided result (Command.Corner p) t.now work.new }
 {
     if grid::coordinate::on_grid(p) {

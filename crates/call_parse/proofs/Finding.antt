@@ -3,7 +3,7 @@
 use mathlib.Core.Path.{◌≡◌, refl, sym, ap, subst⁻¹, ◌∙◌}
 use mathlib.Core.Logic.{◌≢◌}
 use mathlib.Core.Bool.{Bool, true, false, cond}
-use mathlib.Core.Option.{Option, none, some}
+use Rattle.std.specs.Prelude.{Option, None, Some}
 use mathlib.Core.List.{List}
 use Prim.Native.Nat.{ℕ, ◌+◌, ◌-◌, ◌≤◌, ◌<◌}
 use native.Mathlib.Omega.{arith}
@@ -66,7 +66,7 @@ module _ (x : Shape) (s : List ℕ) (i n : ℕ) (p : Position) (l : Leg) (r : Re
 
 module _ (m : ℕ) (a : m ≢ 0x41) (b : m ≢ 0x44) (c : m ≢ 0x4D) (d : m ≢ 0x4C) (e : m ≢ 0x53) (f : m ≢ 0x50) (g : m ≢ 0x42) (h : m ≢ 0x43) (i : m ≢ 0x61) where
   -- no other mark is a command's
-  last_row : form_of m ≡ cond (eqb m 0x6D) (some (form 0x6D NumberReadings move_surveyed)) none
+  last_row : form_of m ≡ cond (eqb m 0x6D) (Some (form 0x6D NumberReadings move_surveyed)) None
   unfolding form_of
   last_row =
       rw (ne_eqb m 0x41 a, ne_eqb m 0x44 b, ne_eqb m 0x4D c, ne_eqb m 0x4C d, ne_eqb m 0x53 e, ne_eqb m 0x50 f, ne_eqb m 0x42 g, ne_eqb m 0x43 h, ne_eqb m 0x61 i) refl
@@ -77,7 +77,7 @@ module _ (m : ℕ) (a : m ≢ 0x41) (b : m ≢ 0x44) (c : m ≢ 0x4D) (d : m ≢
   pub last_made : (o : Operands) → Makes (form_of m) o (move_surveyed o.0 o.3)
   last_made o = subst⁻¹ (λ (r : Option Form). Makes r o (move_surveyed o.0 o.3)) last_row (go (eqb m 0x6D))
     where
-      go : (t : Bool) → Makes (cond t (some (form 0x6D NumberReadings move_surveyed)) none) o (move_surveyed o.0 o.3)
+      go : (t : Bool) → Makes (cond t (Some (form 0x6D NumberReadings move_surveyed)) None) o (move_surveyed o.0 o.3)
       go true = refl
       go false = tt
 
@@ -92,22 +92,22 @@ module _ (s : List ℕ) (at : ℕ) where
     unknown_is u = go (form_of (get_or s at 0)) refl h
       where
         go : (g : Option Form) → form_of (get_or s at 0) ≡ g → k ≡ mark_of g → Unknown ≡ parse_at s at
-        go none e z = sym (parse_unknown s at l e)
-        go (some f) e z = absurd (let y : ◌≡◌ {A = ℕ} 0 1 = cc in omega arith)
+        go None e z = sym (parse_unknown s at l e)
+        go (Some f) e z = absurd (let y : ◌≡◌ {A = ℕ} 0 1 = cc in omega arith)
 
     module _ (x : Shape) (t : k ≡ Takes x) (n : ℕ) (hn : n ≡ operand_bytes x) where
       -- the form of the command
       record Formed : Type 0 where
         form : Form
-        found : form_of (get_or s at 0) ≡ some form
+        found : form_of (get_or s at 0) ≡ Some form
         shape : form.shape ≡ x
 
       formed : Formed
       formed = go (form_of (get_or s at 0)) refl h
         where
           go : (g : Option Form) → form_of (get_or s at 0) ≡ g → k ≡ mark_of g → Formed
-          go none e z = absurd (let y : ◌≡◌ {A = ℕ} 0 1 = cc in omega arith)
-          go (some f) e z = record { form = f; found = e; shape = cc }
+          go None e z = absurd (let y : ◌≡◌ {A = ℕ} 0 1 = cc in omega arith)
+          go (Some f) e z = record { form = f; found = e; shape = cc }
 
       pub cut_is : length s - (at + 1) < n → Cut ≡ parse_at s at
       cut_is u = let f = formed in let y = ap operand_bytes f.shape in sym (parse_cut s at l f.form f.found (omega arith))

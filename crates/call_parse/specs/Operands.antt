@@ -1,7 +1,6 @@
 -- Operands as the code reads them, beside the table of commands.
 -- Assumes nothing.
-use Rattle.std.specs.Prelude.{◌≡◌, List, ℕ}
-use Rattle.std.proofs.Math.Option.{Option, none, some}
+use Rattle.std.specs.Prelude.{◌≡◌, List, ℕ, Option, None, Some}
 use Rattle.book.specs.declared.Command.{Command}
 use Rattle.book.specs.declared.Shape.{Shape}
 use Rattle.book.specs.declared.Shape.TheVariants.{Nothing, Number, OnePosition, NumberPosition, TwoPositions}
@@ -13,8 +12,8 @@ use Rattle.call_parse.specs.declared.Operands.{Operands}
 
 -- what the table says of a byte: "unknown command byte", or the column "Operands"
 abbrev pub mark_of : Option Form → Mark
-mark_of none = Unknown
-mark_of (some f) = Takes f.shape
+mark_of None = Unknown
+mark_of (Some f) = Takes f.shape
 
 -- the command of operands that were read: the columns "Operands" and "Meaning"
 abbrev pub made : (x : Shape) → Maker x → Operands → Command
@@ -31,5 +30,5 @@ Reads x s i o = (f : Maker x) → made x f o ≡ made_at x f s i
 
 -- c is the command of this form with the operands o
 abbrev pub Makes : Option Form → Operands → Command → Type 0
-Makes none o c = Unit {0}
-Makes (some f) o c = c ≡ made f.shape f.maker o
+Makes None o c = Unit {0}
+Makes (Some f) o c = c ≡ made f.shape f.maker o

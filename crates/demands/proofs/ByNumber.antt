@@ -2,7 +2,7 @@
 -- Assumes nothing.
 use mathlib.Core.Path.{◌≡◌, refl, sym, ap, ◌∙◌, subst⁻¹}
 use mathlib.Core.Bool.{true}
-use mathlib.Core.Option.{Option, none, some}
+use Rattle.std.specs.Prelude.{Option, None, Some}
 use mathlib.Core.List.{List}
 use Prim.Native.Nat.{ℕ}
 use native.Mathlib.Decide.{dec_le, dec_lt}
@@ -38,12 +38,12 @@ unfolding numbers_of split_of split_by_number build insert push hides? under? ri
 stays = refl
 
 -- where no two sites tie along the standing leg, its list stays
-pub no_tie_stays : (b : Book) → ((l : Leg) → b.leg ≡ some l → NoTie l (sites_of b)) → ListStays b
+pub no_tie_stays : (b : Book) → ((l : Leg) → b.leg ≡ Some l → NoTie l (sites_of b)) → ListStays b
 no_tie_stays b n = go b.leg n
   where
-    go : (k : Option Leg) → ((l : Leg) → k ≡ some l → NoTie l (sites_of b)) → numbers_of (list_by_number k (sites_of b)) ≡ numbers_of (list_of k (sites_of b))
-    go none f = refl
-    go (some l) f = ap numbers_of (sym (no_tie_same l (sites_of b) (f l refl)))
+    go : (k : Option Leg) → ((l : Leg) → k ≡ Some l → NoTie l (sites_of b)) → numbers_of (list_by_number k (sites_of b)) ≡ numbers_of (list_of k (sites_of b))
+    go None f = refl
+    go (Some l) f = ap numbers_of (sym (no_tie_same l (sites_of b) (f l refl)))
 
 -- a call on a table that was sound then
 module _ (t : List ℕ) (c : Call) (t' : List ℕ) (made : MadeOn t c t') (ok : lengths_ok t c.work ≡ true) (was : SoundByNumber t) where
@@ -57,7 +57,7 @@ module _ (t : List ℕ) (c : Call) (t' : List ℕ) (made : MadeOn t c t') (ok : 
       }
 
   -- one in which no two sites tie along the standing leg is taken
-  pub no_tie_taken : ((l : Leg) → (book_of t).leg ≡ some l → NoTie l (sites_of (book_of t))) → Kept t c t'
+  pub no_tie_taken : ((l : Leg) → (book_of t).leg ≡ Some l → NoTie l (sites_of (book_of t))) → Kept t c t'
   no_tie_taken n = earlier_tables.taken (no_tie_stays (book_of t) n)
 
   -- DOCUMENT 01'S CASE is refused, with everything left that 69 leaves, and taken where the leg is turned round

@@ -2,7 +2,7 @@
 -- Assumes nothing.
 use mathlib.Core.Path.{◌≡◌, refl, sym, ap, ◌∙◌, subst}
 use mathlib.Core.Logic.{◌≢◌}
-use mathlib.Core.Option.{Option, some}
+use Rattle.std.specs.Prelude.{Option, Some}
 use mathlib.Core.List.{List, [], ◌∷◌, ◌++◌, append_assoc, append-nil}
 use Prim.Native.Nat.{ℕ, ◌+◌, ◌≤◌}
 use lib.ListN.{length}
@@ -121,7 +121,7 @@ module _ (t : List ℕ) (c : Call) (t' : List ℕ) (v : IsServed t c t') where
   )
 
   -- the next leg of a tour
-  given_corner : (p : Position) (k : Tour) (o : Outcome) → ComesTo t c (Corner p) o → o.book.tour ≡ some k → OnGrid p → sites_of o.book ≢ []
+  given_corner : (p : Position) (k : Tour) (o : Outcome) → ComesTo t c (Corner p) o → o.book.tour ≡ Some k → OnGrid p → sites_of o.book ≢ []
       → GivesList c (Corner p) (leg_to k p) o
   given_corner p k o a e on held =
       let ok : Encodable (Corner p) = small p on in

@@ -2,7 +2,7 @@
 -- Assumes nothing.
 use mathlib.Core.Path.{◌≡◌, refl, sym, ap, ◌∙◌, subst}
 use mathlib.Core.Logic.{◌≢◌, ◌⊎◌, inl, inr, ⊎_map}
-use mathlib.Core.Option.{Option, none, some}
+use Rattle.std.specs.Prelude.{Option, None, Some}
 use mathlib.Core.List.Memᴰ
 use mathlib.Core.List.{List, [], ◌∷◌, ◌++◌, map, Memᴰ}
 use mathlib.Core.Bool.{Bool, true, false, cond}
@@ -117,7 +117,7 @@ module _ (b : Book) (t' : List ℕ) (h : Holds t' b) (ok : Proper b) where
         kept_one t' b h (ListOf l) (list_encodable l on) c t'' a fits (list_keeps l (answer b (ListOf l))),
       )
 
-  standing_is : (k : Leg) → b.leg ≡ some k → sites_of b ≢ []
+  standing_is : (k : Leg) → b.leg ≡ Some k → sites_of b ≢ []
       → (c d : Call) (t'' u'' : List ℕ) → Asks t' print50 c t'' → Asks t' (list4_c k) d u''
       → HasRoom c (record_bytes (standing_list b)) → HasRoom d (record_bytes (standing_list b))
       → WroteReport c (record_bytes (standing_list b)) × WroteReport d (record_bytes (standing_list b))
@@ -129,11 +129,11 @@ module _ (b : Book) (t' : List ℕ) (h : Holds t' b) (ok : Proper b) where
             (listed_is k (subst LegOk e ok.leg_ok) held d u'' ad (subst (λ (x : List Entry). HasRoom d (record_bytes x)) s rd)).0,
       )
 
-  siteless_is : (k : Leg) → b.leg ≡ some k → sites_of b ≡ []
+  siteless_is : (k : Leg) → b.leg ≡ Some k → sites_of b ≡ []
       → (c : Call) (t'' : List ℕ) → Asks t' print50 c t'' → 2 ≤ length c.report → WroteReport c (0x21 ∷ 6 ∷ []) × (standing_list b ≡ [])
   siteless_is k e z c t'' a room = (wrote_print (refused NoSite) (answer_print_empty b k e (ap length z)) c t'' a room, (λ i. list_of (e i) (z i)) ∙ no_site_lem k)
 
-  unset_is : b.leg ≡ none → (c : Call) (t'' : List ℕ) → Asks t' print50 c t'' → 2 ≤ length c.report → WroteReport c (0x21 ∷ 7 ∷ [])
+  unset_is : b.leg ≡ None → (c : Call) (t'' : List ℕ) → Asks t' print50 c t'' → 2 ≤ length c.report → WroteReport c (0x21 ∷ 7 ∷ [])
   unset_is e c t'' a room = wrote_print (refused NoLeg) (answer_print_legless b e) c t'' a room
 
   -- ---- one addition, one removal
@@ -159,7 +159,7 @@ module _ (b : Book) (t' : List ℕ) (h : Holds t' b) (ok : Proper b) where
     new_is = prints_list g.table (change k b) holds_then new g.behind
 
   added_is : (p : Site) → NumberOk p → OnGrid p.position → (old new : List Listed) → Changed t' (Add p.number (InSteps p.position)) old new
-      → (t : Fraction) → IsFraction t → (number_at t new ≡ number_at t old) ⊎ (number_at t new ≡ some p.number)
+      → (t : Fraction) → IsFraction t → (number_at t new ≡ number_at t old) ⊎ (number_at t new ≡ Some p.number)
   unfolding change
   added_is p np on old new g t f =
       let k = Add p.number (InSteps p.position) in
@@ -168,14 +168,14 @@ module _ (b : Book) (t' : List ℕ) (h : Holds t' b) (ok : Proper b) where
       (numbers_more b.lines (write_line p b.lines) p (numbered_then k enc old new g) (write_sites p b.lines) t f b.leg)
 
   removed_is : (n : ℕ) → n ≤ max_number → (old new : List Listed) → Changed t' (Remove n) old new
-      → (t : Fraction) → IsFraction t → (number_at t new ≡ number_at t old) ⊎ (number_at t old ≡ some n)
+      → (t : Fraction) → IsFraction t → (number_at t new ≡ number_at t old) ⊎ (number_at t old ≡ Some n)
   unfolding change
   removed_is n most old new g t f =
       let enc : Encodable (Remove n) = omega arith in
       let l : HeldLine n b.lines = holds_member n b.lines (remove_accepted b n (accepted (Remove n) enc old new g).0).held in
       let s = strike_sites n b.lines l.line ok.rising l.held l.named in
       rw (old_is (Remove n) enc old new g, new_is (Remove n) enc old new g)
-      (⊎_map sym (λ e. e ∙ ap some l.named)
+      (⊎_map sym (λ e. e ∙ ap Some l.named)
       (numbers_more (strike_line n b.lines) b.lines l.line (proper_numbered b ok) (record { to = s.back; back = s.to }) t f b.leg))
 
 -- ---- the fresh table
@@ -210,7 +210,7 @@ filled_is b ok fs f =
 -- a list depends on the lines alone
 by_lines : (l : Leg) (b d : Book) → b.lines ≡ d.lines → answer b (ListOf l) ≡ answer d (ListOf l)
 unfolding answer
-by_lines l b d e = ap (λ (s : List Site). answer (record { lines = s; leg = none; tour = none }) (ListOf l)) e
+by_lines l b d e = ap (λ (s : List Site). answer (record { lines = s; leg = None; tour = None }) (ListOf l)) e
 
 fresh_is : (b : Book) (t' : List ℕ) → Holds t' b → Proper b → (fs : List Call) (u' : List ℕ) → Ran fs u' → FreshOf b fs → (l : Leg) → LegOnGrid l
     → (c d : Call) (t'' u'' : List ℕ) → Asks t' (list4_c l) c t'' → Asks u' (list4_c l) d u''

@@ -3,7 +3,7 @@
 use mathlib.Core.Path.{◌≡◌, refl, sym, ap, subst, ◌∙◌}
 use mathlib.Core.Logic.{◌≢◌}
 use mathlib.Core.Bool.{Bool, true, false, cond, true≢false}
-use mathlib.Core.Option.{Option, none, some}
+use Rattle.std.specs.Prelude.{Option, None, Some}
 use mathlib.Core.List.{List, [], ◌∷◌, Memᴰ}
 use Prim.Native.Nat.{ℕ, zero, suc, ◌+◌, ◌*◌, ◌≤◌, ◌<◌}
 use native.Mathlib.Omega.{arith}
@@ -51,11 +51,11 @@ use Rattle.demands.proofs.WholeRun.{ran_holds}
 use Rattle.demands.proofs.TourRules.{tour_unbroken}
 
 -- the flag is 0 where there is no standing leg
-no_flag : (t : List ℕ) → leg_in t ≡ none → word_at t flag_start ≡ 0
+no_flag : (t : List ℕ) → leg_in t ≡ None → word_at t flag_start ≡ 0
 unfolding leg_in
 no_flag t e = go (eqb (word_at t flag_start) 0) refl e
   where
-    go : (c : Bool) → eqb (word_at t flag_start) 0 ≡ c → cond c none (some (leg_words t)) ≡ none → word_at t flag_start ≡ 0
+    go : (c : Bool) → eqb (word_at t flag_start) 0 ≡ c → cond c None (Some (leg_words t)) ≡ None → word_at t flag_start ≡ 0
     go true f g = eqb-true (word_at t flag_start) 0 f
     go false f g = absurd (let x : ◌≡◌ {A = ℕ} 0 1 = cc in omega arith)
 
@@ -88,8 +88,8 @@ numbers_held s (e ∷ es) m (suc i) h = numbers_held s es (λ f k. m f (Memᴰ.t
 -- of the list of a leg or none
 named_held : (o : Option Leg) (s : List Site) → Numbered s → (i : ℕ) → i < length (numbers_of (list_of o s)) → holds (get_or (numbers_of (list_of o s)) i 0) s ≡ true
 unfolding numbers_of
-named_held none s n i h = absurd (omega arith)
-named_held (some l) s n i h = numbers_held s (split_of l s) (listed_held l s (split_of l s) (split_is l s n).rules) i h
+named_held None s n i h = absurd (omega arith)
+named_held (Some l) s n i h = numbers_held s (split_of l s) (listed_held l s (split_of l s) (split_is l s n).rules) i h
 
 -- WHERE THE SECOND HALF IS KEPT, too, none of these is so
 unbroken_standing : (t : List ℕ) → Whole t → BreaksStanding t → ¬ StandingOk t
@@ -133,7 +133,7 @@ coordinate_most u g (suc (suc (suc zero))) h = g.e.north
 coordinate_most u g (suc (suc (suc (suc k)))) h = absurd (omega arith)
 
 -- a coordinate of the leg, where there is one
-leg_fault : (t : List ℕ) (k n : ℕ) → k < 4 → leg_in t ≢ none → StandingFault t (put_word t (leg_start + 2 * k) n)
+leg_fault : (t : List ℕ) (k n : ℕ) → k < 4 → leg_in t ≢ None → StandingFault t (put_word t (leg_start + 2 * k) n)
 leg_fault t k n h some-leg =
     let o = only_put_word t (leg_start + 2 * k) n in
     record {
@@ -218,7 +218,7 @@ module _ (t : List ℕ) (s : Sound t) where
     unfolding moved
     word = word_put_word t (leg_start + 2 * k) n (omega (arith, len))
 
-    leg_word_is : leg_in t ≢ none → grid_width < n → AllRefused 69 (put_word t (leg_start + 2 * k) n)
+    leg_word_is : leg_in t ≢ None → grid_width < n → AllRefused 69 (put_word t (leg_start + 2 * k) n)
     unfolding moved leg_in
     leg_word_is some-leg off = all_69 moved (fault_whole t moved s.whole f) wrong
       where
@@ -228,13 +228,13 @@ module _ (t : List ℕ) (s : Sound t) where
         flag : word_at moved flag_start ≢ 0
         flag z = some-leg (sym (unset_is t (word_at t flag_start) refl (sym (word_low o flag_start (omega arith)) ∙ z)))
 
-        leg : leg_in moved ≡ some (leg_words moved)
+        leg : leg_in moved ≡ Some (leg_words moved)
         leg = rw (ne_eqb (word_at moved flag_start) 0 flag) refl
 
         wrong : ¬ StandingOk moved
         wrong x = omega (arith, off, word, coordinate_most moved (subst LegOk leg x.leg) k h)
 
-    zero_word_is : leg_in t ≡ none → n ≢ 0 → AllRefused 65 (put_word t (leg_start + 2 * k) n)
+    zero_word_is : leg_in t ≡ None → n ≢ 0 → AllRefused 65 (put_word t (leg_start + 2 * k) n)
     unfolding moved ZeroFrom word_at
     zero_word_is e d = all_65 moved broken
       where
@@ -399,14 +399,14 @@ module _ (c : Call) (u' : List ℕ) (e : length c.work ≡ work_bytes) where
         c u' m (right (4160 + 2 * i) n)
 
     -- a coordinate of the standing leg off the grid: the sites are those of the calls still
-    pub ran_leg : (l : Leg) → (book_of_run cs).leg ≡ some l → (k : ℕ) → k < 4 → MadeOn (put_word t (4 + 2 * k) 24001) c u'
+    pub ran_leg : (l : Leg) → (book_of_run cs).leg ≡ Some l → (k : ℕ) → k < 4 → MadeOn (put_word t (4 + 2 * k) 24001) c u'
         → Left 69 (put_word t (4 + 2 * k) 24001) c u' × (lines_in u' ≡ (book_of_run cs).lines)
     ran_leg l leg k h m = (a, ap lines_in a.1 ∙ (fault_told cs t (put_word t (4 + 2 * k) 24001) r (leg_fault t k 24001 h set)).sites)
       where
-        some_none : (y : Leg) → some y ≡ none → ◌≡◌ {A = ℕ} 0 1
+        some_none : (y : Leg) → Some y ≡ None → ◌≡◌ {A = ℕ} 0 1
         some_none y q = cc
 
-        set : leg_in t ≢ none
+        set : leg_in t ≢ None
         set z = absurd (let x = some_none l (sym leg ∙ sym (ap (λ (b : Book). b.leg) hold.book) ∙ z) in omega (arith, x))
 
         a : Left 69 (put_word t (4 + 2 * k) 24001) c u'

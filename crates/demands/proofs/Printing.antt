@@ -2,7 +2,7 @@
 -- Assumes nothing.
 use mathlib.Core.Path.{◌≡◌, refl, sym, ap, ◌∙◌, subst}
 use mathlib.Core.Logic.{◌⊎◌, inl, ⊎_map}
-use mathlib.Core.Option.{Option, none, some}
+use Rattle.std.specs.Prelude.{Option, None, Some}
 use mathlib.Core.Bool.{true}
 use mathlib.Core.List.{List, [], ◌∷◌, map}
 use Prim.Native.Nat.{ℕ, ◌*◌, ◌≤◌}
@@ -38,7 +38,7 @@ use Rattle.demands.proofs.OneCommand.{wrote_one, kept_one, room_one}
 -- ---- the list printed
 
 -- a list's record tells that list
-listed_in : (b : Book) → Proper b → (l : Leg) → b.leg ≡ some l
+listed_in : (b : Book) → Proper b → (l : Leg) → b.leg ≡ Some l
     → list_in (record_bytes (split_of l (sites_of b))) ≡ map listed_of (split_of l (sites_of b))
 unfolding record_bytes
 listed_in b ok l e = (list_right b ok l (subst LegOk e ok.leg_ok) (split_of l (sites_of b)) refl).read
@@ -47,7 +47,7 @@ listed_in b ok l e = (list_right b ok l (subst LegOk e ok.leg_ok) (split_of l (s
 print_list : (b : Book) → Proper b → list_in (record_of (answer b Print)) ≡ map listed_of (standing_list b)
 print_list b ok = by_leg b.leg refl
   where
-    by_sites : (l : Leg) → b.leg ≡ some l → (s : List Site) → sites_of b ≡ s
+    by_sites : (l : Leg) → b.leg ≡ Some l → (s : List Site) → sites_of b ≡ s
         → list_in (record_of (answer b Print)) ≡ map listed_of (standing_list b)
     by_sites l e [] z =
         ap (λ (y : Reply). list_in (record_of y)) (answer_print_empty b l e (ap length z))
@@ -57,10 +57,10 @@ print_list b ok = by_leg b.leg refl
         ∙ listed_in b ok l e ∙ ap (λ (o : Option Leg). map listed_of (list_of o (sites_of b))) (sym e)
 
     by_leg : (o : Option Leg) → b.leg ≡ o → list_in (record_of (answer b Print)) ≡ map listed_of (standing_list b)
-    by_leg none e =
+    by_leg None e =
         ap (λ (y : Reply). list_in (record_of y)) (answer_print_legless b e)
         ∙ ap (λ (o : Option Leg). map listed_of (list_of o (sites_of b))) (sym e)
-    by_leg (some l) e = by_sites l e (sites_of b) refl
+    by_leg (Some l) e = by_sites l e (sites_of b) refl
 
 -- a 50 keeps the table, whatever it is answered
 print_keeps : (y : Reply) → keeps Print y ≡ true
@@ -86,8 +86,8 @@ module _ (t : List ℕ) (b : Book) (h : Holds t b) (es : List Listed) (p : Print
 
 -- a site's number
 number_of : Option Site → Option ℕ
-number_of none = none
-number_of (some p) = some p.number
+number_of None = None
+number_of (Some p) = Some p.number
 
 number_from_lem : (t : Fraction) (e : Entry) (es : List Entry) → number_from t (listed_of e) (map listed_of es) ≡ (name_from t e es).number
 unfolding number_from name_from
@@ -103,7 +103,7 @@ number_from_lem t e (f ∷ fs) = go (dec_le (f.start.num * t.den) (t.num * f.sta
 number_at_lem : (t : Fraction) (es : List Entry) → number_at t (map listed_of es) ≡ number_of (name_at t es)
 unfolding number_of
 number_at_lem t [] = refl
-number_at_lem t (e ∷ es) = ap some (number_from_lem t e es)
+number_at_lem t (e ∷ es) = ap Some (number_from_lem t e es)
 
 -- the names of two lists of one leg, where the sites of the second are those of the first and p
 module _ (s u : List Site) (p : Site) (n : Numbered u) (same : SameSites (p ∷ s) u) (t : Fraction) (f : IsFraction t) where
@@ -117,14 +117,14 @@ module _ (s u : List Site) (p : Site) (n : Numbered u) (same : SameSites (p ∷ 
   back : SameSites u (p ∷ s)
   back = record { to = same.back; back = same.to }
 
-  named : (o : Option Leg) → (name_at t (list_of o u) ≡ name_at t (list_of o s)) ⊎ (name_at t (list_of o u) ≡ some p)
-  named none = inl refl
-  named (some l) =
+  named : (o : Option Leg) → (name_at t (list_of o u) ≡ name_at t (list_of o s)) ⊎ (name_at t (list_of o u) ≡ Some p)
+  named None = inl refl
+  named (Some l) =
       names.added l s p numbered_both (split_of l s) (split_of l u) (split_is l s (names.fewer p s numbered_both)) (order_free l u (p ∷ s) back (split_of l u) (split_is l u n)) t f
 
   -- ONE SITE MORE: each number named is that of before, or the new one
   pub numbers_more : (o : Option Leg)
-      → (number_at t (map listed_of (list_of o u)) ≡ number_at t (map listed_of (list_of o s))) ⊎ (number_at t (map listed_of (list_of o u)) ≡ some p.number)
+      → (number_at t (map listed_of (list_of o u)) ≡ number_at t (map listed_of (list_of o s))) ⊎ (number_at t (map listed_of (list_of o u)) ≡ Some p.number)
   unfolding number_of
   numbers_more o =
       ⊎_map (λ e. number_at_lem t (list_of o u) ∙ ap number_of e ∙ sym (number_at_lem t (list_of o s))) (λ e. number_at_lem t (list_of o u) ∙ ap number_of e) (named o)

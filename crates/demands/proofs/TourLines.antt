@@ -1,7 +1,7 @@
 -- Tours to try, one statement over the table, computed by the checker; and the promise of tours, cited for calls.
 -- Assumes nothing.
 use mathlib.Core.Path.{◌≡◌, refl, sym, ap, ◌∙◌}
-use mathlib.Core.Option.{some}
+use Rattle.std.specs.Prelude.{Some}
 use mathlib.Core.List.{List, [], ◌∷◌, ◌++◌, map}
 use Prim.Native.Nat.{ℕ}
 use native.Mathlib.Decide.{dec_le, dec_lt}
@@ -53,7 +53,7 @@ heard_by (c ∷ cs) more ss e f =
     (λ i. heard_in c ++ heard_by cs (map asked cs) (map said cs) refl refl i) ∙ (λ i. exchanges (e i) (f i))
 
 -- the promise of a leg, written out, where the tour and the sites before it are known
-said_out : (past : List Exchange) (p : Position) (es : List Listed) (k : Trip) (s : List Site) → tour_heard past ≡ some k → sites_of (book_heard past) ≡ s
+said_out : (past : List Exchange) (p : Position) (es : List Listed) (k : Trip) (s : List Site) → tour_heard past ≡ Some k → sites_of (book_heard past) ≡ s
     → LegTold (book_heard past) (tour_heard past) p es → LegSaid (leg_of k p) s (last_heard k) es
 said_out past p es k s runs sites h =
     let same : h.tour ≡ k = let q = h.heard in cc in
@@ -73,7 +73,7 @@ said_out past p es k s runs sites h =
 module _ (cs : List Call) (told : ToursTold cs) (heard : heard_of_run cs ≡ tour_hearing) where
   -- each leg, wherever it stands among what was heard
   leg_said : (past later : List Exchange) (p : Position) (es : List Listed) → tour_hearing ≡ past ++ (heard_leg p es ∷ later)
-      → (k : Trip) (s : List Site) → tour_heard past ≡ some k → sites_of (book_heard past) ≡ s → LegSaid (leg_of k p) s (last_heard k) es
+      → (k : Trip) (s : List Site) → tour_heard past ≡ Some k → sites_of (book_heard past) ≡ s → LegSaid (leg_of k p) s (last_heard k) es
   leg_said past later p es e k s runs sites = said_out past p es k s runs sites (told past later p es (heard ∙ e))
 
   legs_said : LegsSaid

@@ -2,7 +2,7 @@
 -- Assumes nothing.
 use mathlib.Core.Path.{◌≡◌, refl, sym, subst, ◌∙◌}
 use mathlib.Core.Bool.{true, false, Bool, cond, true≢false}
-use mathlib.Core.Option.{Option, none, some}
+use Rattle.std.specs.Prelude.{Option, None, Some}
 use mathlib.Core.List.{List}
 use Prim.Native.Nat.{ℕ}
 use native.Mathlib.Omega.{arith}
@@ -23,16 +23,16 @@ use Rattle.demands.specs.TourRules.BreaksTour.{off_grid, not_held, other_flag, n
 use Rattle.demands.proofs.Demand1.{demand1}
 
 -- the flag is 0 where no tour is under way
-no_flag : (t : List ℕ) → tour_in t ≡ none → word_at t tour_start ≡ 0
+no_flag : (t : List ℕ) → tour_in t ≡ None → word_at t tour_start ≡ 0
 unfolding tour_in
 no_flag t e = go (eqb (word_at t tour_start) 0) refl (tour_at (position_words t corner_start) (word_at t last_start)) e
   where
-    go : (c : Bool) → eqb (word_at t tour_start) 0 ≡ c → (k : Tour) → cond c none (some k) ≡ none → word_at t tour_start ≡ 0
+    go : (c : Bool) → eqb (word_at t tour_start) 0 ≡ c → (k : Tour) → cond c None (Some k) ≡ None → word_at t tour_start ≡ 0
     go true f k g = eqb-true (word_at t tour_start) 0 f
     go false f k g = absurd (let x : ◌≡◌ {A = ℕ} 0 1 = cc in omega arith)
 
 -- the rules of the tour that a table has which keeps the first half
-whole_tour : (t : List ℕ) → Whole t → (k : Tour) → tour_in t ≡ some k → TourFits k (sites_of (book_of t))
+whole_tour : (t : List ℕ) → Whole t → (k : Tour) → tour_in t ≡ Some k → TourFits k (sites_of (book_of t))
 whole_tour t s k e = subst (λ (o : Option Tour). TourOk o (sites_of (book_of t))) e s.tour
 
 -- SUCH A TABLE BREAKS NONE

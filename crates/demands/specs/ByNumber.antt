@@ -1,8 +1,7 @@
 -- Tables of the release before C-11 of document 02, whose standing list followed document 01's own tie rule. C-11: "The
 -- standing list and test 65 follow"; since C-17 the number of a wrong standing list is 69.
 -- Assumes nothing.
-use Rattle.std.specs.Prelude.{◌≡◌, List, [], ◌∷◌, ℕ}
-use Rattle.std.proofs.Math.Option.{Option, none, some}
+use Rattle.std.specs.Prelude.{◌≡◌, List, [], ◌∷◌, ℕ, Option, None, Some}
 use Rattle.grid.specs.declared.Leg.{Leg}
 use Rattle.grid.specs.declared.Site.{Site}
 use Rattle.split.specs.SplitList.{Entry}
@@ -17,8 +16,8 @@ use Rattle.demands.specs.Demands.{Kept, RefusedWith}
 
 -- the list of a leg or none, by document 01's own tie rule
 abbrev pub list_by_number : Option Leg → List Site → List Entry
-list_by_number none s = []
-list_by_number (some l) s = split_by_number l s
+list_by_number None s = []
+list_by_number (Some l) s = split_by_number l s
 
 -- the site numbers that were stored then as the standing list of this book
 abbrev pub stored_before : Book → List ℕ
@@ -43,4 +42,4 @@ pub record EarlierTable (t : List ℕ) (c : Call) (t' : List ℕ) : Type 0 where
 
 -- document 01's case, with this standing leg: "2 (3,4), 5 (3,-4)"
 abbrev pub two_and_five : Leg → Book
-two_and_five l = record { lines = site 2 (at 3 4) ∷ site 5 (at_south 3 4) ∷ []; leg = some l; tour = none }
+two_and_five l = record { lines = site 2 (at 3 4) ∷ site 5 (at_south 3 4) ∷ []; leg = Some l; tour = None }

@@ -2,7 +2,7 @@
 -- the tours in it; last, each of them for every call or list of calls (`Demands`), which is what is proved.
 -- Assumes nothing.
 use Rattle.std.specs.Prelude.{◌≡◌, ◌≢◌, ◌⊎◌, Bool, true, false, ◌||◌, ℕ, ◌+◌, ◌*◌, ◌≤◌, length, drop, eqb}
-use Rattle.std.proofs.Math.Option.{Option, none, some}
+use Rattle.std.specs.Prelude.{Option, None, Some}
 use mathlib.Core.List.{List, [], ◌∷◌, ◌++◌, map, Memᴰ}
 use Rattle.std.proofs.Math.Decide.{dec_le}
 use Rattle.limits.specs.Limits.{max_number, table_bytes, work_bytes}
@@ -167,7 +167,7 @@ pub record Answers (t : List ℕ) (c : Call) (past : List Turn) (u : Turn) : Typ
 -- asks for; the list of that leg is right, and what k shows of it was printed
 pub record ListedRight (c : Call) (b : Book) (past : List Turn) (k : Command) (es : List Entry) : Type 0 where
   pub leg : Leg
-  pub asked : leg_asked b k ≡ some leg
+  pub asked : leg_asked b k ≡ Some leg
   pub whole : List Entry
   pub list : RightList leg (sites_of b) whole
   -- all of it, but for the first entry that a 43 may leave out
@@ -191,10 +191,10 @@ pub record Demand2 (t : List ℕ) (c : Call) : Type 0 where
   pub given : (l : Leg) (o : Outcome) → ComesTo t c (ListOf l) o → LegOnGrid l → sites_of o.book ≢ []
       → GivesList c (ListOf l) l o
   -- and so does the standing leg
-  pub given_standing : (l : Leg) (o : Outcome) → ComesTo t c Print o → o.book.leg ≡ some l
+  pub given_standing : (l : Leg) (o : Outcome) → ComesTo t c Print o → o.book.leg ≡ Some l
       → sites_of o.book ≢ [] → GivesList c Print l o
   -- and the next leg of a tour
-  pub given_corner : (p : Position) (k : Tour) (o : Outcome) → ComesTo t c (Corner p) o → o.book.tour ≡ some k
+  pub given_corner : (p : Position) (k : Tour) (o : Outcome) → ComesTo t c (Corner p) o → o.book.tour ≡ Some k
       → OnGrid p → sites_of o.book ≢ [] → GivesList c (Corner p) (leg_to k p) o
 
 -- ---- demand 3: shape does not matter
@@ -259,8 +259,8 @@ number_from t e (f ∷ fs) =
 -- "At t a list names the site of its last entry whose start is not above t": its number, none where the list has no
 -- entry
 abbrev pub number_at : Fraction → List Listed → Option ℕ
-number_at t [] = none
-number_at t (e ∷ es) = some (number_from t e es)
+number_at t [] = None
+number_at t (e ∷ es) = Some (number_from t e es)
 
 -- DEMAND 3 of the calls cs, where b is the site book after the same calls and t' the table then (`Demand3`).
 pub record Demand3On (cs : List Call) (b : Book) (t' : List ℕ) : Type 0 where
@@ -284,24 +284,24 @@ pub record Demand3On (cs : List Call) (b : Book) (t' : List ℕ) : Type 0 where
       → HasRoom c (list_record b l) → HasRoom d (list_record b l) → said c ≡ said d
   -- "The standing list is always the list of the standing leg": with a site held the 50 and the 4C of that leg
   -- write the same bytes
-  pub standing : (k : Leg) → b.leg ≡ some k → sites_of b ≢ []
+  pub standing : (k : Leg) → b.leg ≡ Some k → sites_of b ≢ []
       → (c d : Call) (t'' u'' : List ℕ) → Asks t' print50 c t'' → Asks t' (list4_c k) d u''
       → HasRoom c (record_bytes (standing_list b)) → HasRoom d (record_bytes (standing_list b))
       → WroteReport c (record_bytes (standing_list b)) × WroteReport d (record_bytes (standing_list b))
   -- "empty where that answers 21 06"
-  pub siteless : (k : Leg) → b.leg ≡ some k → sites_of b ≡ []
+  pub siteless : (k : Leg) → b.leg ≡ Some k → sites_of b ≡ []
       → (c : Call) (t'' : List ℕ) → Asks t' print50 c t'' → 2 ≤ length c.report
       → WroteReport c (0x21 ∷ 6 ∷ []) × (standing_list b ≡ [])
   -- without a standing leg the 50 is refused with 7
-  pub unset : b.leg ≡ none
+  pub unset : b.leg ≡ None
       → (c : Call) (t'' : List ℕ) → Asks t' print50 c t'' → 2 ≤ length c.report → WroteReport c (0x21 ∷ 7 ∷ [])
   -- one accepted 41: at every fraction the standing list names what it named before, or the new site
   pub added : (p : Site) → NumberOk p → OnGrid p.position
       → (old new : List Listed) → Changed t' (Add p.number (InSteps p.position)) old new
-      → (t : Fraction) → IsFraction t → (number_at t new ≡ number_at t old) ⊎ (number_at t new ≡ some p.number)
+      → (t : Fraction) → IsFraction t → (number_at t new ≡ number_at t old) ⊎ (number_at t new ≡ Some p.number)
   -- one accepted 44: at every fraction it names what it named before, or it named the site that is gone
   pub removed : (n : ℕ) → n ≤ max_number → (old new : List Listed) → Changed t' (Remove n) old new
-      → (t : Fraction) → IsFraction t → (number_at t new ≡ number_at t old) ⊎ (number_at t old ≡ some n)
+      → (t : Fraction) → IsFraction t → (number_at t new ≡ number_at t old) ⊎ (number_at t old ≡ Some n)
 
 -- DEMAND 3 of the calls cs, made on a table just laid out, which they leave as t'
 abbrev pub Demand3 : List Call → List ℕ → Type 0

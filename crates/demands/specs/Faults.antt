@@ -2,8 +2,7 @@
 -- sound tree with a wrong standing list, or a standing leg off the grid, gets its own number". The flag of the standing
 -- leg and the zeros without one belong to the layout; the stored length of the list belongs to the list.
 -- Assumes nothing.
-use Rattle.std.specs.Prelude.{◌≡◌, ◌≢◌, true, false, List, [], ℕ, ◌+◌, ◌*◌, ◌≤◌, ◌<◌, length, get_or}
-use Rattle.std.proofs.Math.Option.{none, some}
+use Rattle.std.specs.Prelude.{◌≡◌, ◌≢◌, true, false, List, [], ℕ, ◌+◌, ◌*◌, ◌≤◌, ◌<◌, length, get_or, None, Some}
 use Rattle.limits.specs.Limits.{grid_width, work_bytes}
 use Rattle.words.specs.Words.{word_at, put_word}
 use Rattle.grid.specs.declared.Leg.{Leg}
@@ -35,7 +34,7 @@ pub data BreaksWhole (t : List ℕ) : Type 0 where
   -- a flag of the standing leg that is neither 0 nor 1
   other_flag : 1 < word_at t flag_start → BreaksWhole t
   -- a coordinate without a standing leg
-  not_zero : leg_in t ≡ none → (i : ℕ) → leg_start ≤ i → i < length_start → get_or t i 0 ≢ 0 → BreaksWhole t
+  not_zero : leg_in t ≡ None → (i : ℕ) → leg_start ≤ i → i < length_start → get_or t i 0 ≢ 0 → BreaksWhole t
   -- C-13's rules
   tour : BreaksTour t → BreaksWhole t
   -- "a tree rule"
@@ -44,9 +43,9 @@ pub data BreaksWhole (t : List ℕ) : Type 0 where
 -- what gets 69 in a table that keeps all of those: one of these is enough
 pub data BreaksStanding (t : List ℕ) : Type 0 where
   -- "a standing leg off the grid"
-  off_grid : (l : Leg) → leg_in t ≡ some l → ¬ LegOnGrid l → BreaksStanding t
+  off_grid : (l : Leg) → leg_in t ≡ Some l → ¬ LegOnGrid l → BreaksStanding t
   -- a list without a standing leg
-  legless : leg_in t ≡ none → length_in t ≢ 0 → BreaksStanding t
+  legless : leg_in t ≡ None → length_in t ≢ 0 → BreaksStanding t
   -- "empty while no site is held"
   siteless : sites_of (book_of t) ≡ [] → length_in t ≢ 0 → BreaksStanding t
   -- more entries than sites, and so any length past 512
@@ -72,9 +71,9 @@ pub record OneWord (t : List ℕ) : Type 0 where
   -- a number of the list, by any other
   pub list_word : (i n : ℕ) → i < length_in t → n ≢ stored_number t i → AllRefused 69 (put_word t (list_start + 2 * i) n)
   -- one of the four coordinates of the leg, by one off the grid
-  pub leg_word : leg_in t ≢ none → (k n : ℕ) → k < 4 → grid_width < n → AllRefused 69 (put_word t (leg_start + 2 * k) n)
+  pub leg_word : leg_in t ≢ None → (k n : ℕ) → k < 4 → grid_width < n → AllRefused 69 (put_word t (leg_start + 2 * k) n)
   -- one of them where there is no leg, by any other
-  pub zero_word : leg_in t ≡ none → (k n : ℕ) → k < 4 → n ≢ 0 → AllRefused 65 (put_word t (leg_start + 2 * k) n)
+  pub zero_word : leg_in t ≡ None → (k n : ℕ) → k < 4 → n ≢ 0 → AllRefused 65 (put_word t (leg_start + 2 * k) n)
   -- the flag of the leg, by another than 0 and 1
   pub flag_word : (n : ℕ) → 1 < n → AllRefused 65 (put_word t flag_start n)
   -- and so with a wrong length beside it: 65 comes first

@@ -1,8 +1,7 @@
 -- The starred lines of document 01, "Legs to try": command bytes and record bytes, the refusals 6 and 7 and the
 -- removals included; and the leg from corner to corner of the grid as C-12 of document 02 has it.
 -- Assumes nothing.
-use Rattle.std.proofs.Math.Option.{Option, none, some}
-use Rattle.std.specs.Prelude.{List, [], ◌∷◌, ◌++◌, map, ℕ, ◌+◌}
+use Rattle.std.specs.Prelude.{List, [], ◌∷◌, ◌++◌, map, ℕ, ◌+◌, Option, None, Some}
 use Rattle.grid.specs.declared.Position.{Position}
 use Rattle.grid.specs.declared.Leg.{Leg}
 use Rattle.grid.specs.declared.Fraction.{Fraction}
@@ -137,7 +136,7 @@ printed_lines = two_entries (since_bytes 1 0 1) (since_bytes 2 37 100) ∷ one_e
 -- gone; and none is named by a refusal
 abbrev pub named_lines : List (List (Option ℕ))
 named_lines =
-    (some 1 ∷ some 1 ∷ some 2 ∷ some 2 ∷ some 2 ∷ [])
-    ∷ (some 1 ∷ some 1 ∷ some 1 ∷ some 1 ∷ some 1 ∷ [])
-    ∷ (none ∷ none ∷ none ∷ none ∷ none ∷ [])
+    (Some 1 ∷ Some 1 ∷ Some 2 ∷ Some 2 ∷ Some 2 ∷ [])
+    ∷ (Some 1 ∷ Some 1 ∷ Some 1 ∷ Some 1 ∷ Some 1 ∷ [])
+    ∷ (None ∷ None ∷ None ∷ None ∷ None ∷ [])
     ∷ []

@@ -1,8 +1,7 @@
 -- Tours to try, in bytes: over four calls, with a record that has no room and the same command again, refusals, and each
 -- command that ends a tour. Document 02, C-13. Sites 1 (2,3) and 2 (7,1) of document 01's first leg, there and back.
 -- Assumes nothing.
-use Rattle.std.specs.Prelude.{◌≡◌, List, [], ◌∷◌, ◌++◌, map, ℕ, length}
-use Rattle.std.proofs.Math.Option.{Option, none, some}
+use Rattle.std.specs.Prelude.{◌≡◌, List, [], ◌∷◌, ◌++◌, map, ℕ, length, Option, None, Some}
 use Rattle.limits.specs.Limits.{work_bytes}
 use Rattle.grid.specs.declared.Leg.{Leg}
 use Rattle.grid.specs.declared.Site.{Site}
@@ -142,12 +141,12 @@ three_sites = site 1 (at 2 3) ∷ site 2 (at 7 1) ∷ site 3 (at 50 50) ∷ []
 abbrev pub LegSaid : Leg → List Site → Option ℕ → List Listed → Type 0
 LegSaid l s last es =
     ((t : Fraction) → IsFraction t
-    → (p : Site) × ((name_at t (split_of l s) ≡ some p) × (said_at t last es ≡ some p.number)))
+    → (p : Site) × ((name_at t (split_of l s) ≡ Some p) × (said_at t last es ≡ Some p.number)))
     × (es ≡ map listed_of (left_out last (split_of l s)))
 
 -- all four legs: the first of a tour, one whose record has no entry, the way back, and the first of another tour
 pub record LegsSaid : Type 0 where
-  pub first : LegSaid ten both_sites none ten_listed
-  pub second : LegSaid (leg (at 10 0) (at 9 0)) both_sites (some 2) []
-  pub back : LegSaid (leg (at 9 0) (at 0 0)) both_sites (some 2) (since 1 53 90 ∷ [])
-  pub other : LegSaid ten three_sites none ten_listed
+  pub first : LegSaid ten both_sites None ten_listed
+  pub second : LegSaid (leg (at 10 0) (at 9 0)) both_sites (Some 2) []
+  pub back : LegSaid (leg (at 9 0) (at 0 0)) both_sites (Some 2) (since 1 53 90 ∷ [])
+  pub other : LegSaid ten three_sites None ten_listed

@@ -2,7 +2,7 @@
 -- Assumes nothing.
 use mathlib.Core.Path.{◌≡◌, refl}
 use mathlib.Core.List.{[], ◌∷◌}
-use mathlib.Core.Option.{none, some}
+use Rattle.std.specs.Prelude.{None, Some}
 use native.Mathlib.Decide.{dec_le, dec_lt}
 use native.Mathlib.Omega.{arith}
 use Rattle.limits.specs.Limits.{work_bytes}
@@ -41,7 +41,7 @@ pub ten_on : LegOnGrid ten
 ten_on = record { s = record { east = omega arith; north = omega arith }; e = record { east = omega arith; north = omega arith } }
 
 -- a 53 sets the leg, and adds no site
-pub stood_book : book_after empty_book (ask work_bytes stand_ten 2 ∷ []) ≡ record { lines = []; leg = some ten; tour = none }
+pub stood_book : book_after empty_book (ask work_bytes stand_ten 2 ∷ []) ≡ record { lines = []; leg = Some ten; tour = None }
 unfolding replies_asking book_after records turn run_from parse_at form_of word_at from_word to_word answer holds change
 stood_book = refl
 

@@ -2,7 +2,7 @@
 -- Assumes nothing.
 use mathlib.Core.Path.{◌≡◌, sym, ap, subst, ◌∙◌}
 use mathlib.Core.List.{List, [], ◌∷◌}
-use mathlib.Core.Option.{none, some}
+use Rattle.std.specs.Prelude.{None, Some}
 use Prim.Native.Nat.{ℕ, ◌≤◌}
 use native.Mathlib.Omega.{arith}
 use lib.ListN.{length, take}
@@ -83,7 +83,7 @@ stood t t₁ x l e t₂ a c =
     }
 
 module _ (t : List ℕ) (s : Stood t) (t₁ t₂ : List ℕ) (a : Heard) (c : Called (ask work_bytes print_alone 2) a.result t₁ t₂ a.report) where
-  book : book_of_run s.calls ≡ record { lines = []; leg = some ten; tour = none }
+  book : book_of_run s.calls ≡ record { lines = []; leg = Some ten; tour = None }
   book = ap (book_after empty_book) s.asks ∙ stood_book
 
   work : length c.call.work ≡ work_bytes

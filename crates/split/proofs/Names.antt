@@ -2,7 +2,7 @@
 -- Assumes nothing.
 use mathlib.Core.Path.{subst, ap, ◌≡◌, refl, sym, ◌∙◌}
 use mathlib.Core.Logic.{◌⊎◌, inl, inr, ⊎_map}
-use mathlib.Core.Option.{some}
+use Rattle.std.specs.Prelude.{Some}
 use mathlib.Core.List.Memᴰ
 use mathlib.Core.List.{List, [], ◌∷◌, Memᴰ}
 use Prim.Native.Nat.{◌*◌, ◌≤◌, ◌<◌}
@@ -123,19 +123,19 @@ list_leads l s e es h t ft = named_leads l s t ft es e h.rules (rw h.opens (omeg
 
 -- ONE SITE MORE: at every fraction the new list names what the old one names, or the new site
 pub added : (l : Leg) (s : List Site) (p : Site) → Numbered (p ∷ s) → (es fs : List Entry) → IsSplitList l s es → IsSplitList l (p ∷ s) fs
-    → (t : Fraction) → IsFraction t → (name_at t fs ≡ name_at t es) ⊎ (name_at t fs ≡ some p)
+    → (t : Fraction) → IsFraction t → (name_at t fs ≡ name_at t es) ⊎ (name_at t fs ≡ Some p)
 added l s p numbered es [] h k t ft = absurd (Memᴰ.not-nil (subst (λ (x : List Site). Memᴰ p x) k.opens (Memᴰ.head refl)))
-added l s p numbered [] (f ∷ fs) h k t ft = inr (ap some (go (Memᴰ.cases_cons (leads_somewhere l (p ∷ s) t _ (list_leads l (p ∷ s) f fs k t ft)))))
+added l s p numbered [] (f ∷ fs) h k t ft = inr (ap Some (go (Memᴰ.cases_cons (leads_somewhere l (p ∷ s) t _ (list_leads l (p ∷ s) f fs k t ft)))))
   where
     go : (name_from t f fs ≡ p) ⊎ Memᴰ (name_from t f fs) s → name_from t f fs ≡ p
     go (inl e) = e
     go (inr m) = absurd (Memᴰ.not-nil (subst (λ (x : List Site). Memᴰ (name_from t f fs) x) h.opens m))
-added l s p numbered (e ∷ es) (f ∷ fs) h k t ft = ⊎_map (ap some) (ap some) (same_or_new l s p numbered v.0 (name_from t e es) (name_from t f fs) v.1 v.2)
+added l s p numbered (e ∷ es) (f ∷ fs) h k t ft = ⊎_map (ap Some) (ap Some) (same_or_new l s p numbered v.0 (name_from t e es) (name_from t f fs) v.1 v.2)
   where
     v : (v : Fraction) × Leads l s v (name_from t e es) × Leads l (p ∷ s) v (name_from t f fs)
     v = together l s (p ∷ s) t (name_from t e es) (name_from t f fs) (list_leads l s e es h t ft) (list_leads l (p ∷ s) f fs k t ft)
 
 -- ONE SITE LESS: at every fraction the new list names what the old one names, or the old one named the site that is gone
 pub removed : (l : Leg) (s : List Site) (p : Site) → Numbered (p ∷ s) → (es fs : List Entry) → IsSplitList l (p ∷ s) es → IsSplitList l s fs
-    → (t : Fraction) → IsFraction t → (name_at t fs ≡ name_at t es) ⊎ (name_at t es ≡ some p)
+    → (t : Fraction) → IsFraction t → (name_at t fs ≡ name_at t es) ⊎ (name_at t es ≡ Some p)
 removed l s p numbered es fs h k t ft = ⊎_map sym (λ e. e) (added l s p numbered fs es k h t ft)

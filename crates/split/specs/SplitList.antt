@@ -1,8 +1,7 @@
 -- The split list of a leg. Document 01, "The split list", in its order.
 -- What is said at a fraction t is meant with the denominators multiplied out, so that every number is whole.
 -- Assumes nothing.
-use Rattle.std.specs.Prelude.{◌≡◌, ◌≢◌, ℕ, suc, ◌+◌, ◌*◌, ◌-◌, ◌≤◌, ◌<◌}
-use Rattle.std.proofs.Math.Option.{Option, none, some}
+use Rattle.std.specs.Prelude.{◌≡◌, ◌≢◌, ℕ, suc, ◌+◌, ◌*◌, ◌-◌, ◌≤◌, ◌<◌, Option, None, Some}
 use mathlib.Core.List.{List, [], ◌∷◌, Memᴰ}
 use Rattle.std.proofs.Math.Decide.{dec_le}
 use Rattle.limits.specs.Limits.{max_number}
@@ -114,5 +113,5 @@ name_from t e (f ∷ fs) = or_else (dec_le (f.start.num * t.den) (t.num * f.star
 
 -- "At t a list names the site of its last entry whose start is not above t": none where it has no entry
 abbrev pub name_at : Fraction → List Entry → Option Site
-name_at t [] = none
-name_at t (e ∷ es) = some (name_from t e es)
+name_at t [] = None
+name_at t (e ∷ es) = Some (name_from t e es)

@@ -2,7 +2,7 @@
 -- Assumes nothing.
 use mathlib.Core.Path.{◌≡◌, refl, sym, ap, subst, subst⁻¹, ◌∙◌}
 use mathlib.Core.Bool.{true, false}
-use mathlib.Core.Option.{Option, none, some}
+use Rattle.std.specs.Prelude.{Option, None, Some}
 use mathlib.Core.List.{List}
 use Prim.Native.Nat.{ℕ, ◌≤◌, ◌<◌}
 use native.Mathlib.Omega.{arith}
@@ -89,32 +89,32 @@ module _ (b b₀ : List ℕ) (o : Option Tour) (w : Whole b) (st : TourStored o 
 
 -- ---- the tour ends
 
-module _ (b b₀ : List ℕ) (s : Sound b) (st : TourStored none b b₀) where
+module _ (b b₀ : List ℕ) (s : Sound b) (st : TourStored None b b₀) where
   pub ended_whole : Whole b₀
-  ended_whole = toured_whole b b₀ none s.whole st tt
+  ended_whole = toured_whole b b₀ None s.whole st tt
 
-  pub ended_idle : tour_in b₀ ≡ none
+  pub ended_idle : tour_in b₀ ≡ None
   ended_idle = st.tour
 
   pub ended_nowhere : (k n : ℕ) → StandsNowhere k n (lines_in b) → StandsNowhere k n (lines_in b₀)
-  ended_nowhere k n h = subst⁻¹ (StandsNowhere k n) (lines_left b b₀ none s.whole st) h
+  ended_nowhere k n h = subst⁻¹ (StandsNowhere k n) (lines_left b b₀ None s.whole st) h
 
   pub ended_at : (k n : ℕ) → StandsAt k n (lines_in b) → StandsAt k n (lines_in b₀)
-  ended_at k n h = subst⁻¹ (StandsAt k n) (lines_left b b₀ none s.whole st) h
+  ended_at k n h = subst⁻¹ (StandsAt k n) (lines_left b b₀ None s.whole st) h
 
   pub ended_room : length (lines_in b) < max_sites → length (lines_in b₀) < max_sites
-  ended_room h = omega (arith, h, ap length (lines_left b b₀ none s.whole st))
+  ended_room h = omega (arith, h, ap length (lines_left b b₀ None s.whole st))
 
   -- what is relined then is relined
   ended_relined : (f : List Site → List Site) (b₁ : List ℕ) → Relined (f (lines_in b₀)) b₀ b₁ → Relined (f (lines_in b)) b b₁
   ended_relined f b₁ r =
-      let e = lines_left b b₀ none s.whole st in
+      let e = lines_left b b₀ None s.whole st in
       record {
         whole = r.whole;
         lines = r.lines ∙ ap f e;
-        leg = r.leg ∙ leg_left b b₀ none s.whole st;
+        leg = r.leg ∙ leg_left b b₀ None s.whole st;
         tour = r.tour;
-        list = λ few. r.list (omega (arith, few, word_low st.only length_start (omega arith))) ∙ list_left b b₀ none s.whole st few;
+        list = λ few. r.list (omega (arith, few, word_low st.only length_start (omega arith))) ∙ list_left b b₀ None s.whole st few;
       }
 
 -- after a line has changed, the list may be patched, and then the table holds the changed book
@@ -128,7 +128,7 @@ module _ (b b₁ : List ℕ) (l : List Site) (s : Sound b) (r : Relined l b b₁
   pub relined_holds : (b₂ : List ℕ) → Holds b₂ (book_of b₁) → Holds b₂ (with_lines l (book_of b))
   relined_holds b₂ h = subst (Holds b₂) relined_book h
 
-module _ (b b₀ b₁ : List ℕ) (p : Site) (s : Sound b) (st : TourStored none b b₀) (r₀ : Relined (write_line p (lines_in b₀)) b₀ b₁) where
+module _ (b b₀ b₁ : List ℕ) (p : Site) (s : Sound b) (st : TourStored None b b₀) (r₀ : Relined (write_line p (lines_in b₀)) b₀ b₁) where
   added : Relined (write_line p (lines_in b)) b b₁
   added = ended_relined b b₀ s st (write_line p) b₁ r₀
 
@@ -143,7 +143,7 @@ module _ (b b₀ b₁ : List ℕ) (p : Site) (s : Sound b) (st : TourStored none
   unfolding change
   add_done b₂ h = relined_holds b b₁ (write_line p (lines_in b)) s added b₂ h
 
-module _ (b b₀ b₁ : List ℕ) (n : ℕ) (s : Sound b) (st : TourStored none b b₀) (r₀ : Relined (strike_line n (lines_in b₀)) b₀ b₁) where
+module _ (b b₀ b₁ : List ℕ) (n : ℕ) (s : Sound b) (st : TourStored None b b₀) (r₀ : Relined (strike_line n (lines_in b₀)) b₀ b₁) where
   struck : Relined (strike_line n (lines_in b)) b b₁
   struck = ended_relined b b₀ s st (strike_line n) b₁ r₀
 
@@ -158,7 +158,7 @@ module _ (b b₀ b₁ : List ℕ) (n : ℕ) (s : Sound b) (st : TourStored none 
   unfolding change
   remove_done b₂ h = relined_holds b b₁ (strike_line n (lines_in b)) s struck b₂ h
 
-module _ (b b₀ b₁ : List ℕ) (q : Site) (s : Sound b) (st : TourStored none b b₀) (r₀ : Relined (move_line q.number q.position (lines_in b₀)) b₀ b₁) where
+module _ (b b₀ b₁ : List ℕ) (q : Site) (s : Sound b) (st : TourStored None b b₀) (r₀ : Relined (move_line q.number q.position (lines_in b₀)) b₀ b₁) where
   moved : Relined (move_line q.number q.position (lines_in b)) b b₁
   moved = ended_relined b b₀ s st (move_line q.number q.position) b₁ r₀
 
@@ -215,33 +215,33 @@ stored_alone b b₀ o st = st.only
 
 module _ (b b₀ : List ℕ) (s : Sound b) where
   -- BEGUN
-  pub begin_done : (p : Position) → OnGrid p → TourStored (some (tour_at p 0)) b b₀ → Holds b₀ (change (Begin p) (book_of b))
+  pub begin_done : (p : Position) → OnGrid p → TourStored (Some (tour_at p 0)) b b₀ → Holds b₀ (change (Begin p) (book_of b))
   unfolding change
-  begin_done p on st = toured_holds b b₀ (some (tour_at p 0)) s.whole st s.standing (record { on_grid = on; held = tt })
+  begin_done p on st = toured_holds b b₀ (Some (tour_at p 0)) s.whole st s.standing (record { on_grid = on; held = tt })
 
   module _ (l : Leg) (n : ℕ) (f : Follows l n b) where
     -- the last site of the leg's list is held
     held_last : holds n (lines_in b) ≡ true
     held_last =
         subst (λ (o : Option ℕ). LastHeld o (lines_in b)) f.last
-        (last_held l (lines_in b) none (split_of l (lines_in b)) (split_is l (lines_in b) (proper_numbered (book_of b) (sound_proper b s))).rules tt)
+        (last_held l (lines_in b) None (split_of l (lines_in b)) (split_is l (lines_in b) (proper_numbered (book_of b) (sound_proper b s))).rules tt)
 
     -- so it has a number
-    last_number_lem : site_number n ≡ some n
+    last_number_lem : site_number n ≡ Some n
     last_number_lem =
         let h = holds_member n (lines_in b) held_last in
         rw (ne_eqb n 0 (λ z. omega (arith, h.named, (s.whole.sites.numbers h.line h.held).least))) refl
 
-    goes_on_lem : goes_on (tour_in b) l.e (list_of (tour_leg (tour_in b) l.e) (lines_in b)) ≡ some (tour_at l.e n)
+    goes_on_lem : goes_on (tour_in b) l.e (list_of (tour_leg (tour_in b) l.e) (lines_in b)) ≡ Some (tour_at l.e n)
     goes_on_lem =
         ap (λ (o : Option Tour). goes_on o l.e (list_of (tour_leg o l.e) (lines_in b))) f.runs
-        ∙ (λ i. some (cornered l.e (split_of (record { s = f.from i; e = l.e }) (lines_in b))))
-        ∙ ap (λ (o : Option ℕ). some (record { corner = l.e; last = o })) (f.last ∙ sym last_number_lem)
+        ∙ (λ i. Some (cornered l.e (split_of (record { s = f.from i; e = l.e }) (lines_in b))))
+        ∙ ap (λ (o : Option ℕ). Some (record { corner = l.e; last = o })) (f.last ∙ sym last_number_lem)
 
     -- GONE ON
-    pub follow_done : TourStored (some (tour_at l.e n)) b b₀ → Holds b₀ (change (Corner l.e) (book_of b))
+    pub follow_done : TourStored (Some (tour_at l.e n)) b b₀ → Holds b₀ (change (Corner l.e) (book_of b))
     unfolding change
     follow_done st =
         subst⁻¹ (λ (o : Option Tour). Holds b₀ (with_tour o (book_of b))) goes_on_lem
-        (toured_holds b b₀ (some (tour_at l.e n)) s.whole st s.standing
+        (toured_holds b b₀ (Some (tour_at l.e n)) s.whole st s.standing
         (record { on_grid = f.on_grid; held = rw last_number_lem held_last }))

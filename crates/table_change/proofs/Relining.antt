@@ -2,7 +2,7 @@
 -- Assumes nothing.
 use mathlib.Core.Path.{◌≡◌, refl, sym, ap, subst, ◌∙◌}
 use mathlib.Core.List.{List, [], ◌∷◌, ◌++◌, Memᴰ}
-use mathlib.Core.Option.{Option, none}
+use Rattle.std.specs.Prelude.{Option, None}
 use Prim.Native.Nat.{ℕ, suc, ◌+◌, ◌≤◌, ◌<◌}
 use native.Mathlib.Omega.{arith}
 use native.Mathlib.Decide.{dec_lt}
@@ -93,7 +93,7 @@ changed_rooted l b b₁ w c = rooted_below (below_tree l b b₁ c) w.tree.rooted
 pub changed_leaves : (l : List Site) (b b₁ : List ℕ) → ArrayChanged l b b₁ → leaves_in b₁ ≡ leaves_in b
 changed_leaves l b b₁ c = leaves_below (below_tree l b b₁ c)
 
-relined : (l m : List Site) (b b₁ b₂ : List ℕ) → Whole b → tour_in b ≡ none → ArrayChanged l b b₁ → SitesOk b₁ → lines_in b₁ ≡ m → Only tree_start table_bytes b₁ b₂ → Rooted (root_in b₂) b₂
+relined : (l m : List Site) (b b₁ b₂ : List ℕ) → Whole b → tour_in b ≡ None → ArrayChanged l b b₁ → SitesOk b₁ → lines_in b₁ ≡ m → Only tree_start table_bytes b₁ b₂ → Rooted (root_in b₂) b₂
     → ((w : NodeEntry → ℕ) → total w (leaves_in b₂) ≡ total w (leaf_entries m)) → Relined m b b₂
 relined l m b b₁ b₂ w idle c s e o r t =
     record {
@@ -110,7 +110,7 @@ relined l m b b₁ b₂ w idle c s e o r t =
       list = list_same b b₂ (λ i x h. o.low i (omega arith) ∙ c.header i (omega arith) (omega arith)) (λ i x h. o.low i (omega arith) ∙ c.above i (omega arith));
     }
   where
-    none_now : tour_in b₂ ≡ none
+    none_now : tour_in b₂ ≡ None
     none_now = tour_same b b₂ (λ i x h. o.low i (omega arith) ∙ c.header i (omega arith) (omega arith)) ∙ idle
 
     same : lines_in b₂ ≡ m
@@ -127,7 +127,7 @@ whole_room b h = omega (arith, lines_length b)
 pub absent_inside : (b : List ℕ) (k n : ℕ) → StandsNowhere k n (lines_in b) → k ≤ count_in b
 absent_inside b k n f = absent_counted b f
 
-module _ (b b₁ : List ℕ) (k : ℕ) (p : Site) (w : Whole b) (idle : tour_in b ≡ none) (f : StandsNowhere k p.number (lines_in b)) where
+module _ (b b₁ : List ℕ) (k : ℕ) (p : Site) (w : Whole b) (idle : tour_in b ≡ None) (f : StandsNowhere k p.number (lines_in b)) where
   pub grow_few : length (lines_in b) < max_sites → ArrayChanged (inserted k p (lines_in b)) b b₁ → length (leaves_in b₁) < max_sites
   grow_few h c = omega (arith, ap length (changed_leaves (inserted k p (lines_in b)) b b₁ c), tied_count b w.tree)
 
@@ -140,7 +140,7 @@ module _ (b b₁ : List ℕ) (k : ℕ) (p : Site) (w : Whole b) (idle : tour_in 
 
 -- ---- one site less
 
-module _ (b b₁ : List ℕ) (k n : ℕ) (w : Whole b) (idle : tour_in b ≡ none) (f : StandsAt k n (lines_in b)) where
+module _ (b b₁ : List ℕ) (k n : ℕ) (w : Whole b) (idle : tour_in b ≡ None) (f : StandsAt k n (lines_in b)) where
   line_is : line_at b k ≡ get_or (lines_in b) k no_site
   line_is = sym (line_at_lem b k no_site (omega (arith, f.line, lines_length b)))
 

@@ -1,7 +1,6 @@
 -- What a change of the sites leaves before the standing list is brought up to date.
 -- Assumes nothing.
-use Rattle.std.specs.Prelude.{◌≡◌, List, ℕ, ◌+◌, ◌≤◌}
-use Rattle.std.proofs.Math.Option.{none}
+use Rattle.std.specs.Prelude.{◌≡◌, List, ℕ, ◌+◌, ◌≤◌, None}
 use Rattle.limits.specs.Limits.{max_sites, table_bytes}
 use Rattle.words.specs.Words.{Only}
 use Rattle.grid.specs.declared.Site.{Site}
@@ -21,7 +20,7 @@ pub record Relined (l : List Site) (b b' : List ℕ) : Type 0 where
   pub whole : Whole b'
   pub lines : lines_in b' ≡ l
   pub leg : leg_in b' ≡ leg_in b
-  pub tour : tour_in b' ≡ none
+  pub tour : tour_in b' ≡ None
   pub list : length_in b ≤ max_sites → standing_in b' ≡ standing_in b
 
 -- the tree has the leaf entry new in the place of old, and nothing below the tree has changed

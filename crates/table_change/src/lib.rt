@@ -1,7 +1,7 @@
 // Accepted changes, carried out: the site array, the tree, and then the standing list; the tour.
 #![tactic(auto)]
 
-ghost use Rattle.std.specs.Prelude.{◌<◌, ◌≤◌, length, ◌≡◌};
+ghost use Rattle.std.specs.Prelude.{◌<◌, ◌≤◌, length, ◌≡◌, None};
 ghost use Rattle.limits.specs.Limits.{max_sites};
 ghost use Rattle.grid.specs.Position.{OnGrid, LegOnGrid};
 ghost use Rattle.list_row.specs.Vertices.{row_bytes};
@@ -12,7 +12,6 @@ ghost use Rattle.book.specs.Proper.{NumberOk};
 ghost use Rattle.table_sites.specs.Lines.{lines_in, StandsAt, StandsNowhere};
 ghost use Rattle.table_rules.specs.Table.{book_of, Whole, Sound};
 ghost use Rattle.demands.specs.Step.{Holds};
-ghost use Rattle.std.proofs.Math.Option.{none};
 ghost use mathlib.Core.List.{Memᴰ};
 ghost use Rattle.words.specs.Words.{Only};
 ghost use Rattle.table_header.specs.Layout.{tour_start, tour_end};
@@ -28,7 +27,7 @@ use tree_node::NodeEntry;
 
 // Adds a site whose record goes before record k.
 fn grow(t: &mut [u8], k: usize, site: Site)
-    requires whole { Whole t.old × (tour_in t.old ≡ none) × StandsNowhere k site.number (lines_in t.old)
+    requires whole { Whole t.old × (tour_in t.old ≡ None) × StandsNowhere k site.number (lines_in t.old)
         × (length (lines_in t.old) < max_sites) }
     requires number_ok { NumberOk site × OnGrid site.position }
     ensures { Relined (write_line site (lines_in t.old)) t.old t.new }
@@ -40,7 +39,7 @@ fn grow(t: &mut [u8], k: usize, site: Site)
 
 // Removes the site of record k.
 fn shrink(t: &mut [u8], k: usize, n: u16)
-    requires { Whole t.old × (tour_in t.old ≡ none) × StandsAt k n (lines_in t.old) }
+    requires { Whole t.old × (tour_in t.old ≡ None) × StandsAt k n (lines_in t.old) }
     ensures { Relined (strike_line n (lines_in t.old)) t.old t.new }
 {
     let e = leaf_entry(table_sites::line(t, k));
@@ -60,7 +59,7 @@ fn swap_leaf(t: &mut [u8], old: NodeEntry, new: NodeEntry)
 
 // Gives the site of record k a new position.
 fn relocate(t: &mut [u8], k: usize, site: Site)
-    requires { Whole t.old × (tour_in t.old ≡ none) × StandsAt k site.number (lines_in t.old)
+    requires { Whole t.old × (tour_in t.old ≡ None) × StandsAt k site.number (lines_in t.old)
         × OnGrid site.position }
     ensures { Relined (move_line site.number site.position (lines_in t.old)) t.old
         t.new }

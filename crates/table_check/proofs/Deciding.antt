@@ -4,7 +4,7 @@ use mathlib.Core.Path.{◌≡◌, refl, sym, ap, subst, subst⁻¹, ◌∙◌}
 use mathlib.Core.Logic.{◌≢◌}
 use mathlib.Core.Bool.{Bool, true, false, true≢false}
 use mathlib.Core.List.{List, []}
-use mathlib.Core.Option.{Option, none, some}
+use Rattle.std.specs.Prelude.{Option, None, Some}
 use Prim.Native.Nat.{ℕ}
 use native.Mathlib.Omega.{arith}
 use lib.ListN.{length}
@@ -42,7 +42,7 @@ module _ (b : List ℕ) (s : Standing) (w : Whole b) (q : as_option s ≡ leg_in
   unfolding standing_in words_from numbers_of
   unset_says n u e = go (eqb n 0) refl
     where
-      leg : leg_in b ≡ none
+      leg : leg_in b ≡ None
       leg = sym q ∙ ap as_option u
 
       list : numbers_of (standing_list (book_of b)) ≡ []
@@ -57,7 +57,7 @@ module _ (b : List ℕ) (s : Standing) (w : Whole b) (q : as_option s ≡ leg_in
       go false z = λ x. eqb-false n 0 z (e ∙ (omega (arith, standing_length b, ap length (x.list ∙ list))))
 
   module _ (l : Leg) (a : s ≡ Standing.Along l) where
-    leg_is : leg_in b ≡ some l
+    leg_is : leg_in b ≡ Some l
     leg_is = sym q ∙ ap as_option a
 
     pub along_off : (t : Bool) → Says t (LegOnGrid l) → t ≡ false → ¬ StandingOk b
@@ -87,7 +87,7 @@ module _ (b : List ℕ) (n : ℕ) where
   unnamed_ok z = rw (eq-eqb n 0 z) tt
 
   module _ (f : Found) (k : ℕ) (nz : n ≢ 0) (a : FoundAs f n (lines_in b)) where
-    named : site_number n ≡ some n
+    named : site_number n ≡ Some n
     named = rw (ne_eqb n 0 nz) refl
 
     pub named_ok : f ≡ Found.At k → LastHeld (site_number n) (lines_in b)
@@ -103,7 +103,7 @@ module _ (b : List ℕ) (r : Touring) (q : touring_as r ≡ tour_in b) where
   idle_ok u = subst (λ (o : Option Tour). TourOk o (lines_in b)) (sym (ap touring_as u) ∙ q) tt
 
   module _ (p : Position) (n : ℕ) (u : r ≡ Touring.From p n) (t : Bool) (s : Says t (OnGrid p)) where
-    tour_is : tour_in b ≡ some (tour_at p n)
+    tour_is : tour_in b ≡ Some (tour_at p n)
     tour_is = sym q ∙ ap touring_as u
 
     pub corner_off : t ≡ false → ¬ TourOk (tour_in b) (lines_in b)

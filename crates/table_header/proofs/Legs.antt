@@ -2,7 +2,7 @@
 -- Assumes nothing.
 use mathlib.Core.Path.{◌≡◌, refl, sym, ap, ◌∙◌}
 use mathlib.Core.List.{List}
-use mathlib.Core.Option.{some}
+use Rattle.std.specs.Prelude.{Some}
 use Prim.Native.Nat.{ℕ, ◌+◌, ◌≤◌}
 use native.Mathlib.Omega.{arith}
 use lib.ListN.{length}
@@ -27,7 +27,7 @@ unset_is b f h z = rw (eq-eqb (word_at b flag_start) 0 (sym h ∙ z)) refl
 pub along_is : (b : List ℕ) (f : ℕ) (p q : Position) → f ≡ word_at b flag_start → (f ≡ 0 → ⊥) → p ≡ position_words b leg_start → q ≡ position_words b (leg_start + 4)
     → as_option (Standing.Along (record { s = p; e = q })) ≡ leg_in b
 unfolding leg_in
-along_is b f p q h nz hp hq = rw (ne_eqb (word_at b flag_start) 0 (λ e. nz (h ∙ e))) (λ j. some (record { s = hp j; e = hq j }))
+along_is b f p q h nz hp hq = rw (ne_eqb (word_at b flag_start) 0 (λ e. nz (h ∙ e))) (λ j. Some (record { s = hp j; e = hq j }))
 
 pub position_stored : (p : Position) (b b₁ b₂ : List ℕ) (i : ℕ) → b₁ ≡ put_word b i p.east → b₂ ≡ put_word b₁ (i + 2) p.north → b₂ ≡ put_position b i p
 unfolding put_position
@@ -60,7 +60,7 @@ pub leg_stored : (l : Leg) (b b₁ b₂ b₃ : List ℕ) → length b ≡ table_
 unfolding leg_in
 leg_stored l b b₁ b₂ b₃ len e₁ e₂ e₃ =
     record {
-      leg = rw (ne_eqb (word_at b₃ flag_start) 0 (λ e. omega (arith, flag))) (λ i. some (record { s = from i; e = to i }));
+      leg = rw (ne_eqb (word_at b₃ flag_start) 0 (λ e. omega (arith, flag))) (λ i. Some (record { s = from i; e = to i }));
       flag = flag;
       only = only_trans (only_wider (omega arith) (omega arith) o₁) (only_trans (only_wider (omega arith) (omega arith) o₂) (only_wider (omega arith) (omega arith) o₃));
     }

@@ -2,7 +2,7 @@
 -- Assumes nothing.
 use mathlib.Core.Path.{◌≡◌, refl, sym, ap, ◌∙◌}
 use mathlib.Core.List.{List}
-use mathlib.Core.Option.{none, some}
+use Rattle.std.specs.Prelude.{None, Some}
 use Prim.Native.Nat.{ℕ, ◌+◌}
 use native.Mathlib.Omega.{arith}
 use lib.ListN.{length}
@@ -24,7 +24,7 @@ idle_is b f h z = rw (eq-eqb (word_at b tour_start) 0 (sym h ∙ z)) refl
 pub from_is : (b : List ℕ) (f : ℕ) (p : Position) (n : ℕ) → f ≡ word_at b tour_start → (f ≡ 0 → ⊥) → p ≡ position_words b corner_start → n ≡ word_at b last_start
     → touring_as (Touring.From p n) ≡ tour_in b
 unfolding tour_in
-from_is b f p n h nz hp hn = rw (ne_eqb (word_at b tour_start) 0 (λ e. nz (h ∙ e))) (λ j. some (tour_at (hp j) (hn j)))
+from_is b f p n h nz hp hn = rw (ne_eqb (word_at b tour_start) 0 (λ e. nz (h ∙ e))) (λ j. Some (tour_at (hp j) (hn j)))
 
 pub tour_put : (b b₁ b₂ b₃ : List ℕ) (f : ℕ) (p : Position) (n : ℕ) → b₁ ≡ put_word b tour_start f → b₂ ≡ put_position b₁ corner_start p → b₃ ≡ put_word b₂ last_start n
     → b₃ ≡ put_tour b f p n
@@ -71,19 +71,19 @@ module _ (b : List ℕ) (f : ℕ) (p : Position) (n : ℕ) (len : length b ≡ t
   put_last = word_put_word b₂ last_start n (omega (arith, o₁.len, o₂.len))
 
 -- THE TOUR STORED is the tour under way
-pub tour_stored : (b b' : List ℕ) (p : Position) (n : ℕ) → length b ≡ table_bytes → b' ≡ put_tour b 1 p n → TourStored (some (tour_at p n)) b b'
+pub tour_stored : (b b' : List ℕ) (p : Position) (n : ℕ) → length b ≡ table_bytes → b' ≡ put_tour b 1 p n → TourStored (Some (tour_at p n)) b b'
 unfolding tour_in
 tour_stored b b' p n len e =
     rw e
     (record {
       tour = rw (ne_eqb (word_at (put_tour b 1 p n) tour_start) 0 (λ z. omega (arith, put_flag b 1 p n len)))
-          (λ i. some (tour_at (put_corner b 1 p n len i) (put_last b 1 p n len i)));
+          (λ i. Some (tour_at (put_corner b 1 p n len i) (put_last b 1 p n len i)));
       layout = record { flag = omega (arith, put_flag b 1 p n len); unset = λ z. absurd (omega (arith, put_flag b 1 p n len)) };
       only = put_only b 1 p n len;
     })
 
 -- A TOUR ENDED leaves zeros
-pub tour_ended : (b b' : List ℕ) (p : Position) → length b ≡ table_bytes → p.east ≡ 0 → p.north ≡ 0 → b' ≡ put_tour b 0 p 0 → TourStored none b b'
+pub tour_ended : (b b' : List ℕ) (p : Position) → length b ≡ table_bytes → p.east ≡ 0 → p.north ≡ 0 → b' ≡ put_tour b 0 p 0 → TourStored None b b'
 unfolding tour_in position_words
 tour_ended b b' p len pe pn e =
     rw e

@@ -1,8 +1,7 @@
 -- What stands in the table's header, and the rules on it. Document 01: "The standing leg is that of the last accepted
 -- 53, and there is none before it." Document 02, C-13: "The tour is kept in the table between batches".
 -- Assumes nothing.
-use Rattle.std.specs.Prelude.{◌≡◌, List, cond, ℕ, ◌+◌, ◌≤◌, ◌<◌, get_or, eqb}
-use Rattle.std.proofs.Math.Option.{Option, none, some}
+use Rattle.std.specs.Prelude.{◌≡◌, List, cond, ℕ, ◌+◌, ◌≤◌, ◌<◌, get_or, eqb, Option, None, Some}
 use Rattle.words.specs.Words.{word_at, put_word, Only}
 use Rattle.grid.specs.declared.Position.{Position}
 use Rattle.grid.specs.declared.Leg.{Leg}
@@ -26,12 +25,12 @@ leg_words b = record { s = position_words b leg_start; e = position_words b (leg
 
 -- the standing leg, or none
 unfoldable pub leg_in : List ℕ → Option Leg
-leg_in b = cond (eqb (word_at b flag_start) 0) none (some (leg_words b))
+leg_in b = cond (eqb (word_at b flag_start) 0) None (Some (leg_words b))
 
 -- the code's answer, as a leg or none
 abbrev pub as_option : Standing → Option Leg
-as_option Standing.Unset = none
-as_option (Standing.Along l) = some l
+as_option Standing.Unset = None
+as_option (Standing.Along l) = Some l
 
 -- the number of entries of the standing list
 abbrev pub length_in : List ℕ → ℕ
@@ -60,13 +59,13 @@ put_position b i p = put_word (put_word b i p.east) (i + 2) p.north
 
 -- the leg is stored, and nothing else is changed
 pub record LegStored (l : Leg) (b b' : List ℕ) : Type 0 where
-  pub leg : leg_in b' ≡ some l
+  pub leg : leg_in b' ≡ Some l
   pub flag : word_at b' flag_start ≡ 1
   pub only : Only flag_start length_start b b'
 
 -- the number of a site, or none where it is 0: site numbers begin at 1
 abbrev pub site_number : ℕ → Option ℕ
-site_number n = cond (eqb n 0) none (some n)
+site_number n = cond (eqb n 0) None (Some n)
 
 -- the tour whose last corner is p and in which n is remembered
 abbrev pub tour_at : Position → ℕ → Tour
@@ -74,12 +73,12 @@ tour_at p n = record { corner = p; last = site_number n }
 
 -- the tour that is under way, or none
 unfoldable pub tour_in : List ℕ → Option Tour
-tour_in b = cond (eqb (word_at b tour_start) 0) none (some (tour_at (position_words b corner_start) (word_at b last_start)))
+tour_in b = cond (eqb (word_at b tour_start) 0) None (Some (tour_at (position_words b corner_start) (word_at b last_start)))
 
 -- the code's answer, as a tour or none
 abbrev pub touring_as : Touring → Option Tour
-touring_as Touring.Idle = none
-touring_as (Touring.From p n) = some (tour_at p n)
+touring_as Touring.Idle = None
+touring_as (Touring.From p n) = Some (tour_at p n)
 
 -- b with a tour's words stored: flag, corner, number
 unfoldable pub put_tour : List ℕ → ℕ → Position → ℕ → List ℕ

@@ -3,7 +3,7 @@
 // else, but that laying out first sets the whole table to 0.
 #![tactic(auto)]
 
-ghost use Rattle.std.specs.Prelude.{◌≡◌, ◌+◌, ◌<◌, ◌≤◌, length};
+ghost use Rattle.std.specs.Prelude.{◌≡◌, ◌+◌, ◌<◌, ◌≤◌, length, None, Some};
 ghost use Rattle.limits.specs.Limits.{table_bytes};
 ghost use Rattle.words.specs.Words.{put_word};
 ghost use Rattle.grid.specs.Says.{Says};
@@ -11,7 +11,6 @@ ghost use Rattle.table_header.specs.Layout.{count_start, length_start, layout_st
 ghost use Rattle.table_header.specs.Header.{count_in, length_in, position_words, put_position, leg_in, as_option};
 ghost use Rattle.table_header.specs.Header.{LegStored, ZeroFrom, FlagOk, HeaderOk};
 ghost use Rattle.table_header.specs.Header.{tour_at, tour_in, touring_as, put_tour, TourStored};
-ghost use Rattle.std.proofs.Math.Option.{none, some};
 
 use grid::{Leg, Position};
 
@@ -213,7 +212,7 @@ fn put_tour(t: &mut [u8], flag: u16, corner: Position, last: u16)
 // Stores the tour: its last corner, and the number that is remembered.
 pub fn store_tour(t: &mut [u8], corner: Position, last: u16)
     requires { length t.old ≡ table_bytes }
-    ensures { TourStored (some (tour_at corner last)) t.old t.new }
+    ensures { TourStored (Some (tour_at corner last)) t.old t.new }
 {
     put_tour(t, 1, corner, last);
 }
@@ -221,7 +220,7 @@ pub fn store_tour(t: &mut [u8], corner: Position, last: u16)
 // Ends the tour.
 pub fn end_tour(t: &mut [u8])
     requires { length t.old ≡ table_bytes }
-    ensures { TourStored none t.old t.new }
+    ensures { TourStored None t.old t.new }
 {
     let nowhere = Position { east: 0, north: 0 };
     put_tour(t, 0, nowhere, 0);

@@ -3,7 +3,7 @@
 use mathlib.Core.Path.{◌≡◌, refl, sym, ap, ap₂, subst, ◌∙◌}
 use mathlib.Core.Bool.{true}
 use mathlib.Core.Logic.{◌⊎◌, inl, inr}
-use mathlib.Core.Option.{Option, some}
+use Rattle.std.specs.Prelude.{Option, Some}
 use mathlib.Core.List.Memᴰ
 use mathlib.Core.List.{List, [], ◌∷◌, append-nil, Memᴰ}
 use Prim.Native.Nat.{ℕ, zero, suc, ◌+◌, ◌*◌, ◌≤◌, ◌<◌}
@@ -235,7 +235,7 @@ module _ (l : Leg) (s : List Site) (b : List ℕ) (st : Stored l s b) where
     places_list = subst (IsHull (points l s)) (sym stack_is) hull
 
 -- a sound table's list is that of its book's sites
-module _ (b : List ℕ) (l : Leg) (s : Sound b) (set : leg_in b ≡ some l) where
+module _ (b : List ℕ) (l : Leg) (s : Sound b) (set : leg_in b ≡ Some l) where
   sound_stored : Stored l (sites_of (book_of b)) b
   sound_stored =
       record {

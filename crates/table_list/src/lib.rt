@@ -2,8 +2,7 @@
 // and asked whether it keeps a site out.
 #![tactic(auto)]
 
-ghost use Rattle.std.specs.Prelude.{◌≡◌, true, ◌<◌, ◌≤◌, length};
-ghost use Rattle.std.proofs.Math.Option.{some};
+ghost use Rattle.std.specs.Prelude.{◌≡◌, true, ◌<◌, ◌≤◌, length, Some};
 ghost use mathlib.Core.List.{Memᴰ};
 ghost use Rattle.limits.specs.Limits.{table_bytes, max_sites};
 ghost use Rattle.grid.specs.Position.{LegOnGrid};
@@ -61,7 +60,7 @@ pub fn places(t: &[u8], work: &mut [u8]) -> usize
 
 // Loads the standing list into the row that begins the work buffer.
 pub fn load(t: &[u8], work: &mut [u8], leg: Leg) -> usize
-    requires { Sound t.now × (leg_in t.now ≡ some leg) × (row_bytes ≤ length work.old) }
+    requires { Sound t.now × (leg_in t.now ≡ Some leg) × (row_bytes ≤ length work.old) }
     ensures { ListsTable leg t.now work.new result }
 {
     places(t, work)

@@ -3,7 +3,7 @@
 use mathlib.Core.Path.{◌≡◌, refl, sym, ap, subst, ◌∙◌}
 use mathlib.Core.Bool.{Bool, true, false, true≢false}
 use mathlib.Core.List.{List, [], ◌∷◌, Memᴰ}
-use mathlib.Core.Option.{Option, none, some}
+use Rattle.std.specs.Prelude.{Option, None, Some}
 use Prim.Native.Nat.{ℕ, suc, ◌+◌, ◌≤◌}
 use native.Mathlib.Omega.{arith}
 use lib.ListN.{length}
@@ -99,8 +99,8 @@ module _ (l : Leg) (s : List Site) (n : ℕ) (r : Rising s) (num : Numbered s) w
 -- with a leg or without
 pub unnamed_list : (o : Option Leg) (s : List Site) (n : ℕ) → Rising s → Numbered s → ¬ Memᴰ n (numbers_of (list_of o s))
     → numbers_of (list_of o s) ≡ numbers_of (list_of o (strike_line n s))
-unnamed_list none s n r num out = refl
-unnamed_list (some l) s n r num out = ap numbers_of (unnamed_gone l s n r num out)
+unnamed_list None s n r num out = refl
+unnamed_list (Some l) s n r num out = ap numbers_of (unnamed_gone l s n r num out)
 
 -- WHEN ONE LINE HAS CHANGED in a sound table, and its list has not
 pub patchable : (b b₁ : List ℕ) (n : ℕ) → Sound b → Whole b₁ → leg_in b₁ ≡ leg_in b → (length_in b ≤ max_sites → standing_in b₁ ≡ standing_in b)
@@ -127,12 +127,12 @@ same_holds b w leg e = record { sound = record { whole = w; standing = record { 
 
 pub unset_holds : (b : List ℕ) (n : ℕ) (s : Standing) → Whole b → LegOk (leg_in b) → ListsOthers n b → as_option s ≡ leg_in b → s ≡ Standing.Unset → Holds b (book_of b)
 unset_holds b n s w leg o q u =
-    let e : leg_in b ≡ none = sym q ∙ ap as_option u in
+    let e : leg_in b ≡ None = sym q ∙ ap as_option u in
     same_holds b w leg
     (o.list ∙ ap (λ (x : Option Leg). numbers_of (list_of x (strike_line n (sites_of (book_of b))))) e
     ∙ sym (ap (λ (x : Option Leg). numbers_of (list_of x (sites_of (book_of b)))) e))
 
-pub along_is : (b : List ℕ) (s : Standing) (l : Leg) → as_option s ≡ leg_in b → s ≡ Standing.Along l → leg_in b ≡ some l
+pub along_is : (b : List ℕ) (s : Standing) (l : Leg) → as_option s ≡ leg_in b → s ≡ Standing.Along l → leg_in b ≡ Some l
 along_is b s l q u = sym q ∙ ap as_option u
 
 -- ---- what the test says
@@ -151,7 +151,7 @@ module _ (b : List ℕ) (n : ℕ) (h : Patchable n b) where
 
 -- ---- one site dealt in
 
-module _ (b : List ℕ) (n : ℕ) (l : Leg) (w : Whole b) (leg : LegOk (leg_in b)) (set : leg_in b ≡ some l) (o : ListsOthers n b) (p : ℕ) (q : PlaceOf b n p) where
+module _ (b : List ℕ) (n : ℕ) (l : Leg) (w : Whole b) (leg : LegOk (leg_in b)) (set : leg_in b ≡ Some l) (o : ListsOthers n b) (p : ℕ) (q : PlaceOf b n p) where
   held : holds n (lines_in b) ≡ true
   held = member_holds n (lines_in b) (site_at b p) q.line q.number
 

@@ -2,7 +2,7 @@
 -- Assumes nothing.
 use mathlib.Core.Path.{◌≡◌, sym, ap, subst, ◌∙◌}
 use mathlib.Core.List.{List, []}
-use mathlib.Core.Option.{Option, none, some}
+use Rattle.std.specs.Prelude.{Option, None, Some}
 use Prim.Native.Nat.{ℕ, ◌+◌}
 use native.Mathlib.Omega.{arith}
 use lib.ListN.{length}
@@ -76,7 +76,7 @@ cleared b b' len e =
 pub restood_none : (b b' : List ℕ) (s : Standing) → Whole b → LegOk (leg_in b) → as_option s ≡ leg_in b → s ≡ Standing.Unset → b' ≡ put_word b length_start 0 → Holds b' (book_of b)
 unfolding numbers_of
 restood_none b b' s w leg q u e =
-    let n : leg_in b ≡ none = sym q ∙ ap as_option u in
+    let n : leg_in b ≡ None = sym q ∙ ap as_option u in
     stored_holds b b' w [] (cleared b b' w.len e) leg
     (sym (ap (λ (o : Option Leg). numbers_of (list_of o (sites_of (book_of b)))) n))
 
@@ -87,6 +87,6 @@ along_leg b s l leg q u = subst LegOk (sym q ∙ ap as_option u) leg
 pub restood_list : (b b' : List ℕ) (s : Standing) (l : Leg) (r : List ℕ) (k : ℕ) → Whole b → LegOk (leg_in b) → as_option s ≡ leg_in b → s ≡ Standing.Along l
     → ListsTable l b r k → ListStored (entries_in l b r k) b b' → Holds b' (book_of b)
 restood_list b b' s l r k w leg q u f st =
-    let n : leg_in b ≡ some l = sym q ∙ ap as_option u in
+    let n : leg_in b ≡ Some l = sym q ∙ ap as_option u in
     stored_holds b b' w (entries_in l b r k) st leg
     (ap numbers_of f.list ∙ sym (ap (λ (o : Option Leg). numbers_of (list_of o (sites_of (book_of b)))) n))

@@ -2,8 +2,7 @@
 // search of the tree.
 #![tactic(auto)]
 
-ghost use Rattle.std.specs.Prelude.{◌≡◌, false, ◌≤◌, length};
-ghost use Rattle.std.proofs.Math.Option.{some};
+ghost use Rattle.std.specs.Prelude.{◌≡◌, false, ◌≤◌, length, Some};
 ghost use Rattle.list_row.specs.Vertices.{row_bytes};
 ghost use Rattle.book.specs.Book.{holds};
 ghost use Rattle.book.specs.Proper.{LegOk};
@@ -35,7 +34,7 @@ pub fn restand(t: &mut [u8], work: &mut [u8])
 // Deals site n, whose place is p, into the list of the leg over the other sites. Places are loaded from the changed
 // table: a record that comes moves those behind it.
 fn deal_in(t: &mut [u8], work: &mut [u8], leg: Leg, n: u16, p: usize)
-    requires whole { Whole t.old × LegOk (leg_in t.old) × (leg_in t.old ≡ some leg) × (row_bytes ≤ length work.old) }
+    requires whole { Whole t.old × LegOk (leg_in t.old) × (leg_in t.old ≡ Some leg) × (row_bytes ≤ length work.old) }
     requires lists_others { ListsOthers n t.old × PlaceOf t.old n p }
     ensures { Holds t.new (book_of t.old) }
 {
@@ -47,7 +46,7 @@ fn deal_in(t: &mut [u8], work: &mut [u8], leg: Leg, n: u16, p: usize)
 // Deals site n, of record k, into the list of the leg over the other sites. Most sites are far from the leg: an end
 // of the list keeps them out, and it stays.
 fn deal_along(t: &mut [u8], work: &mut [u8], leg: Leg, n: u16, k: usize)
-    requires whole { Whole t.old × LegOk (leg_in t.old) × (leg_in t.old ≡ some leg) × (row_bytes ≤ length work.old) }
+    requires whole { Whole t.old × LegOk (leg_in t.old) × (leg_in t.old ≡ Some leg) × (row_bytes ≤ length work.old) }
     requires lists_others { ListsOthers n t.old × StandsAt k n (lines_in t.old) }
     ensures { Holds t.new (book_of t.old) }
 {

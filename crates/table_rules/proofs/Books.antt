@@ -2,7 +2,7 @@
 -- Assumes nothing.
 use mathlib.Core.Path.{◌≡◌, ap}
 use mathlib.Core.List.{List}
-use mathlib.Core.Option.{Option, none, some}
+use Rattle.std.specs.Prelude.{Option, None, Some}
 use Prim.Native.Nat.{ℕ, ◌≤◌}
 use native.Mathlib.Omega.{arith}
 use lib.ListN.{length}
@@ -33,8 +33,8 @@ whole_numbered b w = record { small = λ p m. (w.sites.numbers p m).most; one = 
 -- no more entries than sites
 list_few : (o : Option Leg) (s : List Site) → Numbered s → length (numbers_of (list_of o s)) ≤ length s
 unfolding numbers_of
-list_few none s num = omega arith
-list_few (some l) s num = omega (arith, numbers_length (split_of l s), few l s num (split_of l s) (split_is l s num))
+list_few None s num = omega arith
+list_few (Some l) s num = omega (arith, numbers_length (split_of l s), few l s num (split_of l s) (split_is l s num))
 
 pub standing_few : (b : List ℕ) → Whole b → StandingOk b → length_in b ≤ length (lines_in b)
 standing_few b w s = omega (arith, standing_length b, ap length s.list, list_few (leg_in b) (lines_in b) (whole_numbered b w))
@@ -44,7 +44,7 @@ sound_few b s = omega (arith, standing_few b s.whole s.standing, lines_length b,
 
 -- the lines of a table as a book, with no standing leg and no tour
 abbrev pub lines_alone : List ℕ → Book
-lines_alone b = record { lines = lines_in b; leg = none; tour = none }
+lines_alone b = record { lines = lines_in b; leg = None; tour = None }
 
 -- WHERE THE FIRST HALF IS KEPT the lines are proper, whatever the standing leg is
 pub whole_proper : (b : List ℕ) → Whole b → Proper (lines_alone b)

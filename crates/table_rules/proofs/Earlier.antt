@@ -3,7 +3,7 @@
 use mathlib.Core.Path.{◌≡◌, refl, sym, subst}
 use mathlib.Core.Bool.{Bool, true, false, cond}
 use mathlib.Core.List.{List}
-use mathlib.Core.Option.{Option, none, some}
+use Rattle.std.specs.Prelude.{Option, None, Some}
 use Prim.Native.Nat.{ℕ, ◌+◌}
 use native.Mathlib.Omega.{arith}
 use lib.Dec.{eqb}
@@ -25,7 +25,7 @@ module _ (b : List ℕ) (s : SoundBefore b) where
       let k = s.header.kept in
       omega (arith, k tour_start (omega arith) (omega arith), k (tour_start + 1) (omega arith) (omega arith))
 
-  no_tour : tour_in b ≡ none
+  no_tour : tour_in b ≡ None
   unfolding tour_in
   no_tour = rw (eq-eqb (word_at b tour_start) 0 no_flag) refl
 
@@ -52,7 +52,7 @@ module _ (b : List ℕ) (s : SoundBefore b) where
   )
 
 -- A SOUND TABLE WITHOUT A TOUR was sound before
-pub idle_earlier : (b : List ℕ) → Sound b → tour_in b ≡ none → SoundBefore b
+pub idle_earlier : (b : List ℕ) → Sound b → tour_in b ≡ None → SoundBefore b
 unfolding tour_in
 idle_earlier b s e =
     record {
@@ -63,7 +63,7 @@ idle_earlier b s e =
       standing = s.standing;
     }
   where
-    zeros : (c : Bool) → eqb (word_at b tour_start) 0 ≡ c → (k : Tour) → cond c none (some k) ≡ none → ZeroFrom b tour_start kept_end
+    zeros : (c : Bool) → eqb (word_at b tour_start) 0 ≡ c → (k : Tour) → cond c None (Some k) ≡ None → ZeroFrom b tour_start kept_end
     zeros true f k g =
         let z = eqb-true (word_at b tour_start) 0 f in
         zero_both b tour_start corner_start kept_end (zero_word b tour_start z)

@@ -3,7 +3,7 @@
 use mathlib.Core.Path.{◌≡◌, refl, sym, ap, subst, ◌∙◌}
 use mathlib.Core.List.Memᴰ
 use mathlib.Core.List.{List, [], Memᴰ}
-use mathlib.Core.Option.{Option, none}
+use Rattle.std.specs.Prelude.{Option, None}
 use Prim.Native.Nat.{◌+◌}
 use native.Mathlib.Omega.{arith}
 use borrow.Author.Tests.{eq-eqb}
@@ -32,7 +32,7 @@ no_lines : lines_in empty_table ≡ []
 unfolding lines_in lines_from
 no_lines = ap (lines_from empty_table 0) no_count
 
-no_leg : leg_in empty_table ≡ none
+no_leg : leg_in empty_table ≡ None
 unfolding leg_in
 no_leg = rw (eq-eqb (word_at empty_table flag_start) 0 (empty_word flag_start (omega arith))) refl
 
@@ -41,7 +41,7 @@ no_flag : word_at empty_table tour_start ≡ 0
 unfolding word_at
 no_flag = omega (arith, empty_behind tour_start (omega arith) (omega arith), empty_behind (tour_start + 1) (omega arith) (omega arith))
 
-no_tour : tour_in empty_table ≡ none
+no_tour : tour_in empty_table ≡ None
 unfolding tour_in
 no_tour = rw (eq-eqb (word_at empty_table tour_start) 0 no_flag) refl
 

@@ -1,8 +1,7 @@
 -- Tables of the release before C-13 of document 02, 0.9.0, which knew no tours: all bytes of the header behind the
 -- layout's number were kept for later, every byte 0. The layout's number did not change with C-13.
 -- Assumes nothing.
-use Rattle.std.specs.Prelude.{◌≡◌, List, ℕ, ◌+◌, length}
-use Rattle.std.proofs.Math.Option.{none}
+use Rattle.std.specs.Prelude.{◌≡◌, List, ℕ, ◌+◌, length, None}
 use Rattle.limits.specs.Limits.{table_bytes}
 use Rattle.words.specs.Words.{word_at}
 use Rattle.book.specs.Book.{Book}
@@ -29,4 +28,4 @@ pub record SoundBefore (b : List ℕ) : Type 0 where
 
 -- the book that it held: sites and standing leg
 abbrev pub book_before : List ℕ → Book
-book_before b = record { lines = lines_in b; leg = leg_in b; tour = none }
+book_before b = record { lines = lines_in b; leg = leg_in b; tour = None }
