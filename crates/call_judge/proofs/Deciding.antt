@@ -30,7 +30,7 @@ use Rattle.book.proofs.Answers.{answer_add_zero, answer_add_not_finite, answer_a
 use Rattle.split.specs.SplitOf.{split_of}
 use Rattle.table_header.specs.declared.Standing.{Standing}
 use Rattle.table_header.specs.Header.{count_in, leg_in, as_option}
-use Rattle.table_sites.specs.declared.Found.{Found}
+use Rattle.std.specs.Prelude.{Result, Ok, Err}
 use Rattle.table_sites.specs.Lines.{lines_in, FoundAs}
 use Rattle.table_sites.proofs.Reading.{lines_length}
 use Rattle.table_sites.proofs.Finding.{found_at, found_absent, at_held, absent_held}
@@ -182,22 +182,22 @@ module _ (n : ℕ) (l : Location) (r : Tested) (h : TestedAs r n l) where
 -- ---- changes of sites
 
 -- a record that was found, or before which a number goes, is one of so many
-module _ (b : List ℕ) (n : ℕ) (f : Found) (k : ℕ) (t : Sound b) (a : FoundAs f n (lines_in b)) where
-  pub at_few : f ≡ Found.At k → k ≤ max_sites
+module _ (b : List ℕ) (n : ℕ) (f : Result ℕ ℕ) (k : ℕ) (t : Sound b) (a : FoundAs f n (lines_in b)) where
+  pub at_few : f ≡ Ok k → k ≤ max_sites
   at_few e = omega (arith, (found_at {k = k} e a).line, lines_length b, t.whole.sites.few)
 
-  pub absent_few : f ≡ Found.Absent k → k ≤ max_sites
+  pub absent_few : f ≡ Err k → k ≤ max_sites
   absent_few e = omega (arith, (found_absent {k = k} e a).within, lines_length b, t.whole.sites.few)
 
 module _ (b : List ℕ) (n : ℕ) where
   pub remove_zero : n ≡ 0 → Settled (Verdict.Refuse NumberZero) (Remove n) b
   remove_zero z = refused_so_lem b (Remove n) NumberZero (answer_remove_zero (book_of b) n z)
 
-  module _ (f : Found) (k : ℕ) (z : n ≢ 0) (a : FoundAs f n (lines_in b)) where
-    pub remove_absent : f ≡ Found.Absent k → Settled (Verdict.Refuse NotHeld) (Remove n) b
+  module _ (f : Result ℕ ℕ) (k : ℕ) (z : n ≢ 0) (a : FoundAs f n (lines_in b)) where
+    pub remove_absent : f ≡ Err k → Settled (Verdict.Refuse NotHeld) (Remove n) b
     remove_absent e = refused_so_lem b (Remove n) NotHeld (answer_remove_absent (book_of b) n z (absent_held (found_absent e a)))
 
-    pub remove_done : (r : ℕ) → f ≡ Found.At k → r ≡ k → Settled (Verdict.Delete r n) (Remove n) b
+    pub remove_done : (r : ℕ) → f ≡ Ok k → r ≡ k → Settled (Verdict.Delete r n) (Remove n) b
     remove_done r e q =
         subst⁻¹ (λ (x : ℕ). Settled (Verdict.Delete x n) (Remove n) b) q
         (record {
@@ -208,19 +208,19 @@ module _ (b : List ℕ) (n : ℕ) where
           };
         })
 
-module _ (b : List ℕ) (s : Site) (ok : NumberOk s) (on : OnGrid s.position) (f : Found) (k : ℕ) (a : FoundAs f s.number (lines_in b)) where
+module _ (b : List ℕ) (s : Site) (ok : NumberOk s) (on : OnGrid s.position) (f : Result ℕ ℕ) (k : ℕ) (a : FoundAs f s.number (lines_in b)) where
   positive : s.number ≢ 0
   positive z = omega (arith, ok.least)
 
-  pub add_held_lem : f ≡ Found.At k → Settled (Verdict.Refuse Held) (Add s.number (InSteps s.position)) b
+  pub add_held_lem : f ≡ Ok k → Settled (Verdict.Refuse Held) (Add s.number (InSteps s.position)) b
   add_held_lem e = refused_so_lem b (Add s.number (InSteps s.position)) Held (answer_add_held (book_of b) s.number (InSteps s.position) positive refl on (at_held (found_at e a)))
 
-  pub add_full : (m : ℕ) → f ≡ Found.Absent k → m ≡ count_in b → m ≡ max_sites → Settled (Verdict.Refuse Full) (Add s.number (InSteps s.position)) b
+  pub add_full : (m : ℕ) → f ≡ Err k → m ≡ count_in b → m ≡ max_sites → Settled (Verdict.Refuse Full) (Add s.number (InSteps s.position)) b
   add_full m e c x =
       refused_so_lem b (Add s.number (InSteps s.position)) Full
       (answer_add_full (book_of b) s.number (InSteps s.position) positive refl on (absent_held (found_absent e a)) (lines_length b ∙ sym c ∙ x))
 
-  pub add_done : (m r : ℕ) → Sound b → f ≡ Found.Absent k → m ≡ count_in b → m ≢ max_sites → r ≡ k → Settled (Verdict.Insert r s) (Add s.number (InSteps s.position)) b
+  pub add_done : (m r : ℕ) → Sound b → f ≡ Err k → m ≡ count_in b → m ≢ max_sites → r ≡ k → Settled (Verdict.Insert r s) (Add s.number (InSteps s.position)) b
   add_done m r t e c x q =
       subst⁻¹ (λ (y : ℕ). Settled (Verdict.Insert y s) (Add s.number (InSteps s.position)) b) q
       (record {
@@ -234,11 +234,11 @@ module _ (b : List ℕ) (s : Site) (ok : NumberOk s) (on : OnGrid s.position) (f
         };
       })
 
-  pub move_absent_lem : f ≡ Found.Absent k → Settled (Verdict.Refuse NotHeld) (Move s.number (InSteps s.position)) b
+  pub move_absent_lem : f ≡ Err k → Settled (Verdict.Refuse NotHeld) (Move s.number (InSteps s.position)) b
   move_absent_lem e =
       refused_so_lem b (Move s.number (InSteps s.position)) NotHeld (answer_move_absent (book_of b) s.number (InSteps s.position) positive refl on (absent_held (found_absent e a)))
 
-  pub move_done : (r : ℕ) → f ≡ Found.At k → r ≡ k → Settled (Verdict.Place r s) (Move s.number (InSteps s.position)) b
+  pub move_done : (r : ℕ) → f ≡ Ok k → r ≡ k → Settled (Verdict.Place r s) (Move s.number (InSteps s.position)) b
   move_done r e q =
       subst⁻¹ (λ (y : ℕ). Settled (Verdict.Place y s) (Move s.number (InSteps s.position)) b) q
       (record {

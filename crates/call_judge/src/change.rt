@@ -12,7 +12,6 @@ use crate::Verdict;
 use book::Cause;
 use grid::Site;
 use readings::{Located, Location};
-use table_sites::Found;
 
 // What the tests of a number and a position find: a cause, or the site that they make.
 #[derive(Clone, Copy)]
@@ -58,8 +57,8 @@ fn add_site(t: &[u8], site: Site) -> Verdict
     let found = table_sites::find(t, n);
     let k = table_header::count(t);
     match found {
-        Found::At(_) => Verdict::Refuse(Cause::Held),
-        Found::Absent(at) => {
+        Ok(_) => Verdict::Refuse(Cause::Held),
+        Err(at) => {
             if k == limits::MAX_SITES {
                 return Verdict::Refuse(Cause::Full);
             }
@@ -77,11 +76,11 @@ fn place_site(t: &[u8], site: Site) -> Verdict
     let n = site.number;
     let found = table_sites::find(t, n);
     match found {
-        Found::At(at) => {
+        Ok(at) => {
             let index = narrow(at);
             Verdict::Place(index, site)
         }
-        Found::Absent(_) => Verdict::Refuse(Cause::NotHeld),
+        Err(_) => Verdict::Refuse(Cause::NotHeld),
     }
 }
 
@@ -107,11 +106,11 @@ pub fn remove(t: &[u8], n: u16) -> Verdict
     }
     let found = table_sites::find(t, n);
     match found {
-        Found::At(at) => {
+        Ok(at) => {
             let index = narrow(at);
             Verdict::Delete(index, n)
         }
-        Found::Absent(_) => Verdict::Refuse(Cause::NotHeld),
+        Err(_) => Verdict::Refuse(Cause::NotHeld),
     }
 }
 

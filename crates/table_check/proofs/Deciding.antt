@@ -23,7 +23,7 @@ use Rattle.book.specs.Proper.{LegOk, LastHeld, TourOk}
 use Rattle.table_header.specs.declared.Standing.{Standing}
 use Rattle.table_header.specs.declared.Touring.{Touring}
 use Rattle.table_header.specs.Header.{leg_in, HeaderOk, as_option, length_in, site_number, tour_at, tour_in, touring_as}
-use Rattle.table_sites.specs.declared.Found.{Found}
+use Rattle.std.specs.Prelude.{Result, Ok, Err}
 use Rattle.table_sites.specs.Lines.{lines_in, Array, FoundAs}
 use Rattle.table_sites.proofs.Finding.{found_at, found_absent, at_held, absent_held}
 use Rattle.table_sites.specs.Rules.{SitesOk}
@@ -86,14 +86,14 @@ module _ (b : List ℕ) (n : ℕ) where
   pub unnamed_ok : n ≡ 0 → LastHeld (site_number n) (lines_in b)
   unnamed_ok z = rw (eq-eqb n 0 z) tt
 
-  module _ (f : Found) (k : ℕ) (nz : n ≢ 0) (a : FoundAs f n (lines_in b)) where
+  module _ (f : Result ℕ ℕ) (k : ℕ) (nz : n ≢ 0) (a : FoundAs f n (lines_in b)) where
     named : site_number n ≡ Some n
     named = rw (ne_eqb n 0 nz) refl
 
-    pub named_ok : f ≡ Found.At k → LastHeld (site_number n) (lines_in b)
+    pub named_ok : f ≡ Ok k → LastHeld (site_number n) (lines_in b)
     named_ok e = subst⁻¹ (λ (o : Option ℕ). LastHeld o (lines_in b)) named (at_held (found_at e a))
 
-    pub named_not : f ≡ Found.Absent k → ¬ LastHeld (site_number n) (lines_in b)
+    pub named_not : f ≡ Err k → ¬ LastHeld (site_number n) (lines_in b)
     named_not e h =
         true≢false (sym (subst (λ (o : Option ℕ). LastHeld o (lines_in b)) named h) ∙ absent_held (found_absent e a))
 

@@ -15,7 +15,6 @@ ghost use Rattle.table_rules.specs.Table.{Whole, StandingOk};
 
 use grid::Leg;
 use table_header::{Standing, Touring};
-use table_sites::Found;
 
 // Whether the stored standing list has the numbers of the list in the first k of the row.
 fn list_matches(t: &[u8], work: &[u8], leg: Leg, k: usize) -> bool
@@ -70,8 +69,8 @@ fn remembered_ok(t: &[u8], n: u16) -> bool
     }
     let found = table_sites::find(t, n);
     match found {
-        Found::At(_) => true,
-        Found::Absent(_) => false,
+        Ok(_) => true,
+        Err(_) => false,
     }
 }
 

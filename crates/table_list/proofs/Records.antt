@@ -14,14 +14,14 @@ use Rattle.table_header.specs.Header.{count_in}
 use Rattle.table_sites.specs.Layout.{record_start}
 use Rattle.table_sites.specs.Lines.{lines_in, no_site, StandsAt, StandsNowhere}
 use Rattle.table_sites.specs.Rules.{SitesOk}
-use Rattle.table_sites.specs.declared.Found.{Found}
+use Rattle.std.specs.Prelude.{Result, Ok, Err}
 use Rattle.table_sites.specs.Lines.{FoundAs}
 use Rattle.table_sites.proofs.Reading.{lines_length, line_at_lem}
 use Rattle.table_sites.proofs.Finding.{found_at, at_member, absent_held}
 use Rattle.table_list.specs.Loading.{PlaceOf}
 
 module _ (b : List ℕ) (n : ℕ) (len : length b ≡ table_bytes) (s : SitesOk b) where
-  pub at_found : (r : Found) (k : ℕ) → r ≡ Found.At k → FoundAs r n (lines_in b) → StandsAt k n (lines_in b)
+  pub at_found : (r : Result ℕ ℕ) (k : ℕ) → r ≡ Ok k → FoundAs r n (lines_in b) → StandsAt k n (lines_in b)
   at_found r k e f = found_at e f
 
   pub start_few : (k : ℕ) → StandsAt k n (lines_in b) → k ≤ max_sites
@@ -38,7 +38,7 @@ module _ (b : List ℕ) (n : ℕ) (len : length b ≡ table_bytes) (s : SitesOk 
         site = record { small = omega (arith, s.few); inside = omega (arith, s.few); on_grid = s.on_grid (site_at b p) m };
       }
 
-  pub never_absent : (r : Found) (k : ℕ) → r ≡ Found.Absent k → FoundAs r n (lines_in b) → holds n (lines_in b) ≡ true → PlaceOf b n 0
+  pub never_absent : (r : Result ℕ ℕ) (k : ℕ) → r ≡ Err k → FoundAs r n (lines_in b) → holds n (lines_in b) ≡ true → PlaceOf b n 0
   never_absent r k e f h =
-      let g : StandsNowhere k n (lines_in b) = subst (λ (x : Found). FoundAs x n (lines_in b)) e f in
+      let g : StandsNowhere k n (lines_in b) = subst (λ (x : Result ℕ ℕ). FoundAs x n (lines_in b)) e f in
       absurd (true≢false (sym h ∙ absent_held g))

@@ -19,7 +19,6 @@ ghost use Rattle.table_list.specs.Loading.{PlaceOf, NumbersHeld, PlacesOf, Entry
 
 use grid::{Corner, Leg};
 use list_row::Vertex;
-use table_sites::Found;
 
 // The place of record k, which has the number n.
 pub fn place_at(t: &[u8], n: u16, k: usize) -> usize
@@ -36,8 +35,8 @@ pub fn place_of(t: &[u8], n: u16) -> usize
 {
     let found = table_sites::find(t, n);
     match found {
-        Found::At(k) => place_at(t, n, k),
-        Found::Absent(_) => 0,
+        Ok(k) => place_at(t, n, k),
+        Err(_) => 0,
     }
 }
 

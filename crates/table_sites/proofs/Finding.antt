@@ -17,7 +17,7 @@ use Rattle.book.specs.Proper.{Rising}
 use Rattle.table_header.specs.Header.{count_in}
 use Rattle.table_sites.specs.Layout.{record_start}
 use Rattle.table_sites.specs.Lines.{lines_in, no_site, number_of, Array, StandsAt, StandsNowhere, FoundAs, Narrowed}
-use Rattle.table_sites.specs.declared.Found.{Found}
+use Rattle.std.specs.Prelude.{Result, Ok, Err}
 use Rattle.table_sites.proofs.Reading.{lines_length, number_at_lem}
 use Rattle.table_sites.proofs.Order.{rising_at, rising_gap}
 
@@ -54,11 +54,11 @@ member (q ∷ s) (suc k) h = Memᴰ.tail (member s k (omega arith))
 
 -- What `find` says, in the arm of a match on its answer, and of the book.
 module _ {k n : ℕ} {s : List Site} where
-  pub found_at : {r : Found} → r ≡ Found.At k → FoundAs r n s → StandsAt k n s
-  found_at e h = subst (λ (r : Found). FoundAs r n s) e h
+  pub found_at : {r : Result ℕ ℕ} → r ≡ Ok k → FoundAs r n s → StandsAt k n s
+  found_at e h = subst (λ (r : Result ℕ ℕ). FoundAs r n s) e h
 
-  pub found_absent : {r : Found} → r ≡ Found.Absent k → FoundAs r n s → StandsNowhere k n s
-  found_absent e h = subst (λ (r : Found). FoundAs r n s) e h
+  pub found_absent : {r : Result ℕ ℕ} → r ≡ Err k → FoundAs r n s → StandsNowhere k n s
+  found_absent e h = subst (λ (r : Result ℕ ℕ). FoundAs r n s) e h
 
   pub at_held : StandsAt k n s → holds n s ≡ true
   at_held h = held n s k h.line h.number

@@ -1,6 +1,6 @@
 -- The site array as the book's lines: "each a site number and a position", in rising order of number.
 -- Assumes nothing.
-use Rattle.std.specs.Prelude.{◌≡◌, List, [], ◌∷◌, ℕ, zero, suc, ◌+◌, ◌≤◌, ◌<◌, length, get_or}
+use Rattle.std.specs.Prelude.{◌≡◌, List, [], ◌∷◌, ℕ, zero, suc, ◌+◌, ◌≤◌, ◌<◌, length, get_or, Result, Ok, Err}
 use Rattle.limits.specs.Limits.{max_sites, table_bytes}
 use Rattle.words.specs.Words.{word_at}
 use Rattle.grid.specs.declared.Site.{Site}
@@ -8,7 +8,6 @@ use Rattle.list_row.specs.Places.{site_at_byte}
 use Rattle.book.specs.Proper.{Rising}
 use Rattle.table_header.specs.Header.{count_in}
 use Rattle.table_sites.specs.Layout.{spare_offset, record_start}
-use Rattle.table_sites.specs.declared.Found.{Found}
 
 -- the site of record k
 abbrev pub line_at : List ℕ → ℕ → Site
@@ -54,9 +53,9 @@ pub record StandsNowhere (k n : ℕ) (s : List Site) : Type 0 where
   pub higher : (i : ℕ) → k ≤ i → i < length s → n < number_of s i
 
 -- where a number stands
-abbrev pub FoundAs : Found → ℕ → List Site → Type 0
-FoundAs (Found.At k) n s = StandsAt k n s
-FoundAs (Found.Absent k) n s = StandsNowhere k n s
+abbrev pub FoundAs : Result ℕ ℕ → ℕ → List Site → Type 0
+FoundAs (Ok k) n s = StandsAt k n s
+FoundAs (Err k) n s = StandsNowhere k n s
 
 -- the number is not below lo, nor from hi on
 pub record Narrowed (b : List ℕ) (n lo hi : ℕ) : Type 0 where

@@ -25,13 +25,6 @@ const NORTH_OFFSET: usize = 4;
 
 const SPARE_OFFSET: usize = 6;
 
-// Where a number stands: at a record, or in none, and then where it would go.
-#[derive(Clone, Copy)]
-pub enum Found {
-    At(usize),
-    Absent(usize),
-}
-
 // The number in record k.
 pub fn number(t: &[u8], k: usize) -> u16
     requires { (length t.now ≡ table_bytes) × (k < max_sites) }
@@ -95,7 +88,7 @@ fn lowest(k: usize, gap: usize) -> usize
 }
 
 // Where number n stands, by bisection of the records from `from` up to `to`.
-fn bisect(t: &[u8], n: u16, from: usize, to: usize) -> Found
+fn bisect(t: &[u8], n: u16, from: usize, to: usize) -> Result<usize, usize>
     requires { Array t.now × Narrowed t.now n from to }
     ensures { FoundAs result n (lines_in t.now) }
 {
@@ -105,7 +98,7 @@ fn bisect(t: &[u8], n: u16, from: usize, to: usize) -> Found
         let mid = lo + (hi - lo) / 2;
         let m = number(t, mid);
         if m == n {
-            return Found::At(mid);
+            return Ok(mid);
         }
         if m < n {
             lo = mid + 1;
@@ -113,7 +106,7 @@ fn bisect(t: &[u8], n: u16, from: usize, to: usize) -> Found
         }
         hi = mid;
     }
-    Found::Absent(lo)
+    Err(lo)
 }
 
 // The record, of those from lo up to hi, at which number n stands if the numbers rise evenly to m, that of record hi.
@@ -135,7 +128,7 @@ fn share(n: u16, m: u16, lo: usize, hi: usize) -> usize
 }
 
 // Where number n stands, of the records from `from` up to `to`: a look at the first, and on in steps that double.
-fn climb(t: &[u8], n: u16, from: usize, to: usize) -> Found
+fn climb(t: &[u8], n: u16, from: usize, to: usize) -> Result<usize, usize>
     requires { Array t.now × Narrowed t.now n from to }
     ensures { FoundAs result n (lines_in t.now) }
 {
@@ -145,7 +138,7 @@ fn climb(t: &[u8], n: u16, from: usize, to: usize) -> Found
         let mid = lo + step;
         let m = number(t, mid);
         if m == n {
-            return Found::At(mid);
+            return Ok(mid);
         }
         if n < m {
             return bisect(t, n, lo, mid);
@@ -157,7 +150,7 @@ fn climb(t: &[u8], n: u16, from: usize, to: usize) -> Found
 }
 
 // The same from the last one down.
-fn fall(t: &[u8], n: u16, from: usize, to: usize) -> Found
+fn fall(t: &[u8], n: u16, from: usize, to: usize) -> Result<usize, usize>
     requires { Array t.now × Narrowed t.now n from to }
     ensures { FoundAs result n (lines_in t.now) }
 {
@@ -167,7 +160,7 @@ fn fall(t: &[u8], n: u16, from: usize, to: usize) -> Found
         let mid = hi - step;
         let x = number(t, mid);
         if x == n {
-            return Found::At(mid);
+            return Ok(mid);
         }
         if x < n {
             return bisect(t, n, mid + 1, hi);
@@ -180,17 +173,17 @@ fn fall(t: &[u8], n: u16, from: usize, to: usize) -> Found
 
 // Where number n stands, of the records from lo up to hi, whose number is m. Where numbers are spread evenly the
 // first look finds it, or is a few records off.
-fn find_spread(t: &[u8], n: u16, lo: usize, hi: usize, m: u16) -> Found
+fn find_spread(t: &[u8], n: u16, lo: usize, hi: usize, m: u16) -> Result<usize, usize>
     requires { Array t.now × Narrowed t.now n lo hi × (n < m) }
     ensures { FoundAs result n (lines_in t.now) }
 {
     if lo == hi {
-        return Found::Absent(lo);
+        return Err(lo);
     }
     let mid = share(n, m, lo, hi);
     let x = number(t, mid);
     if x == n {
-        return Found::At(mid);
+        return Ok(mid);
     }
     if x < n {
         return climb(t, n, mid + 1, hi);
@@ -200,18 +193,18 @@ fn find_spread(t: &[u8], n: u16, lo: usize, hi: usize, m: u16) -> Found
 
 // Where number n stands. Numbers are often given one after the other: then the first look finds it, or leaves a few
 // records. Else they are taken for evenly spread. A bisection of all records takes steps that cannot be foreseen.
-pub fn find(t: &[u8], n: u16) -> Found
+pub fn find(t: &[u8], n: u16) -> Result<usize, usize>
     requires { Array t.now }
     ensures { FoundAs result n (lines_in t.now) }
 {
     let k = table_header::count(t);
     if k == 0 {
-        return Found::Absent(0);
+        return Err(0);
     }
     let at = guess(k, n);
     let first = number(t, at);
     if first == n {
-        return Found::At(at);
+        return Ok(at);
     }
     if first < n {
         return bisect(t, n, at + 1, k);
@@ -240,7 +233,7 @@ fn either(there: bool, j: usize, k: usize) -> usize
 }
 
 // Where number n stands, looked for at record k and at the one behind it first. Any k would do.
-pub fn find_near(t: &[u8], n: u16, k: usize) -> Found
+pub fn find_near(t: &[u8], n: u16, k: usize) -> Result<usize, usize>
     requires { Array t.now }
     ensures { FoundAs result n (lines_in t.now) }
 {
@@ -250,7 +243,7 @@ pub fn find_near(t: &[u8], n: u16, k: usize) -> Found
         let at = either(number(t, j) == n, j, k);
         let m = number(t, at);
         if m == n {
-            return Found::At(at);
+            return Ok(at);
         }
     }
     bisect(t, n, 0, c)

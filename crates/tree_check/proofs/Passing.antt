@@ -12,7 +12,7 @@ use Rattle.limits.specs.Limits.{min_entries, max_nodes, max_sites}
 use Rattle.grid.specs.declared.Site.{Site}
 use Rattle.grid.specs.Says.{Says}
 use Rattle.grid.proofs.Says.{says_yes, says_no}
-use Rattle.table_sites.specs.declared.Found.{Found}
+use Rattle.std.specs.Prelude.{Result, Ok, Err}
 use Rattle.table_sites.specs.Lines.{lines_in, line_at, no_site, Array, StandsAt, FoundAs}
 use Rattle.table_sites.proofs.Reading.{line_at_lem}
 use Rattle.table_sites.proofs.Finding.{found_at, found_absent, absent_missing, at_counted}
@@ -147,7 +147,7 @@ module _ (b : List ℕ) (h c k j : ℕ) (o : List ℕ) (count : j ≡ length (en
         u)
 
 -- a record that was found is one of the array's
-pub leaf_in : (b : List ℕ) (x : Found) (k n : ℕ) → FoundAs x n (lines_in b) → x ≡ Found.At k → Array b → k < max_sites
+pub leaf_in : (b : List ℕ) (x : Result ℕ ℕ) (k n : ℕ) → FoundAs x n (lines_in b) → x ≡ Ok k → Array b → k < max_sites
 leaf_in b x k n f q a = omega (arith, at_counted b (found_at q f), a.few)
 
 -- a leaf entry
@@ -156,15 +156,15 @@ module _ (b o : List ℕ) (e : NodeEntry) where
   unfolding joined leaves Each
   leaf_known p = p.known.0
 
-  module _ (x : Found) (k : ℕ) (f : FoundAs x e.reference (lines_in b)) where
-    pub leaf_absent : {B : Type 0} → x ≡ Found.Absent k → Told false (Pass b 0 (e ∷ []) o) B
+  module _ (x : Result ℕ ℕ) (k : ℕ) (f : FoundAs x e.reference (lines_in b)) where
+    pub leaf_absent : {B : Type 0} → x ≡ Err k → Told false (Pass b 0 (e ∷ []) o) B
     leaf_absent q =
         told_no
         (λ p.
         let y = leaf_known p in
         absent_missing (found_absent q f) (index_of (lines_in b) e.reference) y.held (known_number (lines_in b) e y))
 
-    module _ (q : x ≡ Found.At k) (s : Prepared b o) where
+    module _ (q : x ≡ Ok k) (s : Prepared b o) where
       stands : StandsAt k e.reference (lines_in b)
       stands = found_at q f
 

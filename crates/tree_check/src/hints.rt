@@ -6,7 +6,6 @@ ghost use Rattle.table_sites.specs.Lines.{lines_in, Array, FoundAs};
 ghost use Rattle.tree_check.specs.Marks.{mark_bytes, seen_bytes};
 
 use crate::marks;
-use table_sites::Found;
 
 pub const HINT_BYTES: usize = 1024;
 
@@ -37,7 +36,7 @@ pub fn note(t: &[u8], n: usize, seen: &mut [u8])
 }
 
 // Where the number x stands in the site array.
-pub fn find(t: &[u8], x: u16, seen: &[u8]) -> Found
+pub fn find(t: &[u8], x: u16, seen: &[u8]) -> Result<usize, usize>
     requires { Array t.now × (length seen.now ≡ seen_bytes) }
     ensures { FoundAs result x (lines_in t.now) }
 {

@@ -12,7 +12,6 @@ ghost use Rattle.tree_check.specs.Walk.{met, Pass, Fits, Enough, root_met, RootP
 
 use crate::{hints, leaf_entry, marks};
 use limits::{MAX_LEVELS, MAX_NODES, MIN_ENTRIES};
-use table_sites::Found;
 use tree_node::{NodeEntry, Root, boxes, header, pool};
 
 // Whether the leaf entry e is that of a record that has no mark yet. Marks the record.
@@ -23,8 +22,8 @@ fn check_leaf(t: &[u8], e: NodeEntry, seen: &mut [u8]) -> bool
 {
     let f = hints::find(t, e.reference, seen);
     match f {
-        Found::Absent(_) => false,
-        Found::At(k) => {
+        Err(_) => false,
+        Ok(k) => {
             let p = leaf_entry(table_sites::line(t, k));
             if boxes::same(e, p) {
                 return marks::mark(seen, MAX_NODES + k);

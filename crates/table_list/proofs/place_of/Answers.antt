@@ -5,5 +5,5 @@ use Rattle.table_list.proofs.place_of.Goals as goal
 pub place_at-requires : goal.place_at-requires
 place_at-requires c = (search rules, search rules, search (rules, at_found))
 
-pub returns-in-Absent : goal.returns-in-Absent
-returns-in-Absent c = search (rules, never_absent)
+pub returns-in-Err : goal.returns-in-Err
+returns-in-Err c = search (rules, never_absent)

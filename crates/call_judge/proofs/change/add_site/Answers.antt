@@ -8,8 +8,8 @@ returns-then-k-eq-MAX_SITES c = search (rules, add_full)
 pub narrow-index-requires : goal.narrow-index-requires
 narrow-index-requires c = search (rules, absent_few)
 
-pub returns-in-At : goal.returns-in-At
-returns-in-At c = search (rules, add_held_lem)
+pub returns-in-Ok : goal.returns-in-Ok
+returns-in-Ok c = search (rules, add_held_lem)
 
 pub returns-else-k-eq-MAX_SITES : goal.returns-else-k-eq-MAX_SITES
 returns-else-k-eq-MAX_SITES c = search (rules, add_done)

@@ -5,8 +5,8 @@ use Rattle.call_judge.proofs.change.place_site.Goals as goal
 pub narrow-index-requires : goal.narrow-index-requires
 narrow-index-requires c = search (rules, at_few)
 
-pub returns-in-At : goal.returns-in-At
-returns-in-At c = search (rules, move_done)
+pub returns-in-Ok : goal.returns-in-Ok
+returns-in-Ok c = search (rules, move_done)
 
-pub returns-in-Absent : goal.returns-in-Absent
-returns-in-Absent c = search (rules, move_absent_lem)
+pub returns-in-Err : goal.returns-in-Err
+returns-in-Err c = search (rules, move_absent_lem)

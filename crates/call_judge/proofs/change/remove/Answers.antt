@@ -8,8 +8,8 @@ returns-then-n-eq0 c = search (rules, remove_zero)
 pub narrow-index-requires : goal.narrow-index-requires
 narrow-index-requires c = search (rules, at_few)
 
-pub returns-in-At : goal.returns-in-At
-returns-in-At c = search (rules, remove_done)
+pub returns-in-Ok : goal.returns-in-Ok
+returns-in-Ok c = search (rules, remove_done)
 
-pub returns-in-Absent : goal.returns-in-Absent
-returns-in-Absent c = search (rules, remove_absent)
+pub returns-in-Err : goal.returns-in-Err
+returns-in-Err c = search (rules, remove_absent)
