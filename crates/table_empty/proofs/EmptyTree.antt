@@ -13,7 +13,8 @@ use Rattle.limits.specs.Limits.{max_nodes, table_bytes}
 use Rattle.words.specs.Words.{word_at, put_word, Only}
 use Rattle.words.proofs.Frame.{only_put_word, word_put_word, word_low, word_high}
 use Rattle.table_header.specs.Layout.{layout_start, layout_number}
-use Rattle.tree_node.specs.declared.Root.{Root}
+use Rattle.std.specs.Prelude.{None}
+use Rattle.tree_node.specs.declared.Top.{Top}
 use Rattle.tree_node.specs.Layout.{tree_start, free_start, stack_start, up_to}
 use Rattle.tree_node.specs.Free.{numbers, free}
 use Rattle.tree_node.specs.Header.{root_of, root_in}
@@ -69,7 +70,7 @@ empty_layout =
     omega (arith, s, below_stack layout_start (omega arith), below_stack (layout_start + 1) (omega arith))
 
 -- THE TREE IS EMPTY
-pub empty_root : root_in empty_table ≡ Root.Empty
+pub empty_root : root_in empty_table ≡ None
 unfolding root_in root_of word_at
 empty_root =
     let w : word_at empty_table tree_start ≡ 0 = omega (arith, empty_behind tree_start (omega arith) (omega arith), empty_behind (tree_start + 1) (omega arith) (omega arith)) in

@@ -1,5 +1,6 @@
 -- A node and the entry that it hands back, taken apart: its two halves are sound, and have what lay under it.
 -- Assumes nothing.
+use Rattle.std.specs.Prelude.{Option, None}
 use mathlib.Core.Path.{◌≡◌, refl, sym, ap, subst, ◌∙◌}
 use mathlib.Core.List.{List, [], ◌∷◌, ◌++◌, append-nil}
 use Prim.Native.Nat.{ℕ, suc, ◌+◌, ◌≤◌, ◌<◌}
@@ -27,7 +28,6 @@ use Rattle.tree_rules.proofs.Kept.{Agree, kept_leaves, kept_nodes, kept_sound, s
 use Rattle.permutation.proofs.Perms.{perm_sym, perm_snoc}
 use Rattle.tree_rules.proofs.Perms.{perm_each, perm_total}
 use Rattle.tree_split.specs.Parted.{Parted}
-use Rattle.tree_add.specs.declared.Room.{Room}
 use Rattle.tree_add.specs.Steps.{spill, PutBehind, Divisible, Renewed}
 
 -- node c is not free
@@ -134,7 +134,7 @@ module _ (h n c s : ℕ) (x : NodeEntry) (b b₁ : List ℕ) (hn : hit n c + tal
   half_in k lt = rw half_n lt
 
   -- n's entry for c is set anew, and one for s is added or handed back
-  pub renewed_split : (r : Room) (k : ℕ) (g : NodeEntry) (b₂ b₃ : List ℕ) → Divisible h c (x ∷ []) b → n < max_nodes → Wrote n (set (entries b₁ n) k (hull c (entries b₁ c))) b₁ b₂
+  pub renewed_split : (r : Option NodeEntry) (k : ℕ) (g : NodeEntry) (b₂ b₃ : List ℕ) → Divisible h c (x ∷ []) b → n < max_nodes → Wrote n (set (entries b₁ n) k (hull c (entries b₁ c))) b₁ b₂
       → g ≡ hull s (entries b₂ s) → PutBehind r n g b₂ b₃ → Renewed r h n k c (x ∷ []) b b₃
   unfolding Each
   renewed_split r k g b₂ b₃ op lt w qg pl =
@@ -168,7 +168,7 @@ module _ (h n c s : ℕ) (x : NodeEntry) (b b₁ : List ℕ) (hn : hit n c + tal
 
 -- c has room: its entry in n is set anew
 pub renewed_same : (h n k c : ℕ) (b b' : List ℕ) → Divisible h c [] b → hit n c + tally n (joined (nodes (entries b) h) (entries b c ++ [])) ≡ 0 → n < max_nodes → min_entries ≤ length (entries b c)
-    → Wrote n (set (entries b n) k (hull c (entries b c))) b b' → Renewed Room.Kept h n k c [] b b'
+    → Wrote n (set (entries b n) k (hull c (entries b c))) b b' → Renewed None h n k c [] b b'
 unfolding spill joined total Each
 renewed_same h n k c b b' op hn lt lo w =
     let E : Store = entries b in

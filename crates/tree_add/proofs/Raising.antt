@@ -10,11 +10,12 @@ use Rattle.limits.specs.Limits.{max_entries, max_levels, max_nodes, max_sites, t
 use Rattle.words.specs.Words.{Only}
 use Rattle.words.proofs.Frame.{only_trans, only_wider}
 use Rattle.tree_node.specs.declared.NodeEntry.{NodeEntry}
-use Rattle.tree_node.specs.declared.Root.{Root}
+use Rattle.std.specs.Prelude.{Option, None, Some}
+use Rattle.tree_node.specs.declared.Top.{Top}
 use Rattle.tree_node.specs.Layout.{pool_start}
 use Rattle.tree_node.specs.Node.{entries, Wrote}
 use Rattle.tree_node.specs.Free.{free, Taken}
-use Rattle.tree_node.specs.Header.{root_in, SmallRoot, Headed}
+use Rattle.tree_node.specs.Header.{top, root_in, SmallRoot, Headed}
 use Rattle.tree_node.specs.Boxes.{hull}
 use Rattle.tree_node.specs.Tally.{total, hit, tally, Within}
 use Rattle.tree_node.proofs.Counting.{total_one, taken_total, taken_not, hit_same}
@@ -28,7 +29,6 @@ use Rattle.tree_rules.proofs.Kept.{Agree}
 use Rattle.tree_rules.proofs.Roots.{root_node, root_ready, root_levels, root_free, rooted_small, rooted_by}
 use Rattle.tree_rules.proofs.Outside.{rooted_headed, leaves_headed}
 use Rattle.tree_split.specs.Parted.{Parted}
-use Rattle.tree_add.specs.declared.Room.{Room}
 use Rattle.tree_add.specs.Steps.{spill, Divisible, InsertedUnder, Raised, Planted}
 use Rattle.tree_add.specs.Added.{Added}
 use Rattle.tree_add.proofs.Halves.{half_taken, half_not_c, half_not_s, half_rest, half_old, half_new, half_leaves, half_nodes}
@@ -64,7 +64,7 @@ module _ (g n s : ℕ) (x : NodeEntry) (b b₁ : List ℕ) (op : Divisible g n (
   pub rise_some : 2 ≤ length (free b) → 0 < length (free b₁)
   rise_some le = omega (arith, ap length sp.taken)
 
-  raised : (m : ℕ) (b₂ : List ℕ) → Taken m (hull n (entries b₁ n) ∷ hull s (entries b₁ s) ∷ []) b₁ b₂ → Raised (Root.Top (suc g) m) g n (x ∷ []) b b₂
+  raised : (m : ℕ) (b₂ : List ℕ) → Taken m (hull n (entries b₁ n) ∷ hull s (entries b₁ s) ∷ []) b₁ b₂ → Raised (top (suc g) m) g n (x ∷ []) b b₂
   unfolding tree_leaves tree_nodes RootSound Each
   raised m b₂ tk =
       let E : Store = entries b in
@@ -98,32 +98,32 @@ module _ (g n s : ℕ) (x : NodeEntry) (b b₁ : List ℕ) (op : Divisible g n (
         only = only_trans sp.only tk.only;
       }
 
-  pub rise_done : (m : ℕ) (b₂ : List ℕ) → Taken m (hull n (entries b₁ n) ∷ hull s (entries b₁ s) ∷ []) b₁ b₂ → Raised (Root.Top (g + 1) m) g n (x ∷ []) b b₂
-  rise_done m b₂ tk = subst (λ (z : ℕ). Raised (Root.Top z m) g n (x ∷ []) b b₂) (sym (add-one g)) (raised m b₂ tk)
+  pub rise_done : (m : ℕ) (b₂ : List ℕ) → Taken m (hull n (entries b₁ n) ∷ hull s (entries b₁ s) ∷ []) b₁ b₂ → Raised (top (g + 1) m) g n (x ∷ []) b b₂
+  rise_done m b₂ tk = subst (λ (z : ℕ). Raised (top z m) g n (x ∷ []) b b₂) (sym (add-one g)) (raised m b₂ tk)
 
 -- an addition under the root n
-module _ (g n : ℕ) (b : List ℕ) (rt : Rooted (Root.Top g n) b) where
+module _ (g n : ℕ) (b : List ℕ) (rt : Rooted (top g n) b) where
   pub root_some : 0 < length (entries b n)
   root_some = (root_node g n b rt).one
 
-  pub root_enough : length (tree_leaves (entries b) (Root.Top g n)) < max_sites → g ≤ length (free b)
+  pub root_enough : length (tree_leaves (entries b) (top g n)) < max_sites → g ≤ length (free b)
   root_enough le = omega (arith, root_free g n b rt le)
 
   module _ (e : NodeEntry) (b₁ : List ℕ) where
-    pub plant_kept : (o : Room) → o ≡ Room.Kept → InsertedUnder o g n e b b₁ → Planted (Root.Top g n) e (Root.Top g n) b b₁
+    pub plant_kept : (o : Option NodeEntry) → o ≡ None → InsertedUnder o g n e b b₁ → Planted (top g n) e (top g n) b b₁
     unfolding spill RootSound tree_leaves tree_nodes
     plant_kept o q a =
-        let ad : InsertedUnder Room.Kept g n e b b₁ = rw q at a in
+        let ad : InsertedUnder None g n e b b₁ = rw q at a in
         let E₁ : Store = entries b₁ in
         let nil : E₁ n ++ [] ≡ E₁ n = append-nil (E₁ n) in
-        let top = root_node g n b rt in
+        let was = root_node g n b rt in
         record {
           rooted =
-              rooted_by (Root.Top g n) (Root.Top g n) b b₁ rt ad.only.len
+              rooted_by (top g n) (top g n) b b₁ rt ad.only.len
               record {
-                id = top.id;
-                two = λ z. omega (arith, top.two z, ad.least);
-                one = omega (arith, top.one, ad.least);
+                id = was.id;
+                two = λ z. omega (arith, was.two z, ad.least);
+                one = omega (arith, was.one, ad.least);
                 most = eight b₁ n;
                 below = subst (λ (l : List NodeEntry). Each (SoundUnder E₁ g) l) nil ad.sound;
               }
@@ -132,34 +132,34 @@ module _ (g n : ℕ) (b : List ℕ) (rt : Rooted (Root.Top g n) b) where
           only = ad.only;
         }
 
-    module _ (o : Room) (x : NodeEntry) (q : o ≡ Room.Over x) (a : InsertedUnder o g n e b b₁) where
-      spilt : InsertedUnder (Room.Over x) g n e b b₁
+    module _ (o : Option NodeEntry) (x : NodeEntry) (q : o ≡ Some x) (a : InsertedUnder o g n e b b₁) where
+      spilt : InsertedUnder (Some x) g n e b b₁
       spilt = rw q at a
 
       pub plant_open : Divisible g n (x ∷ []) b₁
       unfolding spill
-      plant_open = after_open (Room.Over x) g n e b b₁ (root_ready g n b rt) spilt
+      plant_open = after_open (Some x) g n e b b₁ (root_ready g n b rt) spilt
 
       pub plant_full : length (entries b₁ n) ≡ max_entries
       plant_full = after_full x g n e b b₁ spilt
 
-      pub plant_free : length (tree_leaves (entries b) (Root.Top g n)) < max_sites → 2 ≤ length (free b₁)
+      pub plant_free : length (tree_leaves (entries b) (top g n)) < max_sites → 2 ≤ length (free b₁)
       plant_free le = omega (arith, spilt.used, root_free g n b rt le)
 
-      pub plant_low : length (tree_leaves (entries b) (Root.Top g n)) < max_sites → g < max_levels
+      pub plant_low : length (tree_leaves (entries b) (top g n)) < max_sites → g < max_levels
       plant_low le = omega (arith, root_levels g n b rt (omega arith))
 
-      pub plant_rise : (r : Root) (b₂ : List ℕ) → Raised r g n (x ∷ []) b₁ b₂ → Planted (Root.Top g n) e r b b₂
+      pub plant_rise : (r : Option Top) (b₂ : List ℕ) → Raised r g n (x ∷ []) b₁ b₂ → Planted (top g n) e r b b₂
       unfolding spill tree_leaves tree_nodes
       plant_rise r b₂ ra =
           record {
-            rooted = rooted_by (Root.Top g n) r b b₂ rt (ra.only.len ∙ spilt.only.len) ra.top (λ w. ra.ids w ∙ spilt.ids w);
+            rooted = rooted_by (top g n) r b b₂ rt (ra.only.len ∙ spilt.only.len) ra.top (λ w. ra.ids w ∙ spilt.ids w);
             leaf = λ w. ra.leaf w ∙ spilt.leaf w;
             only = only_trans spilt.only ra.only;
           }
 
 -- the first leaf entry
-module _ (b : List ℕ) (rt : Rooted Root.Empty b) where
+module _ (b : List ℕ) (rt : Rooted None b) where
   pub first_some : 0 < length (free b)
   unfolding tree_nodes
   first_some = omega (arith, rt.all)
@@ -168,7 +168,7 @@ module _ (b : List ℕ) (rt : Rooted Root.Empty b) where
   unfolding Within
   first_within m z = rt.within m (omega arith)
 
-  pub first_done : (n : ℕ) (e : NodeEntry) (b₁ b₂ : List ℕ) → Taken n [] b b₁ → Wrote n (entries b₁ n ++ (e ∷ [])) b₁ b₂ → Planted Root.Empty e (Root.Top 0 n) b b₂
+  pub first_done : (n : ℕ) (e : NodeEntry) (b₁ b₂ : List ℕ) → Taken n [] b b₁ → Wrote n (entries b₁ n ++ (e ∷ [])) b₁ b₂ → Planted None e (top 0 n) b b₂
   unfolding RootSound tree_leaves tree_nodes joined total Each SoundUnder leaves nodes
   first_done n e b₁ b₂ tk w =
       let here : entries b₂ n ≡ e ∷ [] = w.here ∙ rw tk.here in
@@ -177,7 +177,7 @@ module _ (b : List ℕ) (rt : Rooted Root.Empty b) where
       taken_total (free b) (free b₁) n tk.taken v ∙ ap (λ (l : List ℕ). v n + total v l) (sym (free_kept o)) in
       record {
         rooted =
-            rooted_by Root.Empty (Root.Top 0 n) b b₂ rt (o.len ∙ tk.only.len)
+            rooted_by None (top 0 n) b b₂ rt (o.len ∙ tk.only.len)
             record {
               id = tk.id;
               two = λ z. absurd (z refl);
@@ -191,7 +191,7 @@ module _ (b : List ℕ) (rt : Rooted Root.Empty b) where
       }
 
 -- the tree that the header tells
-module _ (r : Root) (b : List ℕ) (q : r ≡ root_in b) where
+module _ (r : Option Top) (b : List ℕ) (q : r ≡ root_in b) where
   pub told_rooted : Rooted (root_in b) b → Rooted r b
   told_rooted rt = rw q rt
 
@@ -199,7 +199,7 @@ module _ (r : Root) (b : List ℕ) (q : r ≡ root_in b) where
   unfolding leaves_in
   told_few le = rw q le
 
-  module _ (e : NodeEntry) (r' : Root) (b₁ : List ℕ) (pl : Planted r e r' b b₁) where
+  module _ (e : NodeEntry) (r' : Option Top) (b₁ : List ℕ) (pl : Planted r e r' b b₁) where
     pub told_small : length (leaves_in b) < max_sites → SmallRoot r'
     told_small le =
         rooted_small r' b₁ pl.rooted
@@ -210,6 +210,6 @@ module _ (r : Root) (b : List ℕ) (q : r ≡ root_in b) where
     add_done b₂ hd =
         record {
           rooted = rooted_headed r' b₁ b₂ hd pl.rooted;
-          leaf = λ w. ap (total w) (leaves_headed r' b₁ b₂ hd) ∙ pl.leaf w ∙ ap (λ (z : Root). w e + total w (tree_leaves (entries b) z)) q;
+          leaf = λ w. ap (total w) (leaves_headed r' b₁ b₂ hd) ∙ pl.leaf w ∙ ap (λ (z : Option Top). w e + total w (tree_leaves (entries b) z)) q;
           only = only_trans (only_wider (omega arith) (omega arith) pl.only) (only_wider (omega arith) (omega arith) hd.only);
         }

@@ -1,5 +1,6 @@
 -- On the way up: an addition under a child, and what it makes of the parent.
 -- Assumes nothing.
+use Rattle.std.specs.Prelude.{Option, None, Some}
 use mathlib.Core.Path.{◌≡◌, refl, sym, ap, subst, ◌∙◌}
 use mathlib.Core.List.{List, [], ◌∷◌, ◌++◌, append-nil}
 use Prim.Native.Nat.{ℕ, suc, ◌+◌, ◌-◌, ◌≤◌, ◌<◌}
@@ -25,14 +26,13 @@ use Rattle.tree_rules.proofs.Every.{each_append, each_left, each_right, each_sno
 use Rattle.tree_rules.proofs.Totals.{total_both, total_cons, total_joined, total_snoc, leaves_at_lem, nodes_at_lem, leaves_under}
 use Rattle.tree_rules.proofs.Kept.{Agree, kept_leaves, kept_nodes, kept_sound}
 use Rattle.tree_rules.proofs.Descent.{child_parted, child, child_total, child_ready}
-use Rattle.tree_add.specs.declared.Room.{Room}
 use Rattle.tree_add.specs.Steps.{spill, PutBehind, Divisible, Renewed, InsertedUnder}
 use Rattle.tree_add.proofs.Rooms.{renewed}
 use Rattle.tree_add.proofs.Halves.{renewed_same}
 use Rattle.tree_add.proofs.Grown.{hull_grown}
 
 -- a leaf takes the entry, or hands it back
-inserted_at : (r : Room) (n : ℕ) (e : NodeEntry) (b b' : List ℕ) → Ready 0 n b → PutBehind r n e b b' → InsertedUnder r 0 n e b b'
+inserted_at : (r : Option NodeEntry) (n : ℕ) (e : NodeEntry) (b b' : List ℕ) → Ready 0 n b → PutBehind r n e b b' → InsertedUnder r 0 n e b b'
 unfolding SoundUnder leaves nodes total
 inserted_at r n e b b' rd pl =
     let E : Store = entries b in
@@ -65,13 +65,13 @@ inserted_at r n e b b' rd pl =
       only = in_tree o;
     }
 
-pub inserted_leaf : (r : Room) (h n : ℕ) (e : NodeEntry) (b b' : List ℕ) → h ≡ 0 → Ready h n b → PutBehind r n e b b' → InsertedUnder r h n e b b'
+pub inserted_leaf : (r : Option NodeEntry) (h n : ℕ) (e : NodeEntry) (b b' : List ℕ) → h ≡ 0 → Ready h n b → PutBehind r n e b b' → InsertedUnder r h n e b b'
 inserted_leaf r h n e b b' z rd pl =
     let rd₀ : Ready 0 n b = rw z at rd in
     rw z (inserted_at r n e b b' rd₀ pl)
 
 -- after an addition under node n, it and what it hands back may be taken apart
-pub after_open : (r : Room) (h n : ℕ) (e : NodeEntry) (b b₁ : List ℕ) → Ready h n b → InsertedUnder r h n e b b₁ → Divisible h n (spill r) b₁
+pub after_open : (r : Option NodeEntry) (h n : ℕ) (e : NodeEntry) (b b₁ : List ℕ) → Ready h n b → InsertedUnder r h n e b b₁ → Divisible h n (spill r) b₁
 unfolding Within
 after_open r h n e b b₁ rd ad =
     record {
@@ -83,7 +83,7 @@ after_open r h n e b b₁ rd ad =
     }
 
 -- a node that hands an entry back has eight
-pub after_full : (x : NodeEntry) (h n : ℕ) (e : NodeEntry) (b b₁ : List ℕ) → InsertedUnder (Room.Over x) h n e b b₁ → length (entries b₁ n) ≡ max_entries
+pub after_full : (x : NodeEntry) (h n : ℕ) (e : NodeEntry) (b b₁ : List ℕ) → InsertedUnder (Some x) h n e b b₁ → length (entries b₁ n) ≡ max_entries
 unfolding spill
 after_full x h n e b b₁ ad = omega (arith, ad.full, eight b₁ n)
 
@@ -94,7 +94,7 @@ module _ (g n k : ℕ) (b : List ℕ) (f : NodeEntry) (rd : Ready (suc g) n b) (
   at_n = child_total g n k b f rd lt qf
 
   -- an addition under it
-  module _ (q : Room) (e : NodeEntry) (b₁ : List ℕ) (ad : InsertedUnder q g f.reference e b b₁) where
+  module _ (q : Option NodeEntry) (e : NodeEntry) (b₁ : List ℕ) (ad : InsertedUnder q g f.reference e b b₁) where
     n_out : tally n (nodes_at (entries b) g f.reference) + tally n (free b) ≡ 0
     n_out = omega (arith, at_n (hit n), rd.apart n, hit_same n n refl)
 
@@ -108,7 +108,7 @@ module _ (g n k : ℕ) (b : List ℕ) (f : NodeEntry) (rd : Ready (suc g) n b) (
     above_not_free = omega (arith, ad.ids (hit n), n_out)
 
     -- then the entry is set anew
-    module _ (r : Room) (b₂ : List ℕ) (md : Renewed r g n k f.reference (spill q) b₁ b₂) where
+    module _ (r : Option NodeEntry) (b₂ : List ℕ) (md : Renewed r g n k f.reference (spill q) b₁ b₂) where
       c_in : (m : ℕ) → tally m (nodes_at (entries b) g f.reference) ≡ 0 → m ≡ f.reference → ⊥
       c_in m z y =
           omega (arith, nodes_at_lem (entries b) g f.reference (entries b f.reference) refl (hit m), hit_same m f.reference y)
@@ -222,7 +222,7 @@ module _ (h n k : ℕ) (f : NodeEntry) (b : List ℕ) (rd : Ready h n b) (nz : h
   pub down_some : (h - 1 ≡ 0 → ⊥) → 0 < length (entries b f.reference)
   down_some z = omega (arith, down_three)
 
-  module _ (q : Room) (e : NodeEntry) (b₁ : List ℕ) (ad : InsertedUnder q (h - 1) f.reference e b b₁) where
+  module _ (q : Option NodeEntry) (e : NodeEntry) (b₁ : List ℕ) (ad : InsertedUnder q (h - 1) f.reference e b b₁) where
     kept : entries b₁ n ≡ entries b n
     kept = above_kept (h - 1) n k b f above lt qf q e b₁ ad
 
@@ -239,7 +239,7 @@ module _ (h n k : ℕ) (f : NodeEntry) (b : List ℕ) (rd : Ready h n b) (nz : h
     up_not_free = above_not_free (h - 1) n k b f above lt qf q e b₁ ad
 
     -- the child's smallest box is the one that it had, grown by e
-    grown_is : (d : NodeEntry) → InsertedUnder Room.Kept (h - 1) f.reference e b b₁ → d ≡ grow e f → d ≡ hull f.reference (entries b₁ f.reference)
+    grown_is : (d : NodeEntry) → InsertedUnder None (h - 1) f.reference e b b₁ → d ≡ grow e f → d ≡ hull f.reference (entries b₁ f.reference)
     unfolding spill leaves_at
     grown_is d a qd =
         let c : ℕ = f.reference in
@@ -251,35 +251,35 @@ module _ (h n k : ℕ) (f : NodeEntry) (b : List ℕ) (rd : Ready h n b) (nz : h
         ∙ hull_grown (entries b) (entries b₁) (h - 1) c e (entries b c) (entries b₁ c) down_ready.sound sd
         (λ w. ap (λ (l : List NodeEntry). total w (joined (leaves (entries b₁) (h - 1)) l)) (sym nil) ∙ a.leaf w)
 
-    pub up_kept : (d : NodeEntry) (b₂ : List ℕ) → q ≡ Room.Kept → d ≡ grow e f → Wrote n (set (entries b₁ n) k d) b₁ b₂ → InsertedUnder Room.Kept h n e b b₂
+    pub up_kept : (d : NodeEntry) (b₂ : List ℕ) → q ≡ None → d ≡ grow e f → Wrote n (set (entries b₁ n) k d) b₁ b₂ → InsertedUnder None h n e b b₂
     unfolding spill
     up_kept d b₂ eq qd v =
         let g : ℕ = h - 1 in
-        let a : InsertedUnder Room.Kept g f.reference e b b₁ = rw eq at ad in
+        let a : InsertedUnder None g f.reference e b b₁ = rw eq at ad in
         let w : Wrote n (set (entries b₁ n) k (hull f.reference (entries b₁ f.reference))) b₁ b₂ =
         renewed n k f.reference d b₁ b₂ (grown_is d a qd) v in
-        let op : Divisible g f.reference [] b₁ = after_open Room.Kept g f.reference e b b₁ down_ready a in
-        let out = above_out g n k b f above lt qf Room.Kept e b₁ a in
+        let op : Divisible g f.reference [] b₁ = after_open None g f.reference e b b₁ down_ready a in
+        let out = above_out g n k b f above lt qf None e b₁ a in
         let three : min_entries ≤ length (entries b₁ f.reference) = omega (arith, a.least, down_three) in
-        let md : Renewed Room.Kept g n k f.reference [] b₁ b₂ = renewed_same g n k f.reference b₁ b₂ op out rd.id three w in
-        subst (λ (x : ℕ). InsertedUnder Room.Kept x n e b b₂) up (inserted_inner g n k b f above lt qf Room.Kept e b₁ a Room.Kept b₂ md)
+        let md : Renewed None g n k f.reference [] b₁ b₂ = renewed_same g n k f.reference b₁ b₂ op out rd.id three w in
+        subst (λ (x : ℕ). InsertedUnder None x n e b b₂) up (inserted_inner g n k b f above lt qf None e b₁ a None b₂ md)
 
-    module _ (x : NodeEntry) (eq : q ≡ Room.Over x) where
-      spilt : InsertedUnder (Room.Over x) (h - 1) f.reference e b b₁
+    module _ (x : NodeEntry) (eq : q ≡ Some x) where
+      spilt : InsertedUnder (Some x) (h - 1) f.reference e b b₁
       spilt = rw eq at ad
 
       pub up_open : Divisible (h - 1) f.reference (x ∷ []) b₁
       unfolding spill
-      up_open = after_open (Room.Over x) (h - 1) f.reference e b b₁ down_ready spilt
+      up_open = after_open (Some x) (h - 1) f.reference e b b₁ down_ready spilt
 
       pub up_full : length (entries b₁ f.reference) ≡ max_entries
       up_full = after_full x (h - 1) f.reference e b b₁ spilt
 
       pub up_out : hit n f.reference + tally n (joined (nodes (entries b₁) (h - 1)) (entries b₁ f.reference ++ (x ∷ []))) ≡ 0
       unfolding spill
-      up_out = above_out (h - 1) n k b f above lt qf (Room.Over x) e b₁ spilt
+      up_out = above_out (h - 1) n k b f above lt qf (Some x) e b₁ spilt
 
-      pub up_over : (r : Room) (b₂ : List ℕ) → Renewed r (h - 1) n k f.reference (x ∷ []) b₁ b₂ → InsertedUnder r h n e b b₂
+      pub up_over : (r : Option NodeEntry) (b₂ : List ℕ) → Renewed r (h - 1) n k f.reference (x ∷ []) b₁ b₂ → InsertedUnder r h n e b b₂
       unfolding spill
       up_over r b₂ md =
-          subst (λ (z : ℕ). InsertedUnder r z n e b b₂) up (inserted_inner (h - 1) n k b f above lt qf (Room.Over x) e b₁ spilt r b₂ md)
+          subst (λ (z : ℕ). InsertedUnder r z n e b b₂) up (inserted_inner (h - 1) n k b f above lt qf (Some x) e b₁ spilt r b₂ md)

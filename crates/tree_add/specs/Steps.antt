@@ -1,10 +1,10 @@
 -- What the steps of an addition say. A ninth entry is never stored: it is handed back.
 -- Assumes nothing.
-use Rattle.std.specs.Prelude.{◌≡◌, List, [], ◌∷◌, ◌++◌, ℕ, suc, ◌+◌, ◌*◌, ◌≤◌, ◌<◌, length, set}
+use Rattle.std.specs.Prelude.{◌≡◌, List, [], ◌∷◌, ◌++◌, ℕ, suc, ◌+◌, ◌*◌, ◌≤◌, ◌<◌, length, set, Option, None, Some}
 use Rattle.limits.specs.Limits.{max_entries, max_nodes, table_bytes}
 use Rattle.words.specs.Words.{Only}
 use Rattle.tree_node.specs.declared.NodeEntry.{NodeEntry}
-use Rattle.tree_node.specs.declared.Root.{Root}
+use Rattle.tree_node.specs.declared.Top.{Top}
 use Rattle.tree_node.specs.Layout.{free_start, node_bytes, base}
 use Rattle.tree_node.specs.Node.{entries}
 use Rattle.tree_node.specs.Free.{free}
@@ -12,15 +12,14 @@ use Rattle.tree_node.specs.Boxes.{hull}
 use Rattle.tree_node.specs.Tally.{total, hit, tally, Within}
 use Rattle.tree_rules.specs.Tree.{joined, leaves, nodes, leaves_at, nodes_at, Each, SoundUnder}
 use Rattle.tree_rules.specs.Rooted.{tree_leaves, tree_nodes, RootSound, Rooted}
-use Rattle.tree_add.specs.declared.Room.{Room}
 
 -- the entry handed back, if there is one
-unfoldable pub spill : Room → List NodeEntry
-spill Room.Kept = []
-spill (Room.Over x) = x ∷ []
+unfoldable pub spill : Option NodeEntry → List NodeEntry
+spill None = []
+spill (Some x) = x ∷ []
 
 -- e is put after the entries of node n, or handed back where n has eight
-pub record PutBehind (r : Room) (n : ℕ) (e : NodeEntry) (b b' : List ℕ) : Type 0 where
+pub record PutBehind (r : Option NodeEntry) (n : ℕ) (e : NodeEntry) (b b' : List ℕ) : Type 0 where
   pub here : entries b' n ++ spill r ≡ entries b n ++ (e ∷ [])
   pub full : max_entries * length (spill r) ≤ length (entries b' n)
   pub only : Only (base n) (base n + node_bytes) b b'
@@ -35,7 +34,7 @@ pub record Divisible (h c : ℕ) (xs : List NodeEntry) (b : List ℕ) : Type 0 w
 
 -- entry k of node n is anew the smallest box of node c, and a new node shares c's entries and xs where there are
 -- nine; what then has no room in n is handed back
-pub record Renewed (r : Room) (h n k c : ℕ) (xs : List NodeEntry) (b b' : List ℕ) : Type 0 where
+pub record Renewed (r : Option NodeEntry) (h n k c : ℕ) (xs : List NodeEntry) (b b' : List ℕ) : Type 0 where
   -- the new node's entry, if there is one
   pub extra : List NodeEntry
   pub few : length extra ≤ 1
@@ -52,7 +51,7 @@ pub record Renewed (r : Room) (h n k c : ℕ) (xs : List NodeEntry) (b b' : List
   pub only : Only free_start table_bytes b b'
 
 -- the leaf entry e stands under node n, whose entries stand at height h, or under what n hands back
-pub record InsertedUnder (r : Room) (h n : ℕ) (e : NodeEntry) (b b' : List ℕ) : Type 0 where
+pub record InsertedUnder (r : Option NodeEntry) (h n : ℕ) (e : NodeEntry) (b b' : List ℕ) : Type 0 where
   pub sound : Each (SoundUnder (entries b') h) (entries b' n ++ spill r)
   pub least : length (entries b n) ≤ length (entries b' n)
   pub full : max_entries * length (spill r) ≤ length (entries b' n)
@@ -67,7 +66,7 @@ pub record InsertedUnder (r : Room) (h n : ℕ) (e : NodeEntry) (b b' : List ℕ
   pub only : Only free_start table_bytes b b'
 
 -- the tree r has the leaf entries that stood under node n, whose entries stand at height g, and under xs
-pub record Raised (r : Root) (g n : ℕ) (xs : List NodeEntry) (b b' : List ℕ) : Type 0 where
+pub record Raised (r : Option Top) (g n : ℕ) (xs : List NodeEntry) (b b' : List ℕ) : Type 0 where
   pub top : RootSound (entries b') r
   pub leaf : (w : NodeEntry → ℕ) → total w (tree_leaves (entries b') r)
       ≡ total w (joined (leaves (entries b) g) (entries b n ++ xs))
@@ -76,7 +75,7 @@ pub record Raised (r : Root) (g n : ℕ) (xs : List NodeEntry) (b b' : List ℕ)
   pub only : Only free_start table_bytes b b'
 
 -- the leaf entry e is added to the tree r, which is r' then
-pub record Planted (r : Root) (e : NodeEntry) (r' : Root) (b b' : List ℕ) : Type 0 where
+pub record Planted (r : Option Top) (e : NodeEntry) (r' : Option Top) (b b' : List ℕ) : Type 0 where
   pub rooted : Rooted r' b'
   pub leaf : (w : NodeEntry → ℕ) → total w (tree_leaves (entries b') r') ≡ w e + total w (tree_leaves (entries b) r)
   pub only : Only free_start table_bytes b b'

@@ -10,20 +10,20 @@ ghost use Rattle.tree_rules.specs.Tree.{joined, nodes};
 ghost use Rattle.tree_rules.specs.Change.{Ready};
 ghost use Rattle.tree_add.specs.Steps.{PutBehind, Divisible, Renewed, InsertedUnder};
 
-use crate::{Room, choose};
+use crate::choose;
 use limits::MAX_ENTRIES;
 use tree_node::{NodeEntry, boxes, pool};
 
 // Adds e to node n, or hands it back where n has eight entries.
-pub fn put_in(table: &mut [u8], n: usize, e: NodeEntry) -> Room
+pub fn put_in(table: &mut [u8], n: usize, e: NodeEntry) -> Option<NodeEntry>
     requires { (length table.old ≡ table_bytes) × (n < max_nodes) }
     ensures { PutBehind result n e table.old table.new }
 {
     if pool::count(table, n) < MAX_ENTRIES {
         pool::push(table, n, e);
-        return Room::Kept;
+        return None;
     }
-    Room::Over(e)
+    Some(e)
 }
 
 // Sets entry k of node n anew for its child c.
@@ -38,7 +38,7 @@ fn renew(table: &mut [u8], n: usize, k: usize, c: usize)
 }
 
 // Splits the child c of node n, its entry k, which has eight entries and hands x back.
-fn halve(table: &mut [u8], h: usize, n: usize, k: usize, c: usize, x: NodeEntry) -> Room
+fn halve(table: &mut [u8], h: usize, n: usize, k: usize, c: usize, x: NodeEntry) -> Option<NodeEntry>
     requires { Divisible h c (x ∷ []) table.old × (n < max_nodes) × (k < length (entries table.old n))
         × (length (entries table.old c) ≡ max_entries) × (0 < length (free table.old))
         × (hit n c + tally n (joined (nodes (entries table.old) h) (entries table.old c ++ (x ∷ []))) ≡ 0)
@@ -54,26 +54,25 @@ fn halve(table: &mut [u8], h: usize, n: usize, k: usize, c: usize, x: NodeEntry)
 // Adds the leaf entry e under f, which is entry k of node n and stands at height h, above the leaves; or hands back the
 // ninth entry of n. A child that is not split has its old box, grown by e's: its entries need not be read again.
 #[cycle(insert_insert_under)]
-fn insert_under(table: &mut [u8], h: usize, n: usize, k: usize, f: NodeEntry, e: NodeEntry) -> Room
+fn insert_under(table: &mut [u8], h: usize, n: usize, k: usize, f: NodeEntry, e: NodeEntry) -> Option<NodeEntry>
     requires ready { Ready h n table.old × (h ≡ 0 → ⊥) × (h ≤ length (free table.old)) }
     requires k_in_bounds { (k < length (entries table.old n)) × (f ≡ get_or (entries table.old n) k no_entry) }
     ensures { InsertedUnder result h n e table.old table.new }
 {
     let c = f.reference as usize;
-    let r = insert(table, h - 1, c, e);
-    match r {
-        Room::Kept => {
+    match insert(table, h - 1, c, e) {
+        None => {
             let g = boxes::grown(e, f);
             pool::put(table, n, k, g);
-            Room::Kept
+            None
         }
-        Room::Over(x) => halve(table, h - 1, n, k, c, x),
+        Some(x) => halve(table, h - 1, n, k, c, x),
     }
 }
 
 // Adds the leaf entry e under node n, whose entries stand at height h, or hands back the ninth entry of n.
 #[cycle(insert_insert_under)]
-pub fn insert(table: &mut [u8], h: usize, n: usize, e: NodeEntry) -> Room
+pub fn insert(table: &mut [u8], h: usize, n: usize, e: NodeEntry) -> Option<NodeEntry>
     requires { Ready h n table.old × (h ≤ length (free table.old))
         × ((h ≡ 0 → ⊥) → 0 < length (entries table.old n)) }
     ensures { InsertedUnder result h n e table.old table.new }

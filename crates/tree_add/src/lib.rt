@@ -16,13 +16,6 @@ pub mod choose;
 pub mod insert;
 pub mod root;
 
-// Whether a node took an entry, or hands one back: its ninth.
-#[derive(Clone, Copy)]
-pub enum Room {
-    Kept,
-    Over(NodeEntry),
-}
-
 // Adds the leaf entry e to the tree that the table's header tells.
 pub fn add(table: &mut [u8], e: NodeEntry)
     requires { Rooted (root_in table.old) table.old × (length (leaves_in table.old) < max_sites) }
@@ -30,5 +23,5 @@ pub fn add(table: &mut [u8], e: NodeEntry)
 {
     let r = header::read_root(table);
     let q = root::plant(table, r, e);
-    header::store_root(table, q);
+    header::store_root(table, Some(q));
 }

@@ -6,7 +6,8 @@ use Prim.Native.Nat.{ℕ, zero, suc, ◌≤◌, ◌<◌}
 use native.Mathlib.Omega.{arith}
 use Rattle.limits.specs.Limits.{max_nodes}
 use Rattle.tree_node.specs.declared.NodeEntry.{NodeEntry}
-use Rattle.tree_node.specs.declared.Root.{Root}
+use Rattle.std.specs.Prelude.{Option, None, Some}
+use Rattle.tree_node.specs.declared.Top.{Top}
 use Rattle.tree_node.specs.Tally.{total, hit, tally}
 use Rattle.tree_node.proofs.Counting.{hit_eq, le_or_lt}
 use Rattle.tree_rules.specs.Tree.{Store, joined, nodes, nodes_at, Each, SoundUnder}
@@ -36,7 +37,7 @@ sound_pool E zero m e s z = absurd (omega arith)
 sound_pool E (suc h) m e s z =
     node_pool E h m e.reference s.id (each_pool E h m (sound_pool E h m) (E e.reference) s.below) z
 
-pub root_pool : (E : Store) (r : Root) (m : ℕ) → RootSound E r → 0 < tally m (tree_nodes E r) → m < max_nodes
+pub root_pool : (E : Store) (r : Option Top) (m : ℕ) → RootSound E r → 0 < tally m (tree_nodes E r) → m < max_nodes
 unfolding RootSound tree_nodes total
-root_pool E Root.Empty m s z = absurd (omega arith)
-root_pool E (Root.Top g c) m s z = node_pool E g m c s.id (each_pool E g m (sound_pool E g m) (E c) s.below) z
+root_pool E None m s z = absurd (omega arith)
+root_pool E (Some x) m s z = node_pool E x.height m x.node s.id (each_pool E x.height m (sound_pool E x.height m) (E x.node) s.below) z

@@ -9,8 +9,9 @@ use lib.ListN.{length, get_or, set}
 use Rattle.limits.specs.Limits.{max_nodes, max_levels}
 use Rattle.grid.specs.Says.{Says}
 use Rattle.grid.proofs.Says.{says_yes, says_no}
-use Rattle.tree_node.specs.declared.Root.{Root}
-use Rattle.tree_node.specs.Header.{root_in}
+use Rattle.std.specs.Prelude.{Option, None}
+use Rattle.tree_node.specs.declared.Top.{Top}
+use Rattle.tree_node.specs.Header.{top, root_in}
 use Rattle.tree_node.specs.Node.{entries}
 use Rattle.tree_node.specs.Tally.{total, hit}
 use Rattle.tree_node.specs.Told.{Told}
@@ -24,16 +25,16 @@ use Rattle.tree_check.specs.Walk.{asked_for, met, Pass, Enough, Low, root_met, R
 use Rattle.tree_check.proofs.Marking.{marked_both, fresh_then, fresh_both, marked_set, fresh_at, fresh_none, marked_none}
 
 -- no tree, and a tree
-pub root_none : (b : List ℕ) (o : List ℕ) (r : Root) → Prepared b o → r ≡ Root.Empty → r ≡ root_in b → Told true (RootPass b (root_in b) o) (Marked (root_met b (root_in b)) o o)
+pub root_none : (b : List ℕ) (o : List ℕ) (r : Option Top) → Prepared b o → r ≡ None → r ≡ root_in b → Told true (RootPass b (root_in b) o) (Marked (root_met b (root_in b)) o o)
 unfolding RootSound tree_leaves tree_nodes root_met asked_for total Low Each
 root_none b o r s q z =
     rw (← z, q)
     (told_yes
-    (record { top = tt; low = tt; known = tt; fresh = fresh_none o (root_met b Root.Empty) (λ m. refl) s.bits })
-    (marked_none o (root_met b Root.Empty) (λ m. refl)))
+    (record { top = tt; low = tt; known = tt; fresh = fresh_none o (root_met b None) (λ m. refl) s.bits })
+    (marked_none o (root_met b None) (λ m. refl)))
 
-pub root_top : (b : List ℕ) (g c : ℕ) (o o₁ : List ℕ) (r : Root) (u : Bool) → r ≡ Root.Top g c → r ≡ root_in b
-    → Told u (RootPass b (Root.Top g c) o) (Marked (root_met b (Root.Top g c)) o o₁) → Told u (RootPass b (root_in b) o) (Marked (root_met b (root_in b)) o o₁)
+pub root_top : (b : List ℕ) (g c : ℕ) (o o₁ : List ℕ) (r : Option Top) (u : Bool) → r ≡ top g c → r ≡ root_in b
+    → Told u (RootPass b (top g c) o) (Marked (root_met b (top g c)) o o₁) → Told u (RootPass b (root_in b) o) (Marked (root_met b (root_in b)) o o₁)
 root_top b g c o o₁ r u q z t = rw (← z, q) t
 
 -- as many entries as a root has to have
@@ -52,31 +53,31 @@ module _ (b : List ℕ) (g c k : ℕ) (q : k ≡ length (entries b c)) where
 
 -- the root c, as the code reads it
 module _ (b : List ℕ) (g c : ℕ) (o : List ℕ) where
-  top_node : RootPass b (Root.Top g c) o → RootNode (entries b) g c
+  top_node : RootPass b (top g c) o → RootNode (entries b) g c
   unfolding RootSound
   top_node p = p.top
 
-  met_top : (m : ℕ) → root_met b (Root.Top g c) m ≡ hit m c + met b g (entries b c) m
+  met_top : (m : ℕ) → root_met b (top g c) m ≡ hit m c + met b g (entries b c) m
   unfolding root_met met asked_for tree_nodes tree_leaves nodes_at leaves_at total
   met_top m = omega arith
 
-  pub top_high : {B : Type 0} → max_levels ≤ g → Told false (RootPass b (Root.Top g c) o) B
+  pub top_high : {B : Type 0} → max_levels ≤ g → Told false (RootPass b (top g c) o) B
   unfolding Low
   top_high le = told_no (λ p. let l : g + 1 ≤ max_levels = p.low in omega arith)
 
-  pub top_far : {B : Type 0} → max_nodes ≤ c → Told false (RootPass b (Root.Top g c) o) B
+  pub top_far : {B : Type 0} → max_nodes ≤ c → Told false (RootPass b (top g c) o) B
   top_far le = told_no (λ p. omega (arith, (top_node p).id))
 
-  pub top_few : {C : Type 0} (r : Bool) → Says r (Enough b g c) → r ≡ false → Told false (RootPass b (Root.Top g c) o) C
+  pub top_few : {C : Type 0} (r : Bool) → Says r (Enough b g c) → r ≡ false → Told false (RootPass b (top g c) o) C
   top_few r t z = told_no (λ p. says_no r t z (record { two = (top_node p).two; one = (top_node p).one }))
 
-  pub top_met : {B C : Type 0} (r : Bool) → c < max_nodes → Told r (get_or o c 0 ≡ 0) B → r ≡ false → Told false (RootPass b (Root.Top g c) o) C
+  pub top_met : {B C : Type 0} (r : Bool) → c < max_nodes → Told r (get_or o c 0 ≡ 0) B → r ≡ false → Told false (RootPass b (top g c) o) C
   top_met r lt t z =
       told_no
       (λ p.
       t.no z
       (fresh_at
-      (root_met b (Root.Top g c))
+      (root_met b (top g c))
       o
       c
       (omega arith)
@@ -86,7 +87,7 @@ module _ (b : List ℕ) (g c : ℕ) (o : List ℕ) where
   pub top_told : (r v u : Bool) (o₁ o₂ : List ℕ) → Prepared b o → g < max_levels → c < max_nodes → Says r (Enough b g c) → r ≡ true
       → Told v (get_or o c 0 ≡ 0) (o₁ ≡ set o c 1) → v ≡ true
       → Told u (Pass b g (entries b c) o₁) (Marked (met b g (entries b c)) o₁ o₂)
-      → Told u (RootPass b (Root.Top g c) o) (Marked (root_met b (Root.Top g c)) o o₂)
+      → Told u (RootPass b (top g c) o) (Marked (root_met b (top g c)) o o₂)
   unfolding RootSound tree_leaves leaves_at Low
   top_told r v u o₁ o₂ s low lt a y t w p =
       let z = t.yes w in
@@ -98,18 +99,18 @@ module _ (b : List ℕ) (g c : ℕ) (o : List ℕ) where
         top = record { id = lt; two = k.two; one = k.one; most = eight b c; below = x.sound };
         low = omega arith;
         known = x.known;
-        fresh = fresh_both (λ m. hit m c) (met b g (entries b c)) (root_met b (Root.Top g c)) o o₁ met_top one x.fresh;
+        fresh = fresh_both (λ m. hit m c) (met b g (entries b c)) (root_met b (top g c)) o o₁ met_top one x.fresh;
       })
-      (λ (x : RootPass b (Root.Top g c) o).
+      (λ (x : RootPass b (top g c) o).
       record {
         sound = (top_node x).below;
         known = x.known;
-        fresh = fresh_then (λ m. hit m c) (met b g (entries b c)) (root_met b (Root.Top g c)) o o₁ met_top one x.fresh;
+        fresh = fresh_then (λ m. hit m c) (met b g (entries b c)) (root_met b (top g c)) o o₁ met_top one x.fresh;
       })
-      (marked_both (λ m. hit m c) (met b g (entries b c)) (root_met b (Root.Top g c)) o o₁ o₂ met_top one)
+      (marked_both (λ m. hit m c) (met b g (entries b c)) (root_met b (top g c)) o o₁ o₂ met_top one)
       p
 
 -- the marks after the tree
-pub bits_next : (b : List ℕ) (o o₁ : List ℕ) (s : Root) (r : Bool) → Told r (RootPass b s o) (Marked (root_met b s) o o₁) → r ≡ true → Bits o₁
+pub bits_next : (b : List ℕ) (o o₁ : List ℕ) (s : Option Top) (r : Bool) → Told r (RootPass b s o) (Marked (root_met b s) o o₁) → r ≡ true → Bits o₁
 unfolding Bits Fresh Marked
 bits_next b o o₁ s r t y m lt = let z = t.yes y in omega (arith, z.0.fresh m lt, z.1 m lt)

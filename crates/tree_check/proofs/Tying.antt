@@ -17,7 +17,8 @@ use Rattle.table_header.specs.Header.{count_in}
 use Rattle.table_sites.specs.Lines.{lines_in, no_site, number_of, Array}
 use Rattle.table_sites.proofs.Reading.{lines_length}
 use Rattle.tree_node.specs.declared.NodeEntry.{NodeEntry}
-use Rattle.tree_node.specs.declared.Root.{Root}
+use Rattle.std.specs.Prelude.{Option, None, Some}
+use Rattle.tree_node.specs.declared.Top.{Top}
 use Rattle.tree_node.specs.Header.{root_in}
 use Rattle.tree_node.specs.Node.{entries}
 use Rattle.tree_node.specs.Free.{free}
@@ -170,10 +171,10 @@ module _ (b : List ℕ) (a : Array b) (t : Tied b) where
       (λ (lt : m < max_nodes). omega (arith, node_met m lt, node_each m lt))
       (le_or_lt max_nodes m)
 
-  tied_low : (s : Root) → Rooted s b → length (tree_leaves (entries b) s) ≤ max_sites → Low s
+  tied_low : (s : Option Top) → Rooted s b → length (tree_leaves (entries b) s) ≤ max_sites → Low s
   unfolding Low
-  tied_low Root.Empty rt le = tt
-  tied_low (Root.Top g c) rt le = root_levels g c b rt le
+  tied_low None rt le = tt
+  tied_low (Some x) rt le = root_levels x.height x.node b rt le
 
   -- "There are at most six levels"
   tied_levels : Low (root_in b)

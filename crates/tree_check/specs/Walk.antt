@@ -1,11 +1,11 @@
 -- What a walk over the tree tests.
 -- Assumes nothing.
-use Rattle.std.specs.Prelude.{List, ◌≡◌, ℕ, ◌+◌, ◌≤◌, length}
+use Rattle.std.specs.Prelude.{List, ◌≡◌, ℕ, ◌+◌, ◌≤◌, length, Option, None, Some}
 use Rattle.limits.specs.Limits.{min_entries, max_levels}
 use Rattle.grid.specs.declared.Site.{Site}
 use Rattle.table_sites.specs.Lines.{lines_in}
 use Rattle.tree_node.specs.declared.NodeEntry.{NodeEntry}
-use Rattle.tree_node.specs.declared.Root.{Root}
+use Rattle.tree_node.specs.declared.Top.{Top}
 use Rattle.tree_node.specs.Boxes.{hull}
 use Rattle.tree_node.specs.Node.{entries}
 use Rattle.tree_node.specs.Tally.{total, hit, tally}
@@ -44,16 +44,16 @@ pub record Enough (b : List ℕ) (g c : ℕ) : Type 0 where
   pub one : 1 ≤ length (entries b c)
 
 -- "There are at most six levels"
-unfoldable pub Low : Root → Type 0
-Low Root.Empty = Unit {0}
-Low (Root.Top g c) = g + 1 ≤ max_levels
+unfoldable pub Low : Option Top → Type 0
+Low None = Unit {0}
+Low (Some x) = x.height + 1 ≤ max_levels
 
 -- how often mark m is asked for by the tree under r
-unfoldable pub root_met : List ℕ → Root → ℕ → ℕ
+unfoldable pub root_met : List ℕ → Option Top → ℕ → ℕ
 root_met b r = asked_for (lines_in b) (tree_nodes (entries b) r) (tree_leaves (entries b) r)
 
 -- the tree under r keeps its rules, its leaf entries are those of lines, and nothing is met twice
-pub record RootPass (b : List ℕ) (r : Root) (o : List ℕ) : Type 0 where
+pub record RootPass (b : List ℕ) (r : Option Top) (o : List ℕ) : Type 0 where
   pub top : RootSound (entries b) r
   pub low : Low r
   pub known : Each (Known (lines_in b)) (tree_leaves (entries b) r)

@@ -23,9 +23,6 @@ hull_step n l k e f r some le p q s =
     drop-cons l (k - 1) no_entry (omega arith) ∙ ap (λ (j : ℕ). get_or l (k - 1) no_entry ∷ drop j l) up in
     rw d (s ∙ rw (p, q))
 
-pub hull_all : (n : ℕ) (l : List NodeEntry) (k : ℕ) (f : NodeEntry) → k ≤ 0 → f ≡ hull n (drop k l) → f ≡ hull n l
-hull_all n l k f le q = let z : k ≡ 0 = omega arith in q ∙ ap (λ (j : ℕ). hull n (drop j l)) z
-
 -- the hull of node c refers to c
 pub hull_reference : (c : ℕ) (l : List NodeEntry) → (hull c l).reference ≡ c
 unfolding hull grow

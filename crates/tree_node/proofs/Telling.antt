@@ -22,6 +22,3 @@ told_map f g k t = record { yes = λ q. (f (t.yes q).0, k (t.yes q).1); no = λ 
 -- two entries with the same six numbers are equal
 pub entry_eq : (a b : NodeEntry) → a.reference ≡ b.reference → a.west ≡ b.west → a.south ≡ b.south → a.east ≡ b.east → a.north ≡ b.north → a.spare ≡ b.spare → a ≡ b
 entry_eq a b r w s e n z = λ i. record { reference = r i; west = w i; south = s i; east = e i; north = n i; spare = z i }
-
-pub same_yes : (a b : NodeEntry) → a.reference ≡ b.reference → a.west ≡ b.west → a.south ≡ b.south → a.east ≡ b.east → a.north ≡ b.north → a.spare ≡ b.spare → Told true (a ≡ b) (a ≡ b)
-same_yes a b r w s e n z = let q : a ≡ b = entry_eq a b r w s e n z in told_yes q q

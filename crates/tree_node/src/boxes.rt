@@ -1,23 +1,10 @@
 // The boxes of entries: widened, compared, and the smallest one of a node.
-ghost use Rattle.std.specs.Prelude.{◌≡◌, [], ◌∷◌, ◌++◌, ◌<◌, min, max, length};
+ghost use Rattle.std.specs.Prelude.{◌≡◌, [], ◌∷◌, ◌++◌, ◌<◌, ◌≤◌, length};
 ghost use Rattle.limits.specs.Limits.{max_entries, max_nodes, table_bytes};
 ghost use Rattle.tree_node.specs.Node.{entries, Wrote};
 ghost use Rattle.tree_node.specs.Boxes.{grow, hull};
-ghost use Rattle.tree_node.specs.Told.{Told};
 
 use crate::{NodeEntry, pool};
-
-fn lesser(a: u16, b: u16) -> u16
-    ensures { result ≡ min a b }
-{
-    if a <= b { a } else { b }
-}
-
-fn larger(a: u16, b: u16) -> u16
-    ensures { result ≡ max a b }
-{
-    if a <= b { b } else { a }
-}
 
 // The entry f, its box widened to hold the box of e.
 pub fn grown(e: NodeEntry, f: NodeEntry) -> NodeEntry
@@ -25,10 +12,10 @@ pub fn grown(e: NodeEntry, f: NodeEntry) -> NodeEntry
 {
     NodeEntry {
         reference: f.reference,
-        west: lesser(e.west, f.west),
-        south: lesser(e.south, f.south),
-        east: larger(e.east, f.east),
-        north: larger(e.north, f.north),
+        west: e.west.min(f.west),
+        south: e.south.min(f.south),
+        east: e.east.max(f.east),
+        north: e.north.max(f.north),
         spare: f.spare,
     }
 }
@@ -46,9 +33,7 @@ pub fn hull_of(table: &[u8], n: usize) -> NodeEntry
         north: 0,
         spare: 0,
     };
-    let mut k = pool::count(table, n);
-    while 0 < k {
-        k -= 1;
+    for k in (0..pool::count(table, n)).rev() {
         let e = pool::entry_at(table, n, k);
         f = grown(e, f);
     }
@@ -66,27 +51,9 @@ pub fn lift(table: &mut [u8], n: usize, c: usize)
     pool::push(table, n, f);
 }
 
-// Whether two entries are equal.
-pub fn same(a: NodeEntry, b: NodeEntry) -> bool
-    ensures { Told result (a ≡ b) (a ≡ b) }
+// Half the perimeter of e's box, whose edges may be any numbers of 16 bits, also the wrong way round.
+pub fn half_perimeter(e: NodeEntry) -> u32
+    ensures { result ≤ 131070 }
 {
-    if a.reference != b.reference {
-        return false;
-    }
-    if a.west != b.west {
-        return false;
-    }
-    if a.south != b.south {
-        return false;
-    }
-    if a.east != b.east {
-        return false;
-    }
-    if a.north != b.north {
-        return false;
-    }
-    if a.spare != b.spare {
-        return false;
-    }
-    true
+    u32::from(e.east.saturating_sub(e.west)) + u32::from(e.north.saturating_sub(e.south))
 }

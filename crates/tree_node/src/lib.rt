@@ -42,7 +42,7 @@ const ENTRY_SPARE: usize = 10;
 // An entry of a node: at a leaf the number of a site, above the leaves the child node's id, and the smallest box of
 // what lies under it. Coordinates are counted from the grid's south-west corner. The spare number is 0. The box comes
 // first, so that a copied entry's box lies in one machine word.
-#[derive(Clone, Copy)]
+#[derive(Clone, Copy, PartialEq, Eq)]
 pub struct NodeEntry {
     pub west: u16,
     pub south: u16,
@@ -52,10 +52,10 @@ pub struct NodeEntry {
     pub spare: u16,
 }
 
-// The tree: nothing, or the height at which the root's entries stand, 0 where they are leaf entries, and the root's
-// node.
+// The top of a tree that is not empty: the height at which the root's entries stand, 0 where they are leaf entries, and
+// the root's node. An empty tree has none.
 #[derive(Clone, Copy)]
-pub enum Root {
-    Empty,
-    Top(usize, usize),
+pub struct Top {
+    pub height: usize,
+    pub node: usize,
 }

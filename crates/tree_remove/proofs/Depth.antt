@@ -7,7 +7,8 @@ use native.Mathlib.Omega.{arith}
 use lib.ListN.{length, length-append}
 use Rattle.limits.specs.Limits.{table_bytes}
 use Rattle.tree_node.specs.declared.NodeEntry.{NodeEntry}
-use Rattle.tree_node.specs.declared.Root.{Root}
+use Rattle.std.specs.Prelude.{Option, None, Some}
+use Rattle.tree_node.specs.declared.Top.{Top}
 use Rattle.tree_node.specs.Node.{entries}
 use Rattle.tree_node.specs.Header.{SmallRoot}
 use Rattle.tree_rules.specs.Tree.{Store, joined, nodes, nodes_at, Each, SoundUnder}
@@ -36,10 +37,12 @@ deep E (suc h) e s =
           (each_map (SoundUnder E h) (λ d. h ≤ length (nodes E h d)) (deep E h) (E e.reference) s.below),
     )
 
-pub root_small : (r : Root) (b : List ℕ) → Rooted r b → SmallRoot r
+pub root_small : (r : Option Top) (b : List ℕ) → Rooted r b → SmallRoot r
 unfolding SmallRoot tree_nodes nodes_at
-root_small Root.Empty b rt = tt
-root_small (Root.Top g n) b rt =
+root_small None b rt = tt
+root_small (Some x) b rt =
+    let g : ℕ = x.height in
+    let n : ℕ = x.node in
     let t = root_node g n b rt in
     let E : Store = entries b in
     let many : g ≤ length (joined (nodes E g) (E n)) =
@@ -47,7 +50,7 @@ root_small (Root.Top g n) b rt =
     (omega (arith, rt.all), omega (arith, t.id))
 
 -- so the tree that is left can be stored
-module _ (r s : Root) (e : NodeEntry) (b b₁ : List ℕ) (up : TakenFrom r e s b b₁) where
+module _ (r s : Option Top) (e : NodeEntry) (b b₁ : List ℕ) (up : TakenFrom r e s b b₁) where
   pub remove_len : length b₁ ≡ table_bytes
   remove_len = up.rooted.len
 

@@ -1,5 +1,6 @@
 -- A leaf entry that stands in the tree is found, and the whole tree is sound without it.
 -- Assumes nothing.
+use Rattle.std.specs.Prelude.{Bool, true, false, Option, None}
 use mathlib.Core.Path.{◌≡◌, ap, ◌∙◌}
 use mathlib.Core.List.Memᴰ
 use mathlib.Core.List.{List, Memᴰ}
@@ -9,10 +10,10 @@ use lib.ListN.{length, drop}
 use Rattle.limits.specs.Limits.{max_nodes}
 use Rattle.words.proofs.Frame.{only_trans, only_wider}
 use Rattle.tree_node.specs.declared.NodeEntry.{NodeEntry}
-use Rattle.tree_node.specs.declared.Root.{Root}
+use Rattle.tree_node.specs.declared.Top.{Top}
 use Rattle.tree_node.specs.Node.{entries}
 use Rattle.tree_node.specs.Free.{free}
-use Rattle.tree_node.specs.Header.{root_in, Headed}
+use Rattle.tree_node.specs.Header.{top, root_in, Headed}
 use Rattle.tree_node.specs.Tally.{total, hit, Within}
 use Rattle.tree_node.proofs.Counting.{total_one}
 use Rattle.tree_rules.specs.Tree.{leaves_at, nodes_at}
@@ -20,29 +21,28 @@ use Rattle.tree_rules.specs.Rooted.{tree_leaves, tree_nodes, Rooted, leaves_in}
 use Rattle.tree_rules.specs.Change.{Ready, Became}
 use Rattle.tree_rules.proofs.Roots.{root_node, root_ready, rooted_by}
 use Rattle.tree_rules.proofs.Outside.{rooted_headed, leaves_headed}
-use Rattle.tree_remove.specs.declared.Removal.{Removal}
 use Rattle.tree_remove.specs.Take.{Prunable, Pruned, Sought}
 use Rattle.tree_remove.specs.Removal.{TakenFrom, Removed}
 use Rattle.tree_remove.proofs.Members.{never_absent}
 
 -- the tree under the root n, whose entries stand at height g
-module _ (g n : ℕ) (e : NodeEntry) (b : List ℕ) (rt : Rooted (Root.Top g n) b) where
+module _ (g n : ℕ) (e : NodeEntry) (b : List ℕ) (rt : Rooted (top g n) b) where
   pub root_open : Prunable g n b
   unfolding tree_nodes
   root_open = record { ready = root_ready g n b rt; least = (root_node g n b rt).two; fits = omega (arith, rt.all) }
 
   -- an entry that stands in the tree is found
-  pub found : (o : Removal) (b₁ : List ℕ) → Memᴰ e (tree_leaves (entries b) (Root.Top g n)) → o ≡ Removal.Absent
+  pub found : (o : Bool) (b₁ : List ℕ) → Memᴰ e (tree_leaves (entries b) (top g n)) → o ≡ false
       → Sought o g n e (drop 0 (entries b n)) b b₁ → ⊥
   unfolding Sought tree_leaves leaves_at
   found o b₁ m q s =
-      let x : Sought Removal.Absent g n e (drop 0 (entries b n)) b b₁ = rw q at s in
+      let x : Sought false g n e (drop 0 (entries b n)) b b₁ = rw q at s in
       never_absent (leaves_at (entries b) g n) e m x.1
 
-  module _ (o : Removal) (b₁ : List ℕ) (q : o ≡ Removal.Gone) (s : Sought o g n e (drop 0 (entries b n)) b b₁) where
+  module _ (o : Bool) (b₁ : List ℕ) (q : o ≡ true) (s : Sought o g n e (drop 0 (entries b n)) b b₁) where
     cut : Pruned g n e b b₁
     unfolding Sought
-    cut = let x : Sought Removal.Gone g n e (drop 0 (entries b n)) b b₁ = rw q at s in x
+    cut = let x : Sought true g n e (drop 0 (entries b n)) b b₁ = rw q at s in x
 
     pub cut_ready : Ready g n b₁
     unfolding tree_nodes Within
@@ -71,23 +71,23 @@ module _ (g n : ℕ) (e : NodeEntry) (b : List ℕ) (rt : Rooted (Root.Top g n) 
           total_one (free b),
         )
 
-    pub cut_done : (r : Root) (b₂ : List ℕ) → Became (Root.Top g n) r b₁ b₂ → TakenFrom (Root.Top g n) e r b b₂
+    pub cut_done : (r : Option Top) (b₂ : List ℕ) → Became (top g n) r b₁ b₂ → TakenFrom (top g n) e r b b₂
     unfolding tree_nodes tree_leaves
     cut_done r b₂ bc =
         record {
           rooted =
-              rooted_by (Root.Top g n) r b b₂ rt (bc.only.len ∙ cut.only.len) bc.top (λ w. bc.ids w ∙ cut.ids w);
+              rooted_by (top g n) r b b₂ rt (bc.only.len ∙ cut.only.len) bc.top (λ w. bc.ids w ∙ cut.ids w);
           leaf = λ w. omega (arith, bc.leaf w, cut.leaf w);
           only = only_trans cut.only bc.only;
         }
 
 -- an empty tree has no entry
-pub none_there : (r : Root) (e : NodeEntry) (b : List ℕ) → r ≡ Root.Empty → Memᴰ e (tree_leaves (entries b) r) → ⊥
+pub none_there : (r : Option Top) (e : NodeEntry) (b : List ℕ) → r ≡ None → Memᴰ e (tree_leaves (entries b) r) → ⊥
 unfolding tree_leaves
-none_there r e b q m = let z : Memᴰ e (tree_leaves (entries b) Root.Empty) = rw q at m in Memᴰ.not-nil z
+none_there r e b q m = let z : Memᴰ e (tree_leaves (entries b) None) = rw q at m in Memᴰ.not-nil z
 
 -- the tree that the header tells
-module _ (e : NodeEntry) (r : Root) (b : List ℕ) (q : r ≡ root_in b) where
+module _ (e : NodeEntry) (r : Option Top) (b : List ℕ) (q : r ≡ root_in b) where
   pub header_rooted : Rooted (root_in b) b → Rooted r b
   header_rooted rt = rw q rt
 
@@ -95,7 +95,7 @@ module _ (e : NodeEntry) (r : Root) (b : List ℕ) (q : r ≡ root_in b) where
   unfolding leaves_in
   header_member m = rw q m
 
-  module _ (s : Root) (b₁ : List ℕ) (up : TakenFrom r e s b b₁) where
+  module _ (s : Option Top) (b₁ : List ℕ) (up : TakenFrom r e s b b₁) where
     pub remove_done : (b₂ : List ℕ) → Headed s b₁ b₂ → Removed e b b₂
     unfolding leaves_in
     remove_done b₂ hd =
@@ -106,7 +106,7 @@ module _ (e : NodeEntry) (r : Root) (b : List ℕ) (q : r ≡ root_in b) where
                 arith,
                 ap (total w) (leaves_headed s b₁ b₂ hd),
                 up.leaf w,
-                ap (λ (x : Root). total w (tree_leaves (entries b) x)) q,
+                ap (λ (x : Option Top). total w (tree_leaves (entries b) x)) q,
               );
           only =
               only_trans

@@ -7,7 +7,9 @@ use native.Mathlib.Omega.{arith}
 use lib.ListN.{length, get_or}
 use Rattle.words.proofs.Frame.{only_refl}
 use Rattle.tree_node.specs.declared.NodeEntry.{NodeEntry}
-use Rattle.tree_node.specs.declared.Root.{Root}
+use Rattle.std.specs.Prelude.{Option, None}
+use Rattle.tree_node.specs.declared.Top.{Top}
+use Rattle.tree_node.specs.Header.{top}
 use Rattle.tree_node.specs.Node.{entries, no_entry}
 use Rattle.tree_node.specs.Free.{Given}
 use Rattle.tree_node.specs.Tally.{total}
@@ -27,7 +29,7 @@ single (e ∷ l) f p q = rw (q, no_entries l (omega arith))
 
 module _ (g n : ℕ) (b : List ℕ) (rd : Ready g n b) where
   -- it stays the root
-  stays : ((g ≡ 0 → ⊥) → 2 ≤ length (entries b n)) → 1 ≤ length (entries b n) → Became (Root.Top g n) (Root.Top g n) b b
+  stays : ((g ≡ 0 → ⊥) → 2 ≤ length (entries b n)) → 1 ≤ length (entries b n) → Became (top g n) (top g n) b b
   unfolding RootSound
   stays two one =
       record {
@@ -37,14 +39,14 @@ module _ (g n : ℕ) (b : List ℕ) (rd : Ready g n b) where
         only = only_refl;
       }
 
-  pub shrink_leaf : (m : ℕ) → m ≡ length (entries b n) → g ≡ 0 → 0 < m → Became (Root.Top g n) (Root.Top g n) b b
+  pub shrink_leaf : (m : ℕ) → m ≡ length (entries b n) → g ≡ 0 → 0 < m → Became (top g n) (top g n) b b
   shrink_leaf m q z one = stays (λ nz. absurd (nz z)) (omega arith)
 
-  pub shrink_same : (m : ℕ) → m ≡ length (entries b n) → (g ≡ 0 → ⊥) → 1 < m → Became (Root.Top g n) (Root.Top g n) b b
+  pub shrink_same : (m : ℕ) → m ≡ length (entries b n) → (g ≡ 0 → ⊥) → 1 < m → Became (top g n) (top g n) b b
   shrink_same m q nz two = stays (λ z. omega arith) (omega arith)
 
   -- an empty leaf is free
-  pub shrink_none : (m : ℕ) (b₁ : List ℕ) → m ≡ length (entries b n) → g ≡ 0 → m ≤ 0 → Given n b b₁ → Became (Root.Top g n) Root.Empty b b₁
+  pub shrink_none : (m : ℕ) (b₁ : List ℕ) → m ≡ length (entries b n) → g ≡ 0 → m ≤ 0 → Given n b b₁ → Became (top g n) None b b₁
   unfolding RootSound tree_leaves tree_nodes joined total
   shrink_none m b₁ q z empty gv =
       let here : entries b n ≡ [] = no_entries (entries b n) (omega arith) in
@@ -64,9 +66,9 @@ module _ (g n : ℕ) (b : List ℕ) (rd : Ready g n b) where
     unfolding Each SoundUnder
     child = let s : Each (SoundUnder E (suc k)) (f ∷ []) = rw (here, ← up) at rd.sound in s.0
 
-    top : RootSound E (Root.Top k f.reference)
+    sound_top : RootSound E (top k f.reference)
     unfolding RootSound
-    top =
+    sound_top =
         record {
           id = child.id;
           two = λ z. omega (arith, child.least);
@@ -75,7 +77,7 @@ module _ (g n : ℕ) (b : List ℕ) (rd : Ready g n b) where
           below = child.below;
         }
 
-    leaf_totals : (w : NodeEntry → ℕ) → total w (tree_leaves E (Root.Top k f.reference)) ≡ total w (tree_leaves E (Root.Top g n))
+    leaf_totals : (w : NodeEntry → ℕ) → total w (tree_leaves E (top k f.reference)) ≡ total w (tree_leaves E (top g n))
     unfolding tree_leaves joined total
     leaf_totals w =
         rw (← up)
@@ -86,7 +88,7 @@ module _ (g n : ℕ) (b : List ℕ) (rd : Ready g n b) where
           ap (total w) (leaves_under E k f),
         ))
 
-    node_totals : (w : ℕ → ℕ) → w n + total w (tree_nodes E (Root.Top k f.reference)) ≡ total w (tree_nodes E (Root.Top g n))
+    node_totals : (w : ℕ → ℕ) → w n + total w (tree_nodes E (top k f.reference)) ≡ total w (tree_nodes E (top g n))
     unfolding tree_nodes joined total
     node_totals w =
         rw (← up)
@@ -97,20 +99,20 @@ module _ (g n : ℕ) (b : List ℕ) (rd : Ready g n b) where
           ap (total w) (nodes_under E k f),
         ))
 
-    lowered : (b₁ : List ℕ) → Given n b b₁ → Became (Root.Top g n) (Root.Top k f.reference) b b₁
+    lowered : (b₁ : List ℕ) → Given n b b₁ → Became (top g n) (top k f.reference) b b₁
     unfolding total
     lowered b₁ gv =
         let kept : (i : ℕ) → entries b₁ i ≡ E i = nodes_kept gv.only in
-        let r : Root = Root.Top k f.reference in
+        let r : Option Top = top k f.reference in
         record {
-          top = same_sound E (entries b₁) kept r top;
+          top = same_sound E (entries b₁) kept r sound_top;
           leaf = λ w. ap (total w) (same_leaves E (entries b₁) kept r) ∙ leaf_totals w;
           ids = λ w. omega (arith, ap (total w) (same_nodes E (entries b₁) kept r), node_totals w, ap (total w) gv.more);
           only = low_in_tree gv.only;
         }
 
   pub shrink_child : (m : ℕ) (f : NodeEntry) (b₁ : List ℕ) → m ≡ length (entries b n) → ((g ≡ 0 → ⊥) → 1 ≤ length (entries b n)) → (g ≡ 0 → ⊥) → m ≤ 1 → f ≡ get_or (entries b n) 0 no_entry → Given n b b₁
-      → Became (Root.Top g n) (Root.Top (g - 1) f.reference) b b₁
+      → Became (top g n) (top (g - 1) f.reference) b b₁
   shrink_child m f b₁ q some nz le qf gv =
       let one : 1 ≤ length (entries b n) = some nz in
       lowered (g - 1) f (single (entries b n) f (omega arith) qf) (omega arith) b₁ gv

@@ -13,13 +13,6 @@ ghost use Rattle.tree_remove.specs.Removal.{Removed};
 
 use tree_node::{NodeEntry, header};
 
-// How a search for a leaf entry went: it is not there and nothing has changed, or it is gone.
-#[derive(Clone, Copy)]
-pub enum Removal {
-    Absent,
-    Gone,
-}
-
 // Removes one leaf entry equal to e, which stands in the table's tree.
 pub fn remove(table: &mut [u8], e: NodeEntry)
     requires { Rooted (root_in table.old) table.old × Memᴰ e (leaves_in table.old) }

@@ -1,5 +1,5 @@
 // A leaf entry is taken from under the root, which shrinks where it has to.
-ghost use Rattle.std.specs.Prelude.{◌≡◌, ◌<◌, ◌≤◌, length};
+ghost use Rattle.std.specs.Prelude.{◌≡◌, ◌<◌, ◌≤◌, length, Some};
 ghost use mathlib.Core.List.{Memᴰ};
 ghost use Rattle.limits.specs.Limits.{max_nodes};
 ghost use Rattle.tree_node.specs.Free.{free};
@@ -8,51 +8,53 @@ ghost use Rattle.tree_rules.specs.Change.{Ready, Became};
 ghost use Rattle.tree_rules.specs.Rooted.{tree_leaves, Rooted};
 ghost use Rattle.tree_remove.specs.Removal.{TakenFrom};
 
-use crate::{Removal, take};
-use tree_node::{NodeEntry, Root, free, pool};
+use crate::take;
+use tree_node::{NodeEntry, Top, free, pool};
 
-// The tree whose root n, with its entries at height g, has lost an entry: a root that is no leaf with one entry left
-// is replaced by its child, and an empty leaf by the empty tree.
-fn shrink(table: &mut [u8], g: usize, n: usize) -> Root
-    requires { Ready g n table.old × ((g ≡ 0 → ⊥) → 1 ≤ length (entries table.old n))
+// The tree over r, whose root has lost an entry: a root that is no leaf with one entry left is replaced by its child,
+// and an empty leaf by the empty tree.
+fn shrink(table: &mut [u8], r: Top) -> Option<Top>
+    requires { Ready r.height r.node table.old × ((r.height ≡ 0 → ⊥) → 1 ≤ length (entries table.old r.node))
         × (length (free table.old) < max_nodes) }
-    ensures { Became (Root.Top g n) result table.old table.new }
+    ensures { Became (Some r) result table.old table.new }
 {
-    let m = pool::count(table, n);
-    if g == 0 {
+    let m = pool::count(table, r.node);
+    if r.height == 0 {
         if 0 < m {
-            return Root::Top(g, n);
+            return Some(r);
         }
-        free::give(table, n);
-        return Root::Empty;
+        free::give(table, r.node);
+        return None;
     }
     if 1 < m {
-        return Root::Top(g, n);
+        return Some(r);
     }
-    let f = pool::entry_at(table, n, 0);
-    free::give(table, n);
-    Root::Top(g - 1, f.reference as usize)
+    let f = pool::entry_at(table, r.node, 0);
+    free::give(table, r.node);
+    Some(Top {
+        height: r.height - 1,
+        node: f.reference as usize,
+    })
 }
 
-// Takes the leaf entry e, which stands in it, from the tree under the root n.
-fn take_under(table: &mut [u8], g: usize, n: usize, e: NodeEntry) -> Root
-    requires { Rooted (Root.Top g n) table.old × Memᴰ e (tree_leaves (entries table.old) (Root.Top g n)) }
-    ensures { TakenFrom (Root.Top g n) e result table.old table.new }
+// Takes the leaf entry e, which stands in it, from the tree over r.
+fn take_under(table: &mut [u8], r: Top, e: NodeEntry) -> Option<Top>
+    requires { Rooted (Some r) table.old × Memᴰ e (tree_leaves (entries table.old) (Some r)) }
+    ensures { TakenFrom (Some r) e result table.old table.new }
 {
-    let o = take::take(table, g, n, 0, e);
-    match o {
-        Removal::Absent => Root::Top(g, n),
-        Removal::Gone => shrink(table, g, n),
+    if take::take(table, r.height, r.node, 0, e) {
+        return shrink(table, r);
     }
+    Some(r)
 }
 
 // Takes the leaf entry e, which stands in it, from the tree r.
-pub fn take_from(table: &mut [u8], r: Root, e: NodeEntry) -> Root
+pub fn take_from(table: &mut [u8], r: Option<Top>, e: NodeEntry) -> Option<Top>
     requires { Rooted r table.old × Memᴰ e (tree_leaves (entries table.old) r) }
     ensures { TakenFrom r e result table.old table.new }
 {
     match r {
-        Root::Empty => Root::Empty,
-        Root::Top(g, n) => take_under(table, g, n, e),
+        None => None,
+        Some(top) => take_under(table, top, e),
     }
 }

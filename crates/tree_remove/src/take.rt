@@ -6,103 +6,89 @@ ghost use Rattle.limits.specs.Limits.{max_nodes, table_bytes};
 ghost use Rattle.tree_node.specs.Boxes.{InBox};
 ghost use Rattle.tree_node.specs.Node.{entries, no_entry};
 ghost use Rattle.tree_node.specs.Told.{Told};
-ghost use Rattle.tree_remove.specs.Take.{OneIfLess, First, Prunable, Sought};
+ghost use Rattle.tree_remove.specs.Take.{Next, NextTold, Prunable, Sought};
 
-use crate::Removal;
-use tree_node::{NodeEntry, boxes, pool};
+use tree_node::{NodeEntry, pool};
 use tree_repair::repair;
 
-// 1 where a is less than b, else 0. A choice of values: no branch foresees how boxes lie.
-fn less(a: u16, b: u16) -> u16
-    ensures { OneIfLess a b result }
-{
-    if a < b { 1 } else { 0 }
-}
-
-// Whether the box of f holds the box of e: no side of e's lies beyond.
+// Whether the box of f holds the box of e: no side of e's lies beyond. A sum of choices of values: no branch foresees
+// how boxes lie.
 fn holds(f: NodeEntry, e: NodeEntry) -> bool
     ensures { Told result (InBox e f) (InBox e f) }
 {
-    let beyond = less(e.west, f.west)
-        + less(e.south, f.south)
-        + less(f.east, e.east)
-        + less(f.north, e.north);
-    if beyond == 0 {
+    let beyond = u16::from(e.west < f.west)
+        + u16::from(e.south < f.south)
+        + u16::from(f.east < e.east)
+        + u16::from(f.north < e.north);
+    beyond == 0
+}
+
+// The first entry of node n from k on of which `asked` says true.
+// A loop: a call for each entry costs more than the test of its box.
+fn next_where<F: Fn(NodeEntry) -> bool>(table: &[u8], n: usize, k: usize, asked: F) -> Option<usize>
+    requires place { (length table.now ≡ table_bytes) × (n < max_nodes) × (k ≤ length (entries table.now n)) }
+    requires callable { F.IsAlwaysCallable asked }
+    ensures { NextTold (F.post asked) (entries table.now n) k result }
+{
+    for i in k..pool::count(table, n) {
+        if asked(pool::entry_at(table, n, i)) {
+            return Some(i);
+        }
+    }
+    None
+}
+
+// The first entry of node n from k on whose box holds the box of e.
+fn next_holding(table: &[u8], n: usize, k: usize, e: NodeEntry) -> Option<usize>
+    requires { (length table.now ≡ table_bytes) × (n < max_nodes) × (k ≤ length (entries table.now n)) }
+    ensures { Next (λ f. InBox e f) (entries table.now n) k result }
+{
+    next_where(table, n, k, |f| holds(f, e))
+}
+
+// The first entry of node n from k on that is e.
+fn next_equal(table: &[u8], n: usize, k: usize, e: NodeEntry) -> Option<usize>
+    requires { (length table.now ≡ table_bytes) × (n < max_nodes) × (k ≤ length (entries table.now n)) }
+    ensures { Next (λ f. f ≡ e) (entries table.now n) k result }
+{
+    next_where(table, n, k, |f|
+        ensures { Told result (f ≡ e) (f ≡ e) }
+    {
+        f == e
+    })
+}
+
+// Takes the leaf entry e from the entries from k on of the leaf n. Whether it was there.
+fn take_from_leaf(table: &mut [u8], n: usize, k: usize, e: NodeEntry) -> bool
+    requires { Prunable 0 n table.old × (k ≤ length (entries table.old n)) }
+    ensures { Sought result 0 n e (drop k (entries table.old n)) table.old
+        table.new }
+{
+    if let Some(i) = next_equal(table, n, k, e) {
+        pool::drop_entry(table, n, i);
         return true;
     }
     false
 }
 
-// The first entry of node n from k on whose box holds the box of e; how many entries n has where there is none.
-// A loop: a call for each entry costs more than the test of its box.
-fn next_holding(table: &[u8], n: usize, k: usize, e: NodeEntry) -> usize
-    requires { (length table.now ≡ table_bytes) × (n < max_nodes) × (k ≤ length (entries table.now n)) }
-    ensures { First (λ f. InBox e f) (entries table.now n) k result }
-{
-    let m = pool::count(table, n);
-    let mut i = k;
-    while i < m {
-        let f = pool::entry_at(table, n, i);
-        if holds(f, e) {
-            return i;
-        }
-        i += 1;
-    }
-    m
-}
-
-// The first entry of node n from k on that is e; how many entries n has where there is none.
-fn next_equal(table: &[u8], n: usize, k: usize, e: NodeEntry) -> usize
-    requires { (length table.now ≡ table_bytes) × (n < max_nodes) × (k ≤ length (entries table.now n)) }
-    ensures { First (λ f. f ≡ e) (entries table.now n) k result }
-{
-    let m = pool::count(table, n);
-    let mut i = k;
-    while i < m {
-        let f = pool::entry_at(table, n, i);
-        if boxes::same(f, e) {
-            return i;
-        }
-        i += 1;
-    }
-    m
-}
-
-// Takes the leaf entry e from the entries from k on of the leaf n.
-fn take_from_leaf(table: &mut [u8], n: usize, k: usize, e: NodeEntry) -> Removal
-    requires { Prunable 0 n table.old × (k ≤ length (entries table.old n)) }
-    ensures { Sought result 0 n e (drop k (entries table.old n)) table.old
-        table.new }
-{
-    let i = next_equal(table, n, k, e);
-    if i < pool::count(table, n) {
-        pool::drop_entry(table, n, i);
-        return Removal::Gone;
-    }
-    Removal::Absent
-}
-
-// Takes the leaf entry e from under f, which is entry k of node n and stands at height h, above the leaves.
+// Takes the leaf entry e from under f, which is entry k of node n and stands at height h, above the leaves. Whether it
+// was there.
 #[cycle(take_take_child)]
-fn take_child(table: &mut [u8], h: usize, n: usize, k: usize, f: NodeEntry, e: NodeEntry) -> Removal
+fn take_child(table: &mut [u8], h: usize, n: usize, k: usize, f: NodeEntry, e: NodeEntry) -> bool
     requires { Prunable h n table.old × (h ≡ 0 → ⊥) × (k < length (entries table.old n))
         × (f ≡ get_or (entries table.old n) k no_entry) }
     ensures { Sought result h n e (f ∷ []) table.old table.new }
 {
-    let c = f.reference as usize;
-    let r = take(table, h - 1, c, 0, e);
-    match r {
-        Removal::Absent => Removal::Absent,
-        Removal::Gone => {
-            repair::repair(table, n, k, f);
-            Removal::Gone
-        }
+    if take(table, h - 1, f.reference as usize, 0, e) {
+        repair::repair(table, n, k, f);
+        return true;
     }
+    false
 }
 
-// Takes the leaf entry e from under the entries from k on of node n, which stand at height h.
+// Takes the leaf entry e from under the entries from k on of node n, which stand at height h. Whether it was there.
 #[cycle(take_take_child)]
-pub fn take(table: &mut [u8], h: usize, n: usize, k: usize, e: NodeEntry) -> Removal
+pub fn take(table: &mut [u8], h: usize, n: usize, k: usize, e: NodeEntry) -> bool
     requires { Prunable h n table.old × (k ≤ length (entries table.old n)) }
     ensures { Sought result h n e (drop k (entries table.old n)) table.old
         table.new }
@@ -110,15 +96,11 @@ pub fn take(table: &mut [u8], h: usize, n: usize, k: usize, e: NodeEntry) -> Rem
     if h == 0 {
         return take_from_leaf(table, n, k, e);
     }
-    let i = next_holding(table, n, k, e);
-    if i < pool::count(table, n) {
-        let f = pool::entry_at(table, n, i);
-        let r = take_child(table, h, n, i, f, e);
-        match r {
-            Removal::Absent => take(table, h, n, i + 1, e),
-            Removal::Gone => Removal::Gone,
+    match next_holding(table, n, k, e) {
+        None => false,
+        Some(i) => {
+            let f = pool::entry_at(table, n, i);
+            take_child(table, h, n, i, f, e) || take(table, h, n, i + 1, e)
         }
-    } else {
-        Removal::Absent
     }
 }

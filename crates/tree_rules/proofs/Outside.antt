@@ -7,7 +7,8 @@ use native.Mathlib.Omega.{arith}
 use lib.ListN.{length}
 use Rattle.words.specs.Words.{Only}
 use Rattle.words.proofs.Frame.{only_wider}
-use Rattle.tree_node.specs.declared.Root.{Root}
+use Rattle.std.specs.Prelude.{Option, None, Some}
+use Rattle.tree_node.specs.declared.Top.{Top}
 use Rattle.tree_node.specs.Layout.{tree_start, free_start, pool_start}
 use Rattle.tree_node.specs.Node.{entries}
 use Rattle.tree_node.specs.Free.{free}
@@ -23,15 +24,15 @@ use Rattle.tree_rules.proofs.Roots.{rooted_by}
 
 -- two stores that give every node the same entries
 module _ (E E' : Store) (q : (m : ℕ) → E' m ≡ E m) where
-  pub same_leaves : (r : Root) → tree_leaves E' r ≡ tree_leaves E r
+  pub same_leaves : (r : Option Top) → tree_leaves E' r ≡ tree_leaves E r
   unfolding tree_leaves leaves_at
-  same_leaves Root.Empty = refl
-  same_leaves (Root.Top g n) = rw (q n) (kept_leaves E E' g (E n) (λ m z. q m))
+  same_leaves None = refl
+  same_leaves (Some x) = rw (q x.node) (kept_leaves E E' x.height (E x.node) (λ m z. q m))
 
-  pub same_nodes : (r : Root) → tree_nodes E' r ≡ tree_nodes E r
+  pub same_nodes : (r : Option Top) → tree_nodes E' r ≡ tree_nodes E r
   unfolding tree_nodes nodes_at
-  same_nodes Root.Empty = refl
-  same_nodes (Root.Top g n) = rw (q n) (ap (λ (l : List ℕ). n ∷ l) (kept_nodes E E' g (E n) (λ m z. q m)))
+  same_nodes None = refl
+  same_nodes (Some x) = rw (q x.node) (ap (λ (l : List ℕ). x.node ∷ l) (kept_nodes E E' x.height (E x.node) (λ m z. q m)))
 
   same_node : (g n : ℕ) → RootNode E g n → RootNode E' g n
   same_node g n t =
@@ -43,18 +44,18 @@ module _ (E E' : Store) (q : (m : ℕ) → E' m ≡ E m) where
         below = rw (q n) (kept_sound E E' g (E n) (λ m z. q m) t.below);
       }
 
-  pub same_sound : (r : Root) → RootSound E r → RootSound E' r
+  pub same_sound : (r : Option Top) → RootSound E r → RootSound E' r
   unfolding RootSound
-  same_sound Root.Empty t = tt
-  same_sound (Root.Top g n) t = same_node g n t
+  same_sound None t = tt
+  same_sound (Some x) t = same_node x.height x.node t
 
-pub rooted_same : (r : Root) (b b' : List ℕ) → length b' ≡ length b → ((m : ℕ) → entries b' m ≡ entries b m) → free b' ≡ free b → Rooted r b → Rooted r b'
+pub rooted_same : (r : Option Top) (b b' : List ℕ) → length b' ≡ length b → ((m : ℕ) → entries b' m ≡ entries b m) → free b' ≡ free b → Rooted r b → Rooted r b'
 rooted_same r b b' len q f rt =
     rooted_by r r b b' rt len (same_sound (entries b) (entries b') q r rt.top)
     (λ w. ap₂ (λ (x y : List ℕ). total w x + total w y) (same_nodes (entries b) (entries b') q r) f)
 
 -- the root is stored in the header
-module _ (r : Root) (b b' : List ℕ) (h : Headed r b b') where
+module _ (r : Option Top) (b b' : List ℕ) (h : Headed r b b') where
   headed_nodes : (m : ℕ) → entries b' m ≡ entries b m
   headed_nodes = nodes_kept (only_wider {lo' = tree_start} {hi' = pool_start} (omega arith) (omega arith) h.only)
 

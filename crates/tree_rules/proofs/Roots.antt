@@ -8,10 +8,11 @@ use native.Mathlib.Omega.{arith}
 use native.Mathlib.Nat.{mul-le-mul_right}
 use lib.ListN.{length}
 use Rattle.limits.specs.Limits.{max_sites, max_levels}
-use Rattle.tree_node.specs.declared.Root.{Root}
+use Rattle.std.specs.Prelude.{Option, None, Some}
+use Rattle.tree_node.specs.declared.Top.{Top}
 use Rattle.tree_node.specs.Node.{entries}
 use Rattle.tree_node.specs.Free.{free}
-use Rattle.tree_node.specs.Header.{SmallRoot}
+use Rattle.tree_node.specs.Header.{top, SmallRoot}
 use Rattle.tree_node.specs.Tally.{total, hit, Within}
 use Rattle.tree_node.proofs.Counting.{le_or_lt, total_one}
 use Rattle.tree_rules.specs.Tree.{joined, leaves, nodes, leaves_at, nodes_at, SoundUnder}
@@ -21,7 +22,7 @@ use Rattle.tree_rules.proofs.Every.{each_map}
 use Rattle.tree_rules.proofs.Levels.{each_sum, each_many, few_nodes, many_leaves, power_big}
 
 -- a sound root
-module _ (g n : ℕ) (b : List ℕ) (rt : Rooted (Root.Top g n) b) where
+module _ (g n : ℕ) (b : List ℕ) (rt : Rooted (top g n) b) where
   pub root_node : RootNode (entries b) g n
   unfolding RootSound
   root_node = rt.top
@@ -62,12 +63,12 @@ module _ (g n : ℕ) (b : List ℕ) (rt : Rooted (Root.Top g n) b) where
       (each_map (SoundUnder (entries b) g) (λ d. 3 ^ g ≤ length (leaves (entries b) g d)) (many_leaves (entries b) g) (entries b n) root_node.below)
 
   -- "a tree of h levels holds at least 2 × 3^(h-1) sites when h is at least 2": h is g + 1
-  pub root_sites : (g ≡ 0 → ⊥) → 2 * 3 ^ g ≤ length (tree_leaves (entries b) (Root.Top g n))
+  pub root_sites : (g ≡ 0 → ⊥) → 2 * 3 ^ g ≤ length (tree_leaves (entries b) (top g n))
   unfolding tree_leaves
   root_sites z = omega (arith, root_many, mul-le-mul_right (3 ^ g) (root_node.two z))
 
   -- "There are at most six levels": the root's entries stand at height 5 at most
-  pub root_levels : length (tree_leaves (entries b) (Root.Top g n)) ≤ max_sites → g + 1 ≤ max_levels
+  pub root_levels : length (tree_leaves (entries b) (top g n)) ≤ max_sites → g + 1 ≤ max_levels
   unfolding tree_leaves
   root_levels le =
       ⊎_elim
@@ -76,18 +77,18 @@ module _ (g n : ℕ) (b : List ℕ) (rt : Rooted (Root.Top g n) b) where
       (le_or_lt g 5)
 
   -- a free node for each level, and two more
-  pub root_free : length (tree_leaves (entries b) (Root.Top g n)) < max_sites → g + 2 ≤ length (free b)
+  pub root_free : length (tree_leaves (entries b) (top g n)) < max_sites → g + 2 ≤ length (free b)
   unfolding tree_leaves tree_nodes nodes_at
   root_free le = omega (arith, root_levels (omega arith), root_few, rt.all)
 
 -- a tree of at most so many sites fits in the header
-pub rooted_small : (r : Root) (b : List ℕ) → Rooted r b → length (tree_leaves (entries b) r) ≤ max_sites → SmallRoot r
+pub rooted_small : (r : Option Top) (b : List ℕ) → Rooted r b → length (tree_leaves (entries b) r) ≤ max_sites → SmallRoot r
 unfolding SmallRoot
-rooted_small Root.Empty b rt le = tt
-rooted_small (Root.Top g n) b rt le = (omega (arith, root_levels g n b rt le), omega (arith, (root_node g n b rt).id))
+rooted_small None b rt le = tt
+rooted_small (Some x) b rt le = (omega (arith, root_levels x.height x.node b rt le), omega (arith, (root_node x.height x.node b rt).id))
 
 -- each node is once in the tree or once free, as before
-pub rooted_by : (r r' : Root) (b b' : List ℕ) → Rooted r b → length b' ≡ length b → RootSound (entries b') r'
+pub rooted_by : (r r' : Option Top) (b b' : List ℕ) → Rooted r b → length b' ≡ length b → RootSound (entries b') r'
     → ((w : ℕ → ℕ) → total w (tree_nodes (entries b') r') + total w (free b') ≡ total w (tree_nodes (entries b) r) + total w (free b)) → Rooted r' b'
 rooted_by r r' b b' rt len t ids =
     record {

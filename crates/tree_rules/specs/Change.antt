@@ -1,10 +1,10 @@
 -- What the steps of an addition and of a removal say of the tree.
 -- Assumes nothing.
-use Rattle.std.specs.Prelude.{◌≡◌, List, ℕ, ◌+◌, ◌≤◌, ◌<◌, length}
+use Rattle.std.specs.Prelude.{◌≡◌, List, ℕ, ◌+◌, ◌≤◌, ◌<◌, length, Option}
 use Rattle.limits.specs.Limits.{max_nodes, table_bytes}
 use Rattle.words.specs.Words.{Only}
 use Rattle.tree_node.specs.declared.NodeEntry.{NodeEntry}
-use Rattle.tree_node.specs.declared.Root.{Root}
+use Rattle.tree_node.specs.declared.Top.{Top}
 use Rattle.tree_node.specs.Layout.{free_start}
 use Rattle.tree_node.specs.Node.{entries}
 use Rattle.tree_node.specs.Free.{free}
@@ -22,7 +22,7 @@ pub record Ready (h c : ℕ) (b : List ℕ) : Type 0 where
   pub within : Within max_nodes (free b)
 
 -- the tree under r' has the leaf entries that stood under r
-pub record Became (r r' : Root) (b b' : List ℕ) : Type 0 where
+pub record Became (r r' : Option Top) (b b' : List ℕ) : Type 0 where
   pub top : RootSound (entries b') r'
   pub leaf : (w : NodeEntry → ℕ) → total w (tree_leaves (entries b') r') ≡ total w (tree_leaves (entries b) r)
   pub ids : (w : ℕ → ℕ) → total w (tree_nodes (entries b') r') + total w (free b') ≡ total w (tree_nodes (entries b) r) + total w (free b)

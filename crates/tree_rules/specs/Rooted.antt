@@ -1,9 +1,9 @@
 -- The whole tree: its root, and its place in the table. Document 01, "The tree".
 -- Assumes nothing.
-use Rattle.std.specs.Prelude.{◌≡◌, List, [], ℕ, ◌+◌, ◌≤◌, ◌<◌, length}
+use Rattle.std.specs.Prelude.{◌≡◌, List, [], ℕ, ◌+◌, ◌≤◌, ◌<◌, length, Option, None, Some}
 use Rattle.limits.specs.Limits.{max_entries, max_nodes, table_bytes}
 use Rattle.tree_node.specs.declared.NodeEntry.{NodeEntry}
-use Rattle.tree_node.specs.declared.Root.{Root}
+use Rattle.tree_node.specs.declared.Top.{Top}
 use Rattle.tree_node.specs.Node.{entries}
 use Rattle.tree_node.specs.Free.{free}
 use Rattle.tree_node.specs.Header.{root_in}
@@ -11,14 +11,14 @@ use Rattle.tree_node.specs.Tally.{tally}
 use Rattle.tree_rules.specs.Tree.{Store, leaves_at, nodes_at, Each, SoundUnder}
 
 -- the leaf entries of the tree, in reading order
-unfoldable pub tree_leaves : Store → Root → List NodeEntry
-tree_leaves E Root.Empty = []
-tree_leaves E (Root.Top g n) = leaves_at E g n
+unfoldable pub tree_leaves : Store → Option Top → List NodeEntry
+tree_leaves E None = []
+tree_leaves E (Some r) = leaves_at E r.height r.node
 
 -- the nodes of the tree
-unfoldable pub tree_nodes : Store → Root → List ℕ
-tree_nodes E Root.Empty = []
-tree_nodes E (Root.Top g n) = nodes_at E g n
+unfoldable pub tree_nodes : Store → Option Top → List ℕ
+tree_nodes E None = []
+tree_nodes E (Some r) = nodes_at E r.height r.node
 
 -- the root node n, whose entries stand at height g, keeps the rules on roots
 pub record RootNode (E : Store) (g n : ℕ) : Type 0 where
@@ -32,12 +32,12 @@ pub record RootNode (E : Store) (g n : ℕ) : Type 0 where
   pub below : Each (SoundUnder E g) (E n)
 
 -- the root keeps the rules
-unfoldable pub RootSound : Store → Root → Type 0
-RootSound E Root.Empty = Unit {0}
-RootSound E (Root.Top g n) = RootNode E g n
+unfoldable pub RootSound : Store → Option Top → Type 0
+RootSound E None = Unit {0}
+RootSound E (Some r) = RootNode E r.height r.node
 
 -- the tree under r keeps its rules, and each node of the pool is once in it or once free
-pub record Rooted (r : Root) (b : List ℕ) : Type 0 where
+pub record Rooted (r : Option Top) (b : List ℕ) : Type 0 where
   pub len : length b ≡ table_bytes
   pub top : RootSound (entries b) r
   pub apart : (m : ℕ) → tally m (tree_nodes (entries b) r) + tally m (free b) ≤ 1

@@ -15,9 +15,10 @@ use Rattle.split.specs.SplitOf.{split_of}
 use Rattle.list_row.specs.Vertices.{row_bytes, Held, Lists, entries_in}
 use Rattle.list_row.proofs.Listing.{lists_none, lists_is}
 use Rattle.tree_node.specs.declared.NodeEntry.{NodeEntry}
-use Rattle.tree_node.specs.declared.Root.{Root}
+use Rattle.std.specs.Prelude.{Option, None}
+use Rattle.tree_node.specs.declared.Top.{Top}
 use Rattle.tree_node.specs.Node.{entries}
-use Rattle.tree_node.specs.Header.{root_in}
+use Rattle.tree_node.specs.Header.{top, root_in}
 use Rattle.tree_rules.specs.Tree.{leaves_at, Each}
 use Rattle.tree_rules.specs.Rooted.{tree_leaves, RootNode, Rooted, leaves_in}
 use Rattle.tree_rules.proofs.Roots.{root_node}
@@ -28,7 +29,7 @@ held_none : (l : Leg) (t r : List ℕ) → Held l t r 0
 held_none l t r = record { inside = omega arith; few = omega arith; sites = λ i h. absurd (omega arith); convex = tt }
 
 -- the empty tree has no site
-module _ (t : List ℕ) (q : root_in t ≡ Root.Empty) where
+module _ (t : List ℕ) (q : root_in t ≡ None) where
   no_leaves : leaves_in t ≡ []
   unfolding leaves_in tree_leaves
   no_leaves = ap (tree_leaves (entries t)) q
@@ -42,9 +43,9 @@ module _ (t : List ℕ) (q : root_in t ≡ Root.Empty) where
       record { within = omega arith; held = held_none l t r; lists = rw no_sites (lists_none l t r); only = only_refl }
 
 -- a tree under the node n, whose entries stand at height g
-module _ (t : List ℕ) (g n : ℕ) (rt : Rooted (root_in t) t) (q : root_in t ≡ Root.Top g n) where
+module _ (t : List ℕ) (g n : ℕ) (rt : Rooted (root_in t) t) (q : root_in t ≡ top g n) where
   top : RootNode (entries t) g n
-  top = root_node g n t (subst (λ (x : Root). Rooted x t) q rt)
+  top = root_node g n t (subst (λ (x : Option Top). Rooted x t) q rt)
 
   pub top_readable : Readable t g n
   top_readable = record { len = rt.len; id = top.id; sound = top.below }

@@ -5,8 +5,8 @@ use Rattle.tree_add.proofs.insert.+insert_insert_under.Goals as goal
 pub insert-returns-then-h-eq0 : goal.insert-returns-then-h-eq0
 insert-returns-then-h-eq0 t c = search inserted_leaf
 
-pub insert_under-insert-r-requires : goal.insert_under-insert-r-requires
-insert_under-insert-r-requires t c = (omega arith, (search down_ready, omega arith, search down_some))
+pub insert_under-insert-requires : goal.insert_under-insert-requires
+insert_under-insert-requires t c = (omega arith, (search down_ready, omega arith, search down_some))
 
 pub insert_under-put-requires : goal.insert_under-put-requires
 insert_under-put-requires t c = (search up_len, search rules, search up_in)
@@ -14,8 +14,8 @@ insert_under-put-requires t c = (search up_len, search rules, search up_in)
 pub insert_under-halve-requires : goal.insert_under-halve-requires
 insert_under-halve-requires t c = (search up_open, search rules, search up_in, search up_full, search up_free, search up_out, search up_not_free)
 
-pub insert_under-returns-in-Kept : goal.insert_under-returns-in-Kept
-insert_under-returns-in-Kept t c = search up_kept
+pub insert_under-returns-in-None : goal.insert_under-returns-in-None
+insert_under-returns-in-None t c = search up_kept
 
-pub insert_under-returns-in-Over : goal.insert_under-returns-in-Over
-insert_under-returns-in-Over t c = search up_over
+pub insert_under-returns-in-Some : goal.insert_under-returns-in-Some
+insert_under-returns-in-Some t c = search up_over

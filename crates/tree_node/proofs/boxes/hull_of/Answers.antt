@@ -1,12 +1,9 @@
-use borrow.Author.Rules.{rules}
-use Rattle.tree_node.proofs.Hulls.{hull_step, hull_end, hull_all}
+use Rattle.std.proofs.Common.{arith}
+use Rattle.tree_node.proofs.Hulls.{hull_step, hull_end}
 use Rattle.tree_node.proofs.boxes.hull_of.Goals as goal
 
 pub loop-k-init : goal.loop-k-init
-loop-k-init c = (search rules, search hull_end)
+loop-k-init c = search hull_end
 
 pub loop-k-preserved : goal.loop-k-preserved
-loop-k-preserved c = (search rules, search hull_step)
-
-pub returns : goal.returns
-returns c = search hull_all
+loop-k-preserved c = hull_step _ _ c.loop-k.k _ _ _ (omega arith) (omega arith) c.entry_at-e.ensures c.loop-k.invariant c.grown-f.ensures

@@ -2,17 +2,17 @@ use native.Mathlib.Omega.{arith}
 use Rattle.tree_node.proofs.Heading.{small_levels, small_root, empty_headed, top_headed}
 use Rattle.tree_node.proofs.header.store_root.Goals as goal
 
-pub overflow_add-g : goal.overflow_add-g
-overflow_add-g c = omega (arith, small_levels _ _ _ c.in-Top.is c.requires.1)
+pub overflow_add-top : goal.overflow_add-top
+overflow_add-top c = omega (arith, small_levels _ _ c.in-Some.is c.requires.1)
 
-pub overflow_cast-g : goal.overflow_cast-g
-overflow_cast-g c = omega (arith, small_levels _ _ _ c.in-Top.is c.requires.1)
+pub overflow_cast-top : goal.overflow_cast-top
+overflow_cast-top c = omega (arith, small_levels _ _ c.in-Some.is c.requires.1)
 
-pub overflow_cast-n : goal.overflow_cast-n
-overflow_cast-n c = search small_root
+pub overflow_cast-top-in-Some : goal.overflow_cast-top-in-Some
+overflow_cast-top-in-Some c = search small_root
 
-pub returns-in-Empty : goal.returns-in-Empty
-returns-in-Empty c = search empty_headed
+pub returns-in-None : goal.returns-in-None
+returns-in-None c = search empty_headed
 
-pub returns-in-Top : goal.returns-in-Top
-returns-in-Top c = search top_headed
+pub returns-in-Some : goal.returns-in-Some
+returns-in-Some c = search top_headed

@@ -1,15 +1,6 @@
-use Prim.Native.Nat.{◌-◌}
-use Rattle.tree_remove.proofs.Finding.{passed_none, passed_one, first_here, first_none}
+use Rattle.std.proofs.Common.{rules}
+use Rattle.tree_remove.proofs.Finding.{next_told}
 use Rattle.tree_remove.proofs.take.next_equal.Goals as goal
 
-pub loop-i-init : goal.loop-i-init
-loop-i-init c = search passed_none
-
-pub returns-then-same : goal.returns-then-same
-returns-then-same c = search first_here
-
-pub loop-i-preserved : goal.loop-i-preserved
-loop-i-preserved c = search passed_one
-
 pub returns : goal.returns
-returns c = search first_none
+returns c = next_told _ _ (λ f t r. search rules) _ _ _ c.next_where.ensures
