@@ -14,7 +14,6 @@ use Rattle.words.specs.Words.{word_at, put_word, Only}
 use Rattle.words.proofs.Frame.{only_put_word, word_put_word, word_low, word_high}
 use Rattle.table_header.specs.Layout.{layout_start, layout_number}
 use Rattle.std.specs.Prelude.{None}
-use Rattle.tree_node.specs.declared.Top.{Top}
 use Rattle.tree_node.specs.Layout.{tree_start, free_start, stack_start, up_to}
 use Rattle.tree_node.specs.Free.{numbers, free}
 use Rattle.tree_node.specs.Header.{root_of, root_in}

@@ -9,9 +9,9 @@ use lib.ListN.{length, get_or, set}
 use Rattle.limits.specs.Limits.{max_nodes, max_levels}
 use Rattle.grid.specs.Says.{Says}
 use Rattle.grid.proofs.Says.{says_yes, says_no}
-use Rattle.std.specs.Prelude.{Option, None}
+use Rattle.std.specs.Prelude.{Option, None, Some}
 use Rattle.tree_node.specs.declared.Top.{Top}
-use Rattle.tree_node.specs.Header.{top, root_in}
+use Rattle.tree_node.specs.Header.{root_in}
 use Rattle.tree_node.specs.Node.{entries}
 use Rattle.tree_node.specs.Tally.{total, hit}
 use Rattle.tree_node.specs.Told.{Told}
@@ -33,9 +33,9 @@ root_none b o r s q z =
     (record { top = tt; low = tt; known = tt; fresh = fresh_none o (root_met b None) (λ m. refl) s.bits })
     (marked_none o (root_met b None) (λ m. refl)))
 
-pub root_top : (b : List ℕ) (g c : ℕ) (o o₁ : List ℕ) (r : Option Top) (u : Bool) → r ≡ top g c → r ≡ root_in b
-    → Told u (RootPass b (top g c) o) (Marked (root_met b (top g c)) o o₁) → Told u (RootPass b (root_in b) o) (Marked (root_met b (root_in b)) o o₁)
-root_top b g c o o₁ r u q z t = rw (← z, q) t
+pub root_top : (b : List ℕ) (x : Top) (o o₁ : List ℕ) (r : Option Top) (u : Bool) → r ≡ Some x → r ≡ root_in b
+    → Told u (RootPass b (Some x) o) (Marked (root_met b (Some x)) o o₁) → Told u (RootPass b (root_in b) o) (Marked (root_met b (root_in b)) o o₁)
+root_top b x o o₁ r u q z t = rw (← z, q) t
 
 -- as many entries as a root has to have
 module _ (b : List ℕ) (g c k : ℕ) (q : k ≡ length (entries b c)) where
@@ -51,63 +51,63 @@ module _ (b : List ℕ) (g c k : ℕ) (q : k ≡ length (entries b c)) where
   pub enough_two : 2 ≤ k → Enough b g c
   enough_two le = record { two = λ up. omega arith; one = omega arith }
 
--- the root c, as the code reads it
-module _ (b : List ℕ) (g c : ℕ) (o : List ℕ) where
-  top_node : RootPass b (top g c) o → RootNode (entries b) g c
+-- the root, as the code reads it
+module _ (b : List ℕ) (root : Top) (o : List ℕ) where
+  top_node : RootPass b (Some root) o → RootNode (entries b) root.height root.node
   unfolding RootSound
   top_node p = p.top
 
-  met_top : (m : ℕ) → root_met b (top g c) m ≡ hit m c + met b g (entries b c) m
+  met_top : (m : ℕ) → root_met b (Some root) m ≡ hit m root.node + met b root.height (entries b root.node) m
   unfolding root_met met asked_for tree_nodes tree_leaves nodes_at leaves_at total
   met_top m = omega arith
 
-  pub top_high : {B : Type 0} → max_levels ≤ g → Told false (RootPass b (top g c) o) B
+  pub top_high : {B : Type 0} → max_levels ≤ root.height → Told false (RootPass b (Some root) o) B
   unfolding Low
-  top_high le = told_no (λ p. let l : g + 1 ≤ max_levels = p.low in omega arith)
+  top_high le = told_no (λ p. let l : root.height + 1 ≤ max_levels = p.low in omega arith)
 
-  pub top_far : {B : Type 0} → max_nodes ≤ c → Told false (RootPass b (top g c) o) B
+  pub top_far : {B : Type 0} → max_nodes ≤ root.node → Told false (RootPass b (Some root) o) B
   top_far le = told_no (λ p. omega (arith, (top_node p).id))
 
-  pub top_few : {C : Type 0} (r : Bool) → Says r (Enough b g c) → r ≡ false → Told false (RootPass b (top g c) o) C
+  pub top_few : {C : Type 0} (r : Bool) → Says r (Enough b root.height root.node) → r ≡ false → Told false (RootPass b (Some root) o) C
   top_few r t z = told_no (λ p. says_no r t z (record { two = (top_node p).two; one = (top_node p).one }))
 
-  pub top_met : {B C : Type 0} (r : Bool) → c < max_nodes → Told r (get_or o c 0 ≡ 0) B → r ≡ false → Told false (RootPass b (top g c) o) C
+  pub top_met : {B C : Type 0} (r : Bool) → root.node < max_nodes → Told r (get_or o root.node 0 ≡ 0) B → r ≡ false → Told false (RootPass b (Some root) o) C
   top_met r lt t z =
       told_no
       (λ p.
       t.no z
       (fresh_at
-      (root_met b (top g c))
+      (root_met b (Some root))
       o
-      c
+      root.node
       (omega arith)
-      (omega (arith, met_top c, hit_same c c refl))
+      (omega (arith, met_top root.node, hit_same root.node root.node refl))
       p.fresh))
 
-  pub top_told : (r v u : Bool) (o₁ o₂ : List ℕ) → Prepared b o → g < max_levels → c < max_nodes → Says r (Enough b g c) → r ≡ true
-      → Told v (get_or o c 0 ≡ 0) (o₁ ≡ set o c 1) → v ≡ true
-      → Told u (Pass b g (entries b c) o₁) (Marked (met b g (entries b c)) o₁ o₂)
-      → Told u (RootPass b (top g c) o) (Marked (root_met b (top g c)) o o₂)
+  pub top_told : (r v u : Bool) (o₁ o₂ : List ℕ) → Prepared b o → root.height < max_levels → root.node < max_nodes → Says r (Enough b root.height root.node) → r ≡ true
+      → Told v (get_or o root.node 0 ≡ 0) (o₁ ≡ set o root.node 1) → v ≡ true
+      → Told u (Pass b root.height (entries b root.node) o₁) (Marked (met b root.height (entries b root.node)) o₁ o₂)
+      → Told u (RootPass b (Some root) o) (Marked (root_met b (Some root)) o o₂)
   unfolding RootSound tree_leaves leaves_at Low
   top_told r v u o₁ o₂ s low lt a y t w p =
       let z = t.yes w in
       let k = says_yes r a y in
-      let one : Marked (λ m. hit m c) o o₁ = marked_set o o₁ c s.room (omega arith) z.0 z.1 in
+      let one : Marked (λ m. hit m root.node) o o₁ = marked_set o o₁ root.node s.room (omega arith) z.0 z.1 in
       told_map
-      (λ (x : Pass b g (entries b c) o₁).
+      (λ (x : Pass b root.height (entries b root.node) o₁).
       record {
-        top = record { id = lt; two = k.two; one = k.one; most = eight b c; below = x.sound };
+        top = record { id = lt; two = k.two; one = k.one; most = eight b root.node; below = x.sound };
         low = omega arith;
         known = x.known;
-        fresh = fresh_both (λ m. hit m c) (met b g (entries b c)) (root_met b (top g c)) o o₁ met_top one x.fresh;
+        fresh = fresh_both (λ m. hit m root.node) (met b root.height (entries b root.node)) (root_met b (Some root)) o o₁ met_top one x.fresh;
       })
-      (λ (x : RootPass b (top g c) o).
+      (λ (x : RootPass b (Some root) o).
       record {
         sound = (top_node x).below;
         known = x.known;
-        fresh = fresh_then (λ m. hit m c) (met b g (entries b c)) (root_met b (top g c)) o o₁ met_top one x.fresh;
+        fresh = fresh_then (λ m. hit m root.node) (met b root.height (entries b root.node)) (root_met b (Some root)) o o₁ met_top one x.fresh;
       })
-      (marked_both (λ m. hit m c) (met b g (entries b c)) (root_met b (top g c)) o o₁ o₂ met_top one)
+      (marked_both (λ m. hit m root.node) (met b root.height (entries b root.node)) (root_met b (Some root)) o o₁ o₂ met_top one)
       p
 
 -- the marks after the tree

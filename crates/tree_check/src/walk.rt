@@ -1,9 +1,8 @@
 // The walk over the tree. "A node is read by reading its entries, and an entry above the leaves by reading its child
 // node": two functions that call each other, the height falling at each descent.
-ghost use Rattle.std.specs.Prelude.{[], ◌∷◌, ◌≡◌, ◌<◌, length};
+ghost use Rattle.std.specs.Prelude.{[], ◌∷◌, ◌≡◌, ◌<◌, length, Some};
 ghost use Rattle.limits.specs.Limits.{max_nodes, table_bytes};
 ghost use Rattle.grid.specs.Says.{Says};
-ghost use Rattle.tree_node.specs.declared.Root.{Root};
 ghost use Rattle.tree_node.specs.Header.{root_in};
 ghost use Rattle.tree_node.specs.Node.{entries};
 ghost use Rattle.tree_node.specs.Told.{Told};
@@ -12,7 +11,7 @@ ghost use Rattle.tree_check.specs.Walk.{met, Pass, Fits, Enough, root_met, RootP
 
 use crate::{hints, leaf_entry, marks};
 use limits::{MAX_LEVELS, MAX_NODES, MIN_ENTRIES};
-use tree_node::{NodeEntry, Root, boxes, header, pool};
+use tree_node::{NodeEntry, Top, boxes, header, pool};
 
 // Whether the leaf entry e is that of a record that has no mark yet. Marks the record.
 fn check_leaf(t: &[u8], e: NodeEntry, seen: &mut [u8]) -> bool
@@ -25,7 +24,7 @@ fn check_leaf(t: &[u8], e: NodeEntry, seen: &mut [u8]) -> bool
         Err(_) => false,
         Ok(k) => {
             let p = leaf_entry(table_sites::line(t, k));
-            if boxes::same(e, p) {
+            if e == p {
                 return marks::mark(seen, MAX_NODES + k);
             }
             false
@@ -43,7 +42,7 @@ fn fits(t: &[u8], e: NodeEntry) -> bool
         return false;
     }
     let f = boxes::hull_of(t, c);
-    boxes::same(e, f)
+    e == f
 }
 
 // Whether the entries of the leaf c pass. Marks their records.
@@ -126,21 +125,21 @@ fn enough(t: &[u8], g: usize, c: usize) -> bool
     true
 }
 
-// Whether the tree under the node c, whose entries stand at height g, passes. Marks what lies under it.
-fn check_top(t: &[u8], g: usize, c: usize, seen: &mut [u8]) -> bool
+// Whether the tree over r passes. Marks what lies under it.
+fn check_top(t: &[u8], r: Top, seen: &mut [u8]) -> bool
     requires { Prepared t.now seen.old }
-    ensures { Told result (RootPass t.now (Root.Top g c) seen.old)
-        (Marked (root_met t.now (Root.Top g c)) seen.old seen.new) }
+    ensures { Told result (RootPass t.now (Some r) seen.old)
+        (Marked (root_met t.now (Some r)) seen.old seen.new) }
 {
-    if MAX_LEVELS <= g {
+    if MAX_LEVELS <= r.height {
         return false;
     }
-    if MAX_NODES <= c {
+    if MAX_NODES <= r.node {
         return false;
     }
-    if enough(t, g, c) {
-        if marks::mark(seen, c) {
-            return check_node(t, g, c, seen);
+    if enough(t, r.height, r.node) {
+        if marks::mark(seen, r.node) {
+            return check_node(t, r.height, r.node, seen);
         }
     }
     false
@@ -153,7 +152,7 @@ pub fn check_root(t: &[u8], seen: &mut [u8]) -> bool
         (Marked (root_met t.now (root_in t.now)) seen.old seen.new) }
 {
     match header::read_root(t) {
-        Root::Empty => true,
-        Root::Top(g, c) => check_top(t, g, c, seen),
+        None => true,
+        Some(top) => check_top(t, top, seen),
     }
 }

@@ -1,7 +1,9 @@
 -- Answers that say whether something holds.
 -- Assumes nothing.
 use mathlib.Core.Path.{◌≡◌, sym}
-use mathlib.Core.Bool.{Bool, true, false}
+use mathlib.Core.Bool.{Bool, true, false, ◌&&◌}
+use lib.Dec.{eqb}
+use Rattle.std.proofs.Common.{rules}
 use Prim.Native.Nat.{ℕ}
 use native.Mathlib.Omega.{arith}
 use Rattle.tree_node.specs.declared.NodeEntry.{NodeEntry}
@@ -22,3 +24,8 @@ told_map f g k t = record { yes = λ q. (f (t.yes q).0, k (t.yes q).1); no = λ 
 -- two entries with the same six numbers are equal
 pub entry_eq : (a b : NodeEntry) → a.reference ≡ b.reference → a.west ≡ b.west → a.south ≡ b.south → a.east ≡ b.east → a.north ≡ b.north → a.spare ≡ b.spare → a ≡ b
 entry_eq a b r w s e n z = λ i. record { reference = r i; west = w i; south = s i; east = e i; north = n i; spare = z i }
+
+-- what the code's `==` of two entries says
+pub same_told : (a b : NodeEntry) (r : Bool)
+    → r ≡ eqb a.west b.west && (eqb a.south b.south && (eqb a.east b.east && (eqb a.north b.north && (eqb a.reference b.reference && eqb a.spare b.spare)))) → Told r (a ≡ b) (a ≡ b)
+same_told a b r q = search rules

@@ -44,14 +44,14 @@ module _ (t : List ℕ) (q : root_in t ≡ None) where
 
 -- a tree under the node n, whose entries stand at height g
 module _ (t : List ℕ) (g n : ℕ) (rt : Rooted (root_in t) t) (q : root_in t ≡ top g n) where
-  top : RootNode (entries t) g n
-  top = root_node g n t (subst (λ (x : Option Top). Rooted x t) q rt)
+  sound_top : RootNode (entries t) g n
+  sound_top = root_node g n t (subst (λ (x : Option Top). Rooted x t) q rt)
 
   pub top_readable : Readable t g n
-  top_readable = record { len = rt.len; id = top.id; sound = top.below }
+  top_readable = record { len = rt.len; id = sound_top.id; sound = sound_top.below }
 
   pub top_some : 0 < length (entries t n)
-  top_some = omega (arith, top.one)
+  top_some = omega (arith, sound_top.one)
 
   top_leaves : leaves_in t ≡ under t g (entries t n)
   unfolding leaves_in tree_leaves leaves_at

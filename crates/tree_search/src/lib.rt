@@ -18,7 +18,6 @@ ghost use Rattle.tree_search.specs.Sites.{LeafPoint};
 ghost use Rattle.tree_search.specs.Searching.{ListsTree};
 
 use grid::Leg;
-use tree_node::Root;
 
 // Makes the list of the tree's sites in the row that begins the work buffer.
 pub fn search(t: &[u8], leg: Leg, work: &mut [u8]) -> usize
@@ -27,12 +26,11 @@ pub fn search(t: &[u8], leg: Leg, work: &mut [u8]) -> usize
     requires leg_on_grid { LegOnGrid leg × (row_bytes ≤ length work.old) }
     ensures { ListsTree leg t.now work.old work.new result }
 {
-    let root = tree_node::header::read_root(t);
-    match root {
-        Root::Empty => 0,
-        Root::Top(g, n) => {
+    match tree_node::header::read_root(t) {
+        None => 0,
+        Some(top) => {
             let edge = list_skip::no_edge();
-            descent::search_node(t, leg, g, n, work, 0, 0, edge)
+            descent::search_node(t, leg, top.height, top.node, work, 0, 0, edge)
         }
     }
 }

@@ -1,6 +1,5 @@
 use native.Mathlib.Omega.{arith}
 use mathlib.Core.Path.{refl}
-use Prim.Native.Nat.{◌-◌}
 use lib.ListN.{length-set}
 use Rattle.table_empty.proofs.Laying.{clear_next, clear_all}
 use Rattle.table_empty.proofs.clear.Goals as goal

@@ -1,5 +1,4 @@
 use borrow.Author.Rules.{rules}
-use Prim.Native.Nat.{◌-◌}
 use Rattle.table_empty.proofs.Laying.{stacking_none, stacking_one, stacking_all}
 use Rattle.table_empty.proofs.stack_all.Goals as goal
 

@@ -1,4 +1,3 @@
-use Prim.Native.Nat.{◌-◌}
 use Rattle.tree_check.proofs.Stack.{tested_none, tested_one, tested_far, tested_met, tested_all}
 use Rattle.tree_check.proofs.free.check_free.Goals as goal
 

@@ -1,4 +1,3 @@
-use Prim.Native.Nat.{◌-◌}
 use Rattle.tree_check.proofs.Marking.{cleared_none, cleared_one, cleared_all}
 use Rattle.tree_check.proofs.marks.clear.Goals as goal
 

@@ -1,4 +1,3 @@
-use Prim.Native.Nat.{◌-◌}
 use borrow.Author.Rules.{rules}
 use Rattle.tree_check.proofs.Marking.{least_none, least_one, least_told}
 use Rattle.tree_check.proofs.marks.full.Goals as goal

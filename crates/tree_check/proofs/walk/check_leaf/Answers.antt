@@ -1,3 +1,4 @@
+use Rattle.tree_node.proofs.Telling.{same_told}
 use Rattle.tree_check.proofs.Passing.{leaf_absent, leaf_in, leaf_other, leaf_told}
 use borrow.Author.Rules.{rules}
 use Rattle.tree_check.proofs.walk.check_leaf.Goals as goal
@@ -11,11 +12,11 @@ overflow_add-k c = let lt = leaf_in _ _ _ _ c.find-f.ensures c.in-Ok.is c.requir
 pub mark-requires : goal.mark-requires
 mark-requires c = let lt = leaf_in _ _ _ _ c.find-f.ensures c.in-Ok.is c.requires.array in search rules
 
-pub returns-then-same : goal.returns-then-same
-returns-then-same c = search leaf_told
+pub returns-then-eq : goal.returns-then-eq
+returns-then-eq c = let t = same_told c.args.e c.leaf_entry-p.result _ c.eq.ensures in search leaf_told
 
 pub returns-in-Err : goal.returns-in-Err
 returns-in-Err c = search leaf_absent
 
-pub returns-else-same : goal.returns-else-same
-returns-else-same c = search leaf_other
+pub returns-else-eq : goal.returns-else-eq
+returns-else-eq c = let t = same_told c.args.e c.leaf_entry-p.result _ c.eq.ensures in search leaf_other

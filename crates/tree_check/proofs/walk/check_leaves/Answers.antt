@@ -1,4 +1,3 @@
-use Prim.Native.Nat.{◌-◌}
 use Rattle.tree_check.proofs.Passing.{left_all, left_none, left_no, left_next}
 use Rattle.tree_check.proofs.walk.check_leaves.Goals as goal
 

@@ -3,11 +3,11 @@ use Rattle.tree_check.proofs.RootPassing.{top_high, top_far, top_few, top_met, t
 use borrow.Author.Rules.{rules}
 use Rattle.tree_check.proofs.walk.check_top.Goals as goal
 
-pub returns-then-g-ge-MAX_LEVELS : goal.returns-then-g-ge-MAX_LEVELS
-returns-then-g-ge-MAX_LEVELS c = search top_high
+pub returns-then-r-ge-MAX_LEVELS : goal.returns-then-r-ge-MAX_LEVELS
+returns-then-r-ge-MAX_LEVELS c = search top_high
 
-pub returns-then-c-ge-MAX_NODES : goal.returns-then-c-ge-MAX_NODES
-returns-then-c-ge-MAX_NODES c = search top_far
+pub returns-then-r-ge-MAX_NODES : goal.returns-then-r-ge-MAX_NODES
+returns-then-r-ge-MAX_NODES c = search top_far
 
 pub check_node-requires : goal.check_node-requires
 check_node-requires c = (search prepared_one, search rules)

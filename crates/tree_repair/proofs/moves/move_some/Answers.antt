@@ -1,4 +1,3 @@
-use Prim.Native.Nat.{◌-◌}
 use borrow.Author.Rules.{rules}
 use Rattle.tree_repair.proofs.Moving.{moved_none, moved_next, moved_len, moved_some, moved_room, moved_all}
 use Rattle.tree_repair.proofs.moves.move_some.Goals as goal
