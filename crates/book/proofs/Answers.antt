@@ -23,7 +23,8 @@ use Rattle.book.specs.declared.Command.{Command}
 use Rattle.book.specs.declared.Command.TheVariants.{Add, Remove, Move, List as ListOf, Stand, Print, Begin, Corner}
 use Rattle.book.specs.declared.Cause.{Cause}
 use Rattle.book.specs.declared.Cause.TheVariants.{NumberZero, OffGrid, Held, NotHeld, Full, NoSite, NoLeg, NoTour, NotFinite}
-use Rattle.book.specs.Tour.{Tour, leg_to, tour_leg, remembered, left_out}
+use Rattle.book.specs.declared.Tour.{Tour}
+use Rattle.book.specs.Tour.{leg_to, tour_leg, remembered, left_out}
 use Rattle.book.specs.Book.{Book, sites_of, list_of, holds, change}
 use Rattle.book.specs.Reply.{Reply, done, refused, listed}
 use Rattle.book.specs.Answer.{Test, off_grid, leg_off_grid, legless, tourless, tests, first_cause, accepted, answer}

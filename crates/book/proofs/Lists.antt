@@ -24,7 +24,8 @@ use Rattle.records.proofs.Length.{record_length}
 use Rattle.records.proofs.ReadBack.{EntrySmall, read_front, read_record_lem}
 use Rattle.book.specs.declared.Command.{Command}
 use Rattle.book.specs.declared.Command.TheVariants.{Add, Remove, Move, List as ListOf, Stand, Print, Begin, Corner}
-use Rattle.book.specs.Tour.{Tour, leg_to, tour_leg, remembered, left_out, last_number}
+use Rattle.book.specs.declared.Tour.{Tour}
+use Rattle.book.specs.Tour.{leg_to, tour_leg, remembered, left_out, last_number}
 use Rattle.book.specs.Book.{Book, sites_of}
 use Rattle.book.specs.Proper.{LegOk, LastHeld, TourOk, Proper}
 use Rattle.book.specs.Reply.{Reply, done, refused, listed, record_of, record_size}

@@ -14,7 +14,8 @@ use Rattle.split.proofs.Exists.{split_is}
 use Rattle.records.specs.Decode.{Listed, listed_of}
 use Rattle.book.specs.declared.Command.{Command}
 use Rattle.book.specs.declared.Command.TheVariants.{Add, Remove, Move, List as ListOf, Stand, Print, Begin, Corner}
-use Rattle.book.specs.Tour.{Tour, leg_to, tour_leg, last_number, left_out, goes_on}
+use Rattle.book.specs.declared.Tour.{Tour}
+use Rattle.book.specs.Tour.{leg_to, tour_leg, last_number, left_out, goes_on}
 use Rattle.book.specs.Book.{Book, sites_of, list_of, change}
 use Rattle.book.specs.Proper.{TourFits, TourOk, Proper}
 use Rattle.book.specs.Reply.{Reply, done, refused, listed}

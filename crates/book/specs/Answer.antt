@@ -16,7 +16,8 @@ use Rattle.book.specs.declared.Command.TheVariants.{Begin, Corner}
 use Rattle.book.specs.declared.Cause.{Cause}
 use Rattle.book.specs.declared.Cause.TheVariants.{NumberZero, OffGrid, Held, NotHeld, Full}
 use Rattle.book.specs.declared.Cause.TheVariants.{NoSite, NoLeg, NoTour, NotFinite}
-use Rattle.book.specs.Tour.{Tour, tour_leg, remembered, left_out}
+use Rattle.book.specs.declared.Tour.{Tour}
+use Rattle.book.specs.Tour.{tour_leg, remembered, left_out}
 use Rattle.book.specs.Book.{Book, sites_of, list_of, standing_list, holds, change}
 use Rattle.book.specs.Reply.{Reply, done, refused, listed}
 

@@ -10,7 +10,8 @@ use Rattle.readings.specs.Location.{placed}
 use Rattle.split.specs.SplitList.{Entry}
 use Rattle.split.specs.SplitOf.{split_of}
 use Rattle.book.specs.declared.Command.{Command}
-use Rattle.book.specs.Tour.{Tour, tour_leg, begun, goes_on}
+use Rattle.book.specs.declared.Tour.{Tour}
+use Rattle.book.specs.Tour.{tour_leg, begun, goes_on}
 use Rattle.book.specs.declared.Command.TheVariants.{Add, Remove, Move, List as ListOf, Stand, Print}
 use Rattle.book.specs.declared.Command.TheVariants.{Begin, Corner}
 

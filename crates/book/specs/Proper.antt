@@ -8,7 +8,7 @@ use Rattle.grid.specs.declared.Site.{Site}
 use Rattle.grid.specs.declared.Leg.{Leg}
 use Rattle.grid.specs.Position.{OnGrid, LegOnGrid}
 use Rattle.split.specs.SplitList.{SitesOnGrid}
-use Rattle.book.specs.Tour.{Tour}
+use Rattle.book.specs.declared.Tour.{Tour}
 use Rattle.book.specs.Book.{Book, sites_of, holds}
 
 -- numbers rise strictly, so that none is held twice

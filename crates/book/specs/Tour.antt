@@ -1,15 +1,10 @@
--- A tour: "Dispatchers drive a tour corner by corner." Document 02, C-13.
+-- A tour: "Dispatchers drive a tour corner by corner." Document 02, C-13. `Tour` is the code's own struct (src/lib.rt).
 -- Assumes nothing.
 use Rattle.std.specs.Prelude.{List, [], ◌∷◌, cond, ℕ, eqb, Option, None, Some}
 use Rattle.grid.specs.declared.Position.{Position}
 use Rattle.grid.specs.declared.Leg.{Leg}
 use Rattle.split.specs.SplitList.{Entry}
-
--- the last corner, and the number of "the site that ended the previous leg's whole list in this tour", none before the
--- first leg
-pub record Tour : Type 0 where
-  pub corner : Position
-  pub last : Option ℕ
+use Rattle.book.specs.declared.Tour.{Tour}
 
 -- "the leg from the last corner to this one"
 abbrev pub leg_to : Tour → Position → Leg

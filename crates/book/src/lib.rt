@@ -31,6 +31,14 @@ pub enum Shape {
     NumberReadings,
 }
 
+// A tour: the last corner, and the number of "the site that ended the previous leg's whole list in this tour", none
+// before the first leg. Document 02, C-13.
+#[derive(Clone, Copy)]
+pub struct Tour {
+    pub corner: Position,
+    pub last: Option<u16>,
+}
+
 // What stands at a byte of the commands: their end, no command, a command that is cut short, or a whole one and where
 // the next begins.
 #[derive(Clone, Copy)]

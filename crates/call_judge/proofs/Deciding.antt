@@ -4,7 +4,6 @@ use mathlib.Core.Path.{◌≡◌, refl, sym, ap, subst, subst⁻¹, ◌∙◌}
 use mathlib.Core.Logic.{◌≢◌}
 use mathlib.Core.Bool.{Bool, true, false, cond}
 use mathlib.Core.List.{List}
-use Rattle.std.specs.Prelude.{Some}
 use Prim.Native.Nat.{ℕ, ◌<◌, ◌≤◌}
 use native.Mathlib.Omega.{arith}
 use Rattle.limits.specs.Limits.{max_sites}
@@ -28,9 +27,8 @@ use Rattle.book.specs.Reply.{refused, listed}
 use Rattle.book.specs.Answer.{answer}
 use Rattle.book.proofs.Answers.{answer_add_zero, answer_add_not_finite, answer_add_off, answer_add_held, answer_add_full, answer_add_done, answer_remove_zero, answer_remove_absent, answer_remove_done, answer_move_zero, answer_move_not_finite, answer_move_off, answer_move_absent, answer_move_done, answer_list_off, answer_list_empty, answer_list_done, answer_stand_off, answer_stand_done, answer_print_legless, answer_print_empty, answer_print_done, same_add, same_move}
 use Rattle.split.specs.SplitOf.{split_of}
-use Rattle.table_header.specs.declared.Standing.{Standing}
-use Rattle.table_header.specs.Header.{count_in, leg_in, as_option}
-use Rattle.std.specs.Prelude.{Result, Ok, Err}
+use Rattle.table_header.specs.Header.{count_in, leg_in}
+use Rattle.std.specs.Prelude.{Option, None, Some, Result, Ok, Err}
 use Rattle.table_sites.specs.Lines.{lines_in, FoundAs}
 use Rattle.table_sites.proofs.Reading.{lines_length}
 use Rattle.table_sites.proofs.Finding.{found_at, found_absent, at_held, absent_held}
@@ -288,12 +286,12 @@ module _ (b : List ℕ) (l : Leg) (e : leg_in b ≡ Some l) where
   pub stored_done : (w : List ℕ) (m k : ℕ) → Sound b → m ≡ count_in b → m ≢ 0 → ListsTable l b w k → Decided (Verdict.Show l k) Print b w
   stored_done w m k t c z f = shown b w Print l k (subst LegOk e t.standing.leg) f (answer_print_done (book_of b) l e (λ x. z (c ∙ sym (lines_length b) ∙ x))) refl
 
-module _ (b : List ℕ) (s : Standing) (q : as_option s ≡ leg_in b) where
-  pub print_unset : (w : List ℕ) → s ≡ Standing.Unset → Decided (Verdict.Refuse NoLeg) Print b w
-  print_unset w u = refusal b Print NoLeg (answer_print_legless (book_of b) (sym q ∙ ap as_option u)) w
+module _ (b : List ℕ) (s : Option Leg) (q : s ≡ leg_in b) where
+  pub print_unset : (w : List ℕ) → s ≡ None → Decided (Verdict.Refuse NoLeg) Print b w
+  print_unset w u = refusal b Print NoLeg (answer_print_legless (book_of b) (sym q ∙ u)) w
 
-  pub print_along : (l : Leg) → s ≡ Standing.Along l → leg_in b ≡ Some l
-  print_along l u = sym q ∙ ap as_option u
+  pub print_along : (l : Leg) → s ≡ Some l → leg_in b ≡ Some l
+  print_along l u = sym q ∙ u
 
 -- ---- all commands
 

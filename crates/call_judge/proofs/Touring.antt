@@ -26,15 +26,14 @@ use Rattle.list_row.specs.Entries.{row_entry, entries_from}
 use Rattle.list_row.proofs.Entries.{entries_one, entries_length}
 use Rattle.book.specs.declared.Cause.TheVariants.{OffGrid, NoSite, NoTour}
 use Rattle.book.specs.declared.Command.TheVariants.{Begin, Corner}
-use Rattle.book.specs.Tour.{Tour, last_number, left_out}
+use Rattle.book.specs.declared.Tour.{Tour}
+use Rattle.book.specs.Tour.{leg_to, last_number, left_out}
 use Rattle.book.specs.Proper.{TourOk}
 use Rattle.book.specs.Reply.{listed}
 use Rattle.book.proofs.Answers.{answer_begin_off, answer_begin_done, answer_corner_tourless, answer_corner_off, answer_corner_empty, answer_corner_done}
 use Rattle.book.proofs.ProperBooks.{proper_numbered}
 use Rattle.book.proofs.LegRecords.{opens_some}
-use Rattle.book.proofs.Lists.{first_held}
-use Rattle.table_header.specs.declared.Touring.{Touring}
-use Rattle.table_header.specs.Header.{count_in, site_number, tour_at, tour_in, touring_as}
+use Rattle.table_header.specs.Header.{count_in, tour_in}
 use Rattle.table_sites.specs.Lines.{lines_in}
 use Rattle.table_sites.proofs.Reading.{lines_length}
 use Rattle.table_rules.specs.Table.{book_of, Sound}
@@ -58,27 +57,18 @@ module _ (b : List ℕ) (p : Position) (q : Bool) (s : Says q (OnGrid p)) where
 
 -- ---- what is left out
 
-pub passed_one : (first last : ℕ) → first ≡ last → 1 ≡ passed_by first last
-passed_one first last e = rw (eq-eqb first last e) refl
-
-pub passed_none : (first last : ℕ) → first ≢ last → 0 ≡ passed_by first last
-passed_none first last e = rw (ne_eqb first last e) refl
-
--- so the record is what the book leaves, where the first number is no 0
-passed_left : (e : Entry) (es : List Entry) (last : ℕ) → e.site.number ≢ 0
-    → drop (passed_by e.site.number last) (e ∷ es) ≡ left_out (site_number last) (e ∷ es)
-passed_left e es last nz = zero? (eqb last 0) refl
+-- so the record is what the book leaves
+passed_left : (e : Entry) (es : List Entry) (last : Option ℕ) → drop (passed_by e.site.number last) (e ∷ es) ≡ left_out last (e ∷ es)
+passed_left e es None = refl
+passed_left e es (Some n) = by (eqb e.site.number n)
   where
     by : (c : Bool) → drop (cond c 1 0) (e ∷ es) ≡ cond c es (e ∷ es)
     by true = refl
     by false = refl
 
-    zero? : (c : Bool) → eqb last 0 ≡ c → drop (passed_by e.site.number last) (e ∷ es) ≡ left_out (cond c None (Some last)) (e ∷ es)
-    zero? true z = rw (ne_eqb e.site.number last (λ k. nz (k ∙ eqb-true last 0 z))) refl
-    zero? false z = by (eqb e.site.number last)
-
-passed_few : (first last k : ℕ) → 0 < k → passed_by first last ≤ k
-passed_few first last k h = go (eqb first last)
+passed_few : (first : ℕ) (last : Option ℕ) (k : ℕ) → 0 < k → passed_by first last ≤ k
+passed_few first None k h = omega arith
+passed_few first (Some n) k h = go (eqb first n)
   where
     go : (c : Bool) → cond c 1 0 ≤ k
     go true = omega arith
@@ -107,9 +97,12 @@ last_place l t r k i h g e = h.sites i (omega arith)
 
 -- ---- 43: the leg and its list are found
 
-module _ (b w : List ℕ) (l : Leg) (last k : ℕ) (s : Sound b) (runs : tour_in b ≡ Some (tour_at l.s last)) (on : OnGrid l.e) (f : ListsTable l b w k) where
+module _ (b w : List ℕ) (tour : Tour) (p : Position) (k : ℕ) (s : Sound b) (runs : tour_in b ≡ Some tour) (on : OnGrid p) (f : ListsTable (leg_to tour p) b w k) where
+  abbrev pub l : Leg
+  l = leg_to tour p
+
   -- the tour's corner is on the grid
-  from_grid : OnGrid l.s
+  from_grid : OnGrid tour.corner
   from_grid = (subst (λ (o : Option Tour). TourOk o (lines_in b)) runs s.whole.tour).on_grid
 
   -- a list over no site has no entry
@@ -120,17 +113,15 @@ module _ (b w : List ℕ) (l : Leg) (last k : ℕ) (s : Sound b) (runs : tour_in
       none_listed [] e = ap length (no_site_lem l)
       none_listed (x ∷ ss) e = absurd (omega arith)
 
-  module _ (first ending j : ℕ) (hf : first ≡ (site_at b (place_at w 0)).number) (he : ending ≡ (site_at b (place_at w (k - 1))).number) (hj : j ≡ passed_by first last) where
-    shown_as : (m : ℕ) → k ≡ suc m → entries_from l b w j k ≡ left_out (site_number last) (split_of l (lines_in b))
+  module _ (first ending j : ℕ) (hf : first ≡ (site_at b (place_at w 0)).number) (he : ending ≡ (site_at b (place_at w (k - 1))).number) (hj : j ≡ passed_by first tour.last) where
+    shown_as : (m : ℕ) → k ≡ suc m → entries_from l b w j k ≡ left_out tour.last (split_of l (lines_in b))
     shown_as m e =
         let (es, q) = first_in l b w m in
         let all : entries_in l b w k ≡ row_entry l b w 0 ∷ es = ap (entries_in l b w) e ∙ q in
         let whole : split_of l (lines_in b) ≡ row_entry l b w 0 ∷ es = sym f.list ∙ all in
-        let ok = sound_proper b s in
-        let least = first_held (book_of b) ok l (row_entry l b w 0) es whole in
-        (λ i. drop ((hj ∙ ap (λ (x : ℕ). passed_by x last) hf) i) (all i))
-        ∙ passed_left (row_entry l b w 0) es last (λ z. omega (arith, z, least))
-        ∙ ap (left_out (site_number last)) (sym whole)
+        (λ i. drop ((hj ∙ ap (λ (x : ℕ). passed_by x tour.last) hf) i) (all i))
+        ∙ passed_left (row_entry l b w 0) es tour.last
+        ∙ ap (left_out tour.last) (sym whole)
 
     last_as : (m : ℕ) → k ≡ suc m → last_number None (split_of l (lines_in b)) ≡ Some ending
     last_as m e =
@@ -138,32 +129,32 @@ module _ (b w : List ℕ) (l : Leg) (last k : ℕ) (s : Sound b) (runs : tour_in
         ap (last_number None) (sym f.list ∙ ap (entries_in l b w) e) ∙ last_in_lem l b w m
         ∙ ap (λ (x : ℕ). Some (site_at b (place_at w x)).number) c ∙ ap Some (sym he)
 
-    pub shown_done : 0 < k → Decided (Verdict.Follow l j ending k) (Corner l.e) b w
+    pub shown_done : 0 < k → Decided (Verdict.Follow l j ending k) (Corner p) b w
     shown_done h = by k refl
       where
-        by : (n : ℕ) → k ≡ n → Decided (Verdict.Follow l j ending k) (Corner l.e) b w
+        by : (n : ℕ) → k ≡ n → Decided (Verdict.Follow l j ending k) (Corner p) b w
         by zero e = absurd (omega arith)
         by (suc m) e =
             record {
               judged = record {
-                said = ap listed (shown_as m e) ∙ sym (answer_corner_done (book_of b) l.e (tour_at l.s last) runs on (site_held h));
-                row = (record { s = from_grid; e = on }, f.held, omega (arith, hj, passed_few first last k h));
+                said = ap listed (shown_as m e) ∙ sym (answer_corner_done (book_of b) p tour runs on (site_held h));
+                row = (record { s = from_grid; e = on }, f.held, omega (arith, hj, passed_few first tour.last k h));
               };
-              found = record { tour = tour_at l.s last; runs = runs; from = refl; on_grid = on; last = last_as m e };
+              found = record { tour = tour; runs = runs; from = refl; on_grid = on; last = last_as m e };
               command = refl;
             }
 
 -- ---- 43: position, site
 
-module _ (b : List ℕ) (corner : Position) (last : ℕ) (p : Position) (s : Sound b) (runs : tour_in b ≡ Some (tour_at corner last)) (q : Bool) (g : Says q (OnGrid p)) where
+module _ (b : List ℕ) (tour : Tour) (p : Position) (s : Sound b) (runs : tour_in b ≡ Some tour) (q : Bool) (g : Says q (OnGrid p)) where
   pub onward_off : (w : List ℕ) → q ≡ false → Decided (Verdict.Refuse OffGrid) (Corner p) b w
-  onward_off w e = refusal b (Corner p) OffGrid (answer_corner_off (book_of b) p (tour_at corner last) runs (says_no q g e)) w
+  onward_off w e = refusal b (Corner p) OffGrid (answer_corner_off (book_of b) p tour runs (says_no q g e)) w
 
   pub onward_none : (w : List ℕ) (m : ℕ) → q ≡ true → m ≡ count_in b → m ≡ 0 → Decided (Verdict.Refuse NoSite) (Corner p) b w
   onward_none w m y c z =
-      refusal b (Corner p) NoSite (answer_corner_empty (book_of b) p (tour_at corner last) runs (says_yes q g y) (lines_length b ∙ sym c ∙ z)) w
+      refusal b (Corner p) NoSite (answer_corner_empty (book_of b) p tour runs (says_yes q g y) (lines_length b ∙ sym c ∙ z)) w
 
-  pub onward_leg : q ≡ true → LegOnGrid (record { s = corner; e = p })
+  pub onward_leg : q ≡ true → LegOnGrid (leg_to tour p)
   onward_leg y =
       record { s = (subst (λ (o : Option Tour). TourOk o (lines_in b)) runs s.whole.tour).on_grid; e = says_yes q g y }
 
@@ -183,9 +174,9 @@ onward_some b w l m k f s c z = by k refl
 
 -- ---- 43: tour
 
-module _ (b : List ℕ) (p : Position) (r : Touring) (q : touring_as r ≡ tour_in b) where
-  pub corner_idle : (w : List ℕ) → r ≡ Touring.Idle → Decided (Verdict.Refuse NoTour) (Corner p) b w
-  corner_idle w u = refusal b (Corner p) NoTour (answer_corner_tourless (book_of b) p (sym q ∙ ap touring_as u)) w
+module _ (b : List ℕ) (p : Position) (r : Option Tour) (q : r ≡ tour_in b) where
+  pub corner_idle : (w : List ℕ) → r ≡ None → Decided (Verdict.Refuse NoTour) (Corner p) b w
+  corner_idle w u = refusal b (Corner p) NoTour (answer_corner_tourless (book_of b) p (sym q ∙ u)) w
 
-  pub corner_runs : (from : Position) (last : ℕ) → r ≡ Touring.From from last → tour_in b ≡ Some (tour_at from last)
-  corner_runs from last u = sym q ∙ ap touring_as u
+  pub corner_runs : (tour : Tour) → r ≡ Some tour → tour_in b ≡ Some tour
+  corner_runs tour u = sym q ∙ u

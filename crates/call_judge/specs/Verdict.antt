@@ -1,7 +1,7 @@
 -- What is to be done for a command, with what was found in the table. Document 01, "Tests in order" and "The site
 -- book".
 -- Assumes nothing.
-use Rattle.std.specs.Prelude.{◌≡◌, ◌≢◌, true, false, cond, List, ℕ, ◌<◌, length, eqb}
+use Rattle.std.specs.Prelude.{◌≡◌, ◌≢◌, true, false, cond, List, ℕ, ◌<◌, length, eqb, Option, None, Some}
 use Rattle.limits.specs.Limits.{max_sites}
 use Rattle.grid.specs.declared.Site.{Site}
 use Rattle.grid.specs.Position.{OnGrid, LegOnGrid}
@@ -100,5 +100,6 @@ TestedAs (Tested.Bad x) n l = BadFor x n l
 TestedAs (Tested.Good s) n l = GoodFor s n l
 
 -- how many entries are left out at the beginning of a list whose first entry names `first`, where `last` is remembered
-abbrev pub passed_by : ℕ → ℕ → ℕ
-passed_by first last = cond (eqb first last) 1 0
+abbrev pub passed_by : ℕ → Option ℕ → ℕ
+passed_by first None = 0
+passed_by first (Some last) = cond (eqb first last) 1 0

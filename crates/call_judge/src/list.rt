@@ -9,7 +9,6 @@ ghost use Rattle.call_judge.specs.Verdict.{Decided, Settled};
 use crate::Verdict;
 use book::Cause;
 use grid::Leg;
-use table_header::Standing;
 
 // A list: leg, site.
 pub fn list(t: &[u8], work: &mut [u8], leg: Leg) -> Verdict
@@ -55,9 +54,8 @@ pub fn print(t: &[u8], work: &mut [u8]) -> Verdict
     requires { Sound t.now × (row_bytes ≤ length work.old) }
     ensures { Decided result Command.Print t.now work.new }
 {
-    let s = table_header::leg(t);
-    match s {
-        Standing::Unset => Verdict::Refuse(Cause::NoLeg),
-        Standing::Along(leg) => stored(t, work, leg),
+    match table_header::leg(t) {
+        None => Verdict::Refuse(Cause::NoLeg),
+        Some(leg) => stored(t, work, leg),
     }
 }

@@ -16,7 +16,8 @@ use Rattle.records.specs.Decode.{read_record}
 use Rattle.book.specs.declared.Command.{Command}
 use Rattle.book.specs.declared.Command.TheVariants.{List as ListOf, Print, Corner}
 use Rattle.book.specs.declared.Reason.TheVariants.{AllUsed}
-use Rattle.book.specs.Tour.{Tour, leg_to, remembered, left_out}
+use Rattle.book.specs.declared.Tour.{Tour}
+use Rattle.book.specs.Tour.{leg_to, remembered, left_out}
 use Rattle.book.specs.Book.{sites_of}
 use Rattle.book.specs.Encode.{command_bytes}
 use Rattle.book.specs.Proper.{LegOk, TourFits, TourOk, Proper}

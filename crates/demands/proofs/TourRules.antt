@@ -9,7 +9,7 @@ use native.Mathlib.Omega.{arith}
 use lib.Dec.{eqb}
 use borrow.Author.Tests.{eqb-true}
 use Rattle.words.specs.Words.{word_at}
-use Rattle.book.specs.Tour.{Tour}
+use Rattle.book.specs.declared.Tour.{Tour}
 use Rattle.book.specs.Book.{sites_of}
 use Rattle.book.specs.Proper.{LastHeld, TourFits, TourOk}
 use Rattle.table_header.specs.Layout.{tour_start, corner_start, last_start}

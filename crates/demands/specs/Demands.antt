@@ -23,7 +23,8 @@ use Rattle.book.specs.declared.Command.{Command}
 use Rattle.book.specs.declared.Command.TheVariants.{Add, Remove, List as ListOf, Print, Corner}
 use Rattle.book.specs.declared.Reason.{Reason}
 use Rattle.book.specs.Numbers.{reason_number}
-use Rattle.book.specs.Tour.{Tour, leg_to}
+use Rattle.book.specs.declared.Tour.{Tour}
+use Rattle.book.specs.Tour.{leg_to}
 use Rattle.book.specs.Book.{Book, empty_book, sites_of, standing_list}
 use Rattle.book.specs.Encode.{command_bytes}
 use Rattle.permutation.specs.Perm.{Perm}

@@ -4,7 +4,7 @@
 use Rattle.std.specs.Prelude.{◌≡◌, ◌≢◌, false, List, ℕ, ◌≤◌, ◌<◌, get_or, None, Some}
 use Rattle.words.specs.Words.{word_at}
 use Rattle.grid.specs.Position.{OnGrid}
-use Rattle.book.specs.Tour.{Tour}
+use Rattle.book.specs.declared.Tour.{Tour}
 use Rattle.book.specs.Book.{sites_of, holds}
 use Rattle.table_header.specs.Layout.{tour_start, corner_start, tour_end, kept_start, kept_end}
 use Rattle.table_header.specs.Header.{tour_in}

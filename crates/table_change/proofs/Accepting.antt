@@ -19,14 +19,15 @@ use Rattle.split.specs.SplitOf.{split_of}
 use Rattle.split.proofs.Exists.{split_is}
 use Rattle.readings.specs.declared.Location.TheVariants.{InSteps}
 use Rattle.book.specs.declared.Command.TheVariants.{Add, Remove, Move, Stand, Begin, Corner}
-use Rattle.book.specs.Tour.{Tour, tour_leg, cornered, goes_on}
+use Rattle.book.specs.declared.Tour.{Tour}
+use Rattle.book.specs.Tour.{tour_leg, begun, cornered, goes_on}
 use Rattle.book.specs.Book.{with_lines, with_tour, write_line, strike_line, move_line, holds, list_of, change}
 use Rattle.book.specs.Proper.{LegOk, LastHeld, TourOk}
 use Rattle.book.proofs.Lines.{strike_none, holds_strike, holds_member}
 use Rattle.book.proofs.ProperBooks.{proper_numbered}
 use Rattle.book.proofs.Lists.{last_held}
 use Rattle.table_header.specs.Layout.{layout_start, flag_start, leg_start, length_start, tour_start, corner_start, tour_end}
-use Rattle.table_header.specs.Header.{leg_in, length_in, site_number, tour_at, tour_in, ZeroFrom, LegStored, TourStored}
+use Rattle.table_header.specs.Header.{leg_in, length_in, tour_in, ZeroFrom, LegStored, TourStored}
 use Rattle.table_sites.specs.Lines.{lines_in, StandsAt, StandsNowhere}
 use Rattle.table_standing.specs.Standing.{standing_in, numbers_of}
 use Rattle.tree_node.specs.Layout.{tree_start}
@@ -215,9 +216,9 @@ stored_alone b b₀ o st = st.only
 
 module _ (b b₀ : List ℕ) (s : Sound b) where
   -- BEGUN
-  pub begin_done : (p : Position) → OnGrid p → TourStored (Some (tour_at p 0)) b b₀ → Holds b₀ (change (Begin p) (book_of b))
+  pub begin_done : (p : Position) → OnGrid p → TourStored (Some (begun p)) b b₀ → Holds b₀ (change (Begin p) (book_of b))
   unfolding change
-  begin_done p on st = toured_holds b b₀ (Some (tour_at p 0)) s.whole st s.standing (record { on_grid = on; held = tt })
+  begin_done p on st = toured_holds b b₀ (Some (begun p)) s.whole st s.standing (record { on_grid = on; held = tt })
 
   module _ (l : Leg) (n : ℕ) (f : Follows l n b) where
     -- the last site of the leg's list is held
@@ -227,21 +228,21 @@ module _ (b b₀ : List ℕ) (s : Sound b) where
         (last_held l (lines_in b) None (split_of l (lines_in b)) (split_is l (lines_in b) (proper_numbered (book_of b) (sound_proper b s))).rules tt)
 
     -- so it has a number
-    last_number_lem : site_number n ≡ Some n
-    last_number_lem =
+    pub last_numbered : 0 < n
+    last_numbered =
         let h = holds_member n (lines_in b) held_last in
-        rw (ne_eqb n 0 (λ z. omega (arith, h.named, (s.whole.sites.numbers h.line h.held).least))) refl
+        omega (arith, h.named, (s.whole.sites.numbers h.line h.held).least)
 
-    goes_on_lem : goes_on (tour_in b) l.e (list_of (tour_leg (tour_in b) l.e) (lines_in b)) ≡ Some (tour_at l.e n)
+    goes_on_lem : goes_on (tour_in b) l.e (list_of (tour_leg (tour_in b) l.e) (lines_in b)) ≡ Some (record { corner = l.e; last = Some n })
     goes_on_lem =
         ap (λ (o : Option Tour). goes_on o l.e (list_of (tour_leg o l.e) (lines_in b))) f.runs
         ∙ (λ i. Some (cornered l.e (split_of (record { s = f.from i; e = l.e }) (lines_in b))))
-        ∙ ap (λ (o : Option ℕ). Some (record { corner = l.e; last = o })) (f.last ∙ sym last_number_lem)
+        ∙ ap (λ (o : Option ℕ). Some (record { corner = l.e; last = o })) f.last
 
     -- GONE ON
-    pub follow_done : TourStored (Some (tour_at l.e n)) b b₀ → Holds b₀ (change (Corner l.e) (book_of b))
+    pub follow_done : TourStored (Some (record { corner = l.e; last = Some n })) b b₀ → Holds b₀ (change (Corner l.e) (book_of b))
     unfolding change
     follow_done st =
         subst⁻¹ (λ (o : Option Tour). Holds b₀ (with_tour o (book_of b))) goes_on_lem
-        (toured_holds b b₀ (Some (tour_at l.e n)) s.whole st s.standing
-        (record { on_grid = f.on_grid; held = rw last_number_lem held_last }))
+        (toured_holds b b₀ (Some (record { corner = l.e; last = Some n })) s.whole st s.standing
+        (record { on_grid = f.on_grid; held = held_last }))

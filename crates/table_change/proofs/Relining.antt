@@ -15,7 +15,7 @@ use Rattle.words.proofs.Frame.{only_trans}
 use Rattle.grid.specs.declared.Position.{Position}
 use Rattle.grid.specs.declared.Site.{Site}
 use Rattle.grid.specs.Position.{OnGrid}
-use Rattle.book.specs.Tour.{Tour}
+use Rattle.book.specs.declared.Tour.{Tour}
 use Rattle.book.specs.Book.{write_line, strike_line, move_line}
 use Rattle.book.specs.Proper.{Rising, NumberOk, TourOk}
 use Rattle.book.proofs.Lines.{site_as, write_before, write_past, move_is}

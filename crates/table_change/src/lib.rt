@@ -21,6 +21,7 @@ ghost use Rattle.tree_node.specs.Header.{root_in};
 ghost use Rattle.tree_rules.specs.Rooted.{Rooted, leaves_in};
 ghost use Rattle.table_change.specs.Changes.{Swapped, Relined};
 
+use book::Tour;
 use grid::{Leg, Position, Site};
 use tree_check::leaf_entry;
 use tree_node::NodeEntry;
@@ -79,7 +80,7 @@ pub fn insert(t: &mut [u8], work: &mut [u8], k: usize, site: Site)
     ensures { Holds t.new
         (change (Command.Add site.number (Location.InSteps site.position)) (book_of t.old)) }
 {
-    table_header::end_tour(t);
+    table_header::store_tour(t, None);
     grow(t, k, site);
     let n = site.number;
     table_patch::patch_held(t, work, n, k);
@@ -90,7 +91,7 @@ pub fn delete(t: &mut [u8], work: &mut [u8], k: usize, n: u16)
     requires { Sound t.old × StandsAt k n (lines_in t.old) × (row_bytes ≤ length work.old) }
     ensures { Holds t.new (change (Command.Remove n) (book_of t.old)) }
 {
-    table_header::end_tour(t);
+    table_header::store_tour(t, None);
     shrink(t, k, n);
     table_patch::patch_gone(t, work, n);
 }
@@ -102,7 +103,7 @@ pub fn place(t: &mut [u8], work: &mut [u8], k: usize, site: Site)
     ensures { Holds t.new
         (change (Command.Move site.number (Location.InSteps site.position)) (book_of t.old)) }
 {
-    table_header::end_tour(t);
+    table_header::store_tour(t, None);
     relocate(t, k, site);
     let n = site.number;
     table_patch::patch_held(t, work, n, k);
@@ -123,7 +124,13 @@ pub fn begin(t: &mut [u8], p: Position)
     ensures { Holds t.new (change (Command.Begin p) (book_of t.old))
         × Only tour_start tour_end t.old t.new }
 {
-    table_header::store_tour(t, p, 0);
+    table_header::store_tour(
+        t,
+        Some(Tour {
+            corner: p,
+            last: None,
+        }),
+    );
 }
 
 // Goes on with the tour along this leg, whose whole list ends with site n. Document 02, C-13, command 43.
@@ -132,6 +139,11 @@ pub fn follow(t: &mut [u8], leg: Leg, n: u16)
     ensures { Holds t.new (change (Command.Corner leg.e) (book_of t.old))
         × Only tour_start tour_end t.old t.new }
 {
-    let p = leg.e;
-    table_header::store_tour(t, p, n);
+    table_header::store_tour(
+        t,
+        Some(Tour {
+            corner: leg.e,
+            last: Some(n),
+        }),
+    );
 }

@@ -17,15 +17,13 @@ use Rattle.grid.specs.Position.{OnGrid, LegOnGrid}
 use Rattle.grid.specs.Says.{Says}
 use Rattle.grid.proofs.Says.{says_yes, says_no, says_map}
 use Rattle.list_row.specs.Vertices.{entries_in}
-use Rattle.book.specs.Book.{sites_of, list_of, standing_list}
-use Rattle.book.specs.Tour.{Tour}
+use Rattle.book.specs.Book.{sites_of, holds, list_of, standing_list}
+use Rattle.book.specs.declared.Tour.{Tour}
 use Rattle.book.specs.Proper.{LegOk, LastHeld, TourOk}
-use Rattle.table_header.specs.declared.Standing.{Standing}
-use Rattle.table_header.specs.declared.Touring.{Touring}
-use Rattle.table_header.specs.Header.{leg_in, HeaderOk, as_option, length_in, site_number, tour_at, tour_in, touring_as}
-use Rattle.std.specs.Prelude.{Result, Ok, Err}
+use Rattle.table_header.specs.Header.{leg_in, HeaderOk, length_in, tour_in}
+use Rattle.std.specs.Prelude.{Result, Ok, Err, is_ok}
 use Rattle.table_sites.specs.Lines.{lines_in, Array, FoundAs}
-use Rattle.table_sites.proofs.Finding.{found_at, found_absent, at_held, absent_held}
+use Rattle.table_sites.proofs.Finding.{at_held, absent_held}
 use Rattle.table_sites.specs.Rules.{SitesOk}
 use Rattle.table_sites.proofs.Kept.{sites_array}
 use Rattle.table_standing.specs.Layout.{list_start}
@@ -37,13 +35,13 @@ use Rattle.table_rules.specs.Listing.{ListsTable}
 
 -- ---- the standing leg and list
 
-module _ (b : List ℕ) (s : Standing) (w : Whole b) (q : as_option s ≡ leg_in b) where
-  pub unset_says : (n : ℕ) → s ≡ Standing.Unset → n ≡ length_in b → Says (eqb n 0) (StandingOk b)
+module _ (b : List ℕ) (s : Option Leg) (w : Whole b) (q : s ≡ leg_in b) where
+  pub unset_says : (n : ℕ) → s ≡ None → n ≡ length_in b → Says (eqb n 0) (StandingOk b)
   unfolding standing_in words_from numbers_of
   unset_says n u e = go (eqb n 0) refl
     where
       leg : leg_in b ≡ None
-      leg = sym q ∙ ap as_option u
+      leg = sym q ∙ u
 
       list : numbers_of (standing_list (book_of b)) ≡ []
       list = ap (λ (o : Option Leg). numbers_of (list_of o (sites_of (book_of b)))) leg
@@ -56,9 +54,9 @@ module _ (b : List ℕ) (s : Standing) (w : Whole b) (q : as_option s ≡ leg_in
           }
       go false z = λ x. eqb-false n 0 z (e ∙ (omega (arith, standing_length b, ap length (x.list ∙ list))))
 
-  module _ (l : Leg) (a : s ≡ Standing.Along l) where
+  module _ (l : Leg) (a : s ≡ Some l) where
     leg_is : leg_in b ≡ Some l
-    leg_is = sym q ∙ ap as_option a
+    leg_is = sym q ∙ a
 
     pub along_off : (t : Bool) → Says t (LegOnGrid l) → t ≡ false → ¬ StandingOk b
     along_off t h e x = says_no t h e (subst LegOk leg_is x.leg)
@@ -82,34 +80,30 @@ module _ (b : List ℕ) (s : Standing) (w : Whole b) (q : as_option s ≡ leg_in
 -- ---- the tour
 
 -- "a remembered site that isn't held"
-module _ (b : List ℕ) (n : ℕ) where
-  pub unnamed_ok : n ≡ 0 → LastHeld (site_number n) (lines_in b)
-  unnamed_ok z = rw (eq-eqb n 0 z) tt
+module _ (b : List ℕ) (o : Option ℕ) where
+  pub unnamed_ok : o ≡ None → LastHeld o (lines_in b)
+  unnamed_ok e = subst⁻¹ (λ (x : Option ℕ). LastHeld x (lines_in b)) e tt
 
-  module _ (f : Result ℕ ℕ) (k : ℕ) (nz : n ≢ 0) (a : FoundAs f n (lines_in b)) where
-    named : site_number n ≡ Some n
-    named = rw (ne_eqb n 0 nz) refl
-
-    pub named_ok : f ≡ Ok k → LastHeld (site_number n) (lines_in b)
-    named_ok e = subst⁻¹ (λ (o : Option ℕ). LastHeld o (lines_in b)) named (at_held (found_at e a))
-
-    pub named_not : f ≡ Err k → ¬ LastHeld (site_number n) (lines_in b)
-    named_not e h =
-        true≢false (sym (subst (λ (o : Option ℕ). LastHeld o (lines_in b)) named h) ∙ absent_held (found_absent e a))
+  pub named_says : (n : ℕ) (f : Result ℕ ℕ) (r : Bool) → o ≡ Some n → FoundAs f n (lines_in b) → r ≡ is_ok f → Says r (LastHeld o (lines_in b))
+  named_says n f r e a q = subst⁻¹ (λ (x : Option ℕ). Says r (LastHeld x (lines_in b))) e (subst⁻¹ (λ (t : Bool). Says t (holds n (lines_in b) ≡ true)) q (go f a))
+    where
+      go : (f : Result ℕ ℕ) → FoundAs f n (lines_in b) → Says (is_ok f) (holds n (lines_in b) ≡ true)
+      go (Ok k) a = at_held a
+      go (Err k) a = λ h. true≢false (sym h ∙ absent_held a)
 
 -- "a stored corner off the grid"
-module _ (b : List ℕ) (r : Touring) (q : touring_as r ≡ tour_in b) where
-  pub idle_ok : r ≡ Touring.Idle → TourOk (tour_in b) (lines_in b)
-  idle_ok u = subst (λ (o : Option Tour). TourOk o (lines_in b)) (sym (ap touring_as u) ∙ q) tt
+module _ (b : List ℕ) (r : Option Tour) (q : r ≡ tour_in b) where
+  pub idle_ok : r ≡ None → TourOk (tour_in b) (lines_in b)
+  idle_ok u = subst (λ (o : Option Tour). TourOk o (lines_in b)) (sym u ∙ q) tt
 
-  module _ (p : Position) (n : ℕ) (u : r ≡ Touring.From p n) (t : Bool) (s : Says t (OnGrid p)) where
-    tour_is : tour_in b ≡ Some (tour_at p n)
-    tour_is = sym q ∙ ap touring_as u
+  module _ (k : Tour) (u : r ≡ Some k) (t : Bool) (s : Says t (OnGrid k.corner)) where
+    tour_is : tour_in b ≡ Some k
+    tour_is = sym q ∙ u
 
     pub corner_off : t ≡ false → ¬ TourOk (tour_in b) (lines_in b)
     corner_off e h = says_no t s e (subst (λ (o : Option Tour). TourOk o (lines_in b)) tour_is h).on_grid
 
-    pub corner_says : (v : Bool) → t ≡ true → Says v (LastHeld (site_number n) (lines_in b)) → Says v (TourOk (tour_in b) (lines_in b))
+    pub corner_says : (v : Bool) → t ≡ true → Says v (LastHeld k.last (lines_in b)) → Says v (TourOk (tour_in b) (lines_in b))
     corner_says v e h =
         says_map v
         (λ x. subst⁻¹ (λ (o : Option Tour). TourOk o (lines_in b)) tour_is (record { on_grid = says_yes t s e; held = x }))

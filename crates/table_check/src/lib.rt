@@ -7,14 +7,13 @@ ghost use Rattle.limits.specs.Limits.{table_bytes};
 ghost use Rattle.grid.specs.Says.{Says};
 ghost use Rattle.list_row.specs.Vertices.{row_bytes, Held, entries_in};
 ghost use Rattle.book.specs.Proper.{LastHeld, TourOk};
-ghost use Rattle.table_header.specs.Header.{site_number, tour_in};
+ghost use Rattle.table_header.specs.Header.{tour_in};
 ghost use Rattle.table_sites.specs.Lines.{lines_in, Array};
 ghost use Rattle.table_standing.specs.Standing.{standing_in, numbers_of};
 ghost use Rattle.tree_check.specs.Marks.{seen_bytes};
 ghost use Rattle.table_rules.specs.Table.{Whole, StandingOk};
 
 use grid::Leg;
-use table_header::{Standing, Touring};
 
 // Whether the stored standing list has the numbers of the list in the first k of the row.
 fn list_matches(t: &[u8], work: &[u8], leg: Leg, k: usize) -> bool
@@ -43,13 +42,9 @@ pub fn standing_ok(t: &[u8], work: &mut [u8]) -> bool
     requires { Whole t.now × (row_bytes ≤ length work.old) }
     ensures { Says result (StandingOk t.now) }
 {
-    let s = table_header::leg(t);
-    match s {
-        Standing::Unset => {
-            let n = table_header::length(t);
-            n == 0
-        }
-        Standing::Along(leg) => {
+    match table_header::leg(t) {
+        None => table_header::length(t) == 0,
+        Some(leg) => {
             if grid::coordinate::leg_on_grid(leg) {
                 let k = table_search::search(t, leg, work);
                 return list_matches(t, work, leg, k);
@@ -59,18 +54,14 @@ pub fn standing_ok(t: &[u8], work: &mut [u8]) -> bool
     }
 }
 
-// Whether number n is 0, or that of a site that is held.
-fn remembered_ok(t: &[u8], n: u16) -> bool
+// Whether the site that is remembered, if there is one, is held.
+fn remembered_ok(t: &[u8], last: Option<u16>) -> bool
     requires { Array t.now }
-    ensures { Says result (LastHeld (site_number n) (lines_in t.now)) }
+    ensures { Says result (LastHeld last (lines_in t.now)) }
 {
-    if n == 0 {
-        return true;
-    }
-    let found = table_sites::find(t, n);
-    match found {
-        Ok(_) => true,
-        Err(_) => false,
+    match last {
+        None => true,
+        Some(n) => table_sites::find(t, n).is_ok(),
     }
 }
 
@@ -79,15 +70,9 @@ fn tour_ok(t: &[u8]) -> bool
     requires { (length t.now ≡ table_bytes) × Array t.now }
     ensures { Says result (TourOk (tour_in t.now) (lines_in t.now)) }
 {
-    let tour = table_header::tour(t);
-    match tour {
-        Touring::Idle => true,
-        Touring::From(corner, n) => {
-            if grid::coordinate::on_grid(corner) {
-                return remembered_ok(t, n);
-            }
-            return false;
-        }
+    match table_header::tour(t) {
+        None => true,
+        Some(k) => grid::coordinate::on_grid(k.corner) && remembered_ok(t, k.last),
     }
 }
 

@@ -2,7 +2,7 @@
 -- Assumes nothing.
 use mathlib.Core.Path.{◌≡◌, refl, sym, ap, ◌∙◌}
 use mathlib.Core.List.{List}
-use Rattle.std.specs.Prelude.{Some}
+use Rattle.std.specs.Prelude.{None, Some}
 use Prim.Native.Nat.{ℕ, ◌+◌, ◌≤◌}
 use native.Mathlib.Omega.{arith}
 use lib.ListN.{length}
@@ -12,20 +12,19 @@ use Rattle.words.specs.Words.{word_at, put_word, Only}
 use Rattle.words.proofs.Frame.{only_trans, only_wider, only_put_word, word_put_word, word_low}
 use Rattle.grid.specs.declared.Position.{Position}
 use Rattle.grid.specs.declared.Leg.{Leg}
-use Rattle.table_header.specs.declared.Standing.{Standing}
 use Rattle.table_header.specs.Layout.{flag_start, leg_start}
-use Rattle.table_header.specs.Header.{position_words, put_position, leg_in, as_option, LegStored}
+use Rattle.table_header.specs.Header.{position_words, put_position, leg_in, LegStored}
 
 pub position_is : (b : List ℕ) (i e n : ℕ) → e ≡ word_at b i → n ≡ word_at b (i + 2) → ◌≡◌ {A = Position} (record { east = e; north = n }) (position_words b i)
 unfolding position_words
 position_is b i e n he hn = λ j. record { east = he j; north = hn j }
 
-pub unset_is : (b : List ℕ) (f : ℕ) → f ≡ word_at b flag_start → f ≡ 0 → as_option Standing.Unset ≡ leg_in b
+pub unset_is : (b : List ℕ) (f : ℕ) → f ≡ word_at b flag_start → f ≡ 0 → None ≡ leg_in b
 unfolding leg_in
 unset_is b f h z = rw (eq-eqb (word_at b flag_start) 0 (sym h ∙ z)) refl
 
 pub along_is : (b : List ℕ) (f : ℕ) (p q : Position) → f ≡ word_at b flag_start → (f ≡ 0 → ⊥) → p ≡ position_words b leg_start → q ≡ position_words b (leg_start + 4)
-    → as_option (Standing.Along (record { s = p; e = q })) ≡ leg_in b
+    → Some (record { s = p; e = q }) ≡ leg_in b
 unfolding leg_in
 along_is b f p q h nz hp hq = rw (ne_eqb (word_at b flag_start) 0 (λ e. nz (h ∙ e))) (λ j. Some (record { s = hp j; e = hq j }))
 

@@ -1,8 +1,8 @@
 -- The tour: what is read, and what is stored.
 -- Assumes nothing.
-use mathlib.Core.Path.{◌≡◌, refl, sym, ap, ◌∙◌}
+use mathlib.Core.Path.{◌≡◌, refl, sym, ap, subst, ◌∙◌}
 use mathlib.Core.List.{List}
-use Rattle.std.specs.Prelude.{None, Some}
+use Rattle.std.specs.Prelude.{Option, None, Some, IfSome, unwrap_or, ◌<◌}
 use Prim.Native.Nat.{ℕ, ◌+◌}
 use native.Mathlib.Omega.{arith}
 use lib.ListN.{length}
@@ -11,20 +11,26 @@ use Rattle.limits.specs.Limits.{table_bytes}
 use Rattle.words.specs.Words.{word_at, put_word, Only}
 use Rattle.words.proofs.Frame.{only_trans, only_wider, only_put_word, word_put_word, word_low}
 use Rattle.grid.specs.declared.Position.{Position}
-use Rattle.table_header.specs.declared.Touring.{Touring}
+use Rattle.book.specs.declared.Tour.{Tour}
 use Rattle.table_header.specs.Layout.{tour_start, corner_start, last_start, tour_end}
-use Rattle.table_header.specs.Header.{position_words, put_position, tour_at, tour_in, touring_as, put_tour, TourStored}
+use Rattle.table_header.specs.Header.{position_words, put_position, site_number, tour_at, tour_in, put_tour, TourStored}
 use Rattle.table_header.proofs.Zeros.{zero_word, zero_both}
 use Rattle.table_header.proofs.Legs.{only_position, position_put, position_low}
 
-pub idle_is : (b : List ℕ) (f : ℕ) → f ≡ word_at b tour_start → f ≡ 0 → touring_as Touring.Idle ≡ tour_in b
+pub idle_is : (b : List ℕ) (f : ℕ) → f ≡ word_at b tour_start → f ≡ 0 → None ≡ tour_in b
 unfolding tour_in
 idle_is b f h z = rw (eq-eqb (word_at b tour_start) 0 (sym h ∙ z)) refl
 
-pub from_is : (b : List ℕ) (f : ℕ) (p : Position) (n : ℕ) → f ≡ word_at b tour_start → (f ≡ 0 → ⊥) → p ≡ position_words b corner_start → n ≡ word_at b last_start
-    → touring_as (Touring.From p n) ≡ tour_in b
+pub from_is : (b : List ℕ) (f : ℕ) (p : Position) (n : ℕ) (o : Option ℕ) → f ≡ word_at b tour_start → (f ≡ 0 → ⊥) → p ≡ position_words b corner_start
+    → n ≡ word_at b last_start → o ≡ site_number n → Some (record { corner = p; last = o }) ≡ tour_in b
 unfolding tour_in
-from_is b f p n h nz hp hn = rw (ne_eqb (word_at b tour_start) 0 (λ e. nz (h ∙ e))) (λ j. Some (tour_at (hp j) (hn j)))
+from_is b f p n o h nz hp hn ho =
+    rw (ne_eqb (word_at b tour_start) 0 (λ e. nz (h ∙ e))) (λ j. Some (record { corner = hp j; last = (ho ∙ ap site_number hn) j }))
+
+-- a number that is no 0 is read as it is stored
+numbered : (o : Option ℕ) → IfSome o (λ n. 0 < n) → site_number (unwrap_or o 0) ≡ o
+numbered None h = refl
+numbered (Some n) h = rw (ne_eqb n 0 (λ z. omega (arith, h, z))) refl
 
 pub tour_put : (b b₁ b₂ b₃ : List ℕ) (f : ℕ) (p : Position) (n : ℕ) → b₁ ≡ put_word b tour_start f → b₂ ≡ put_position b₁ corner_start p → b₃ ≡ put_word b₂ last_start n
     → b₃ ≡ put_tour b f p n
@@ -71,24 +77,29 @@ module _ (b : List ℕ) (f : ℕ) (p : Position) (n : ℕ) (len : length b ≡ t
   put_last = word_put_word b₂ last_start n (omega (arith, o₁.len, o₂.len))
 
 -- THE TOUR STORED is the tour under way
-pub tour_stored : (b b' : List ℕ) (p : Position) (n : ℕ) → length b ≡ table_bytes → b' ≡ put_tour b 1 p n → TourStored (Some (tour_at p n)) b b'
+pub tour_stored : (b b' : List ℕ) (o : Option Tour) (k : Tour) (n : ℕ) → length b ≡ table_bytes → o ≡ Some k → IfSome o (λ k. IfSome k.last (λ n. 0 < n))
+    → n ≡ unwrap_or k.last 0 → b' ≡ put_tour b 1 k.corner n → TourStored o b b'
 unfolding tour_in
-tour_stored b b' p n len e =
+tour_stored b b' o k n len is few q e =
+    let last : site_number n ≡ k.last =
+    ap site_number q ∙ numbered k.last (subst (λ (x : Option Tour). IfSome x (λ y. IfSome y.last (λ m. 0 < m))) is few) in
     rw e
     (record {
-      tour = rw (ne_eqb (word_at (put_tour b 1 p n) tour_start) 0 (λ z. omega (arith, put_flag b 1 p n len)))
-          (λ i. Some (tour_at (put_corner b 1 p n len i) (put_last b 1 p n len i)));
-      layout = record { flag = omega (arith, put_flag b 1 p n len); unset = λ z. absurd (omega (arith, put_flag b 1 p n len)) };
-      only = put_only b 1 p n len;
+      tour = rw (ne_eqb (word_at (put_tour b 1 k.corner n) tour_start) 0 (λ z. omega (arith, put_flag b 1 k.corner n len)))
+          (λ i. Some (record { corner = put_corner b 1 k.corner n len i; last = (ap site_number (put_last b 1 k.corner n len) ∙ last) i }))
+          ∙ sym is;
+      layout = record { flag = omega (arith, put_flag b 1 k.corner n len); unset = λ z. absurd (omega (arith, put_flag b 1 k.corner n len)) };
+      only = put_only b 1 k.corner n len;
     })
 
 -- A TOUR ENDED leaves zeros
-pub tour_ended : (b b' : List ℕ) (p : Position) → length b ≡ table_bytes → p.east ≡ 0 → p.north ≡ 0 → b' ≡ put_tour b 0 p 0 → TourStored None b b'
+pub tour_ended : (b b' : List ℕ) (o : Option Tour) (p : Position) → length b ≡ table_bytes → o ≡ None → p.east ≡ 0 → p.north ≡ 0 → b' ≡ put_tour b 0 p 0
+    → TourStored o b b'
 unfolding tour_in position_words
-tour_ended b b' p len pe pn e =
+tour_ended b b' o p len is pe pn e =
     rw e
     (record {
-      tour = rw (eq-eqb (word_at (put_tour b 0 p 0) tour_start) 0 (put_flag b 0 p 0 len)) refl;
+      tour = rw (eq-eqb (word_at (put_tour b 0 p 0) tour_start) 0 (put_flag b 0 p 0 len)) (sym is);
       layout = record {
         flag = omega (arith, put_flag b 0 p 0 len);
         unset = λ z.

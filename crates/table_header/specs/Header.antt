@@ -5,9 +5,7 @@ use Rattle.std.specs.Prelude.{◌≡◌, List, cond, ℕ, ◌+◌, ◌≤◌, �
 use Rattle.words.specs.Words.{word_at, put_word, Only}
 use Rattle.grid.specs.declared.Position.{Position}
 use Rattle.grid.specs.declared.Leg.{Leg}
-use Rattle.book.specs.Tour.{Tour}
-use Rattle.table_header.specs.declared.Standing.{Standing}
-use Rattle.table_header.specs.declared.Touring.{Touring}
+use Rattle.book.specs.declared.Tour.{Tour}
 use Rattle.table_header.specs.Layout.{count_start, flag_start, leg_start, length_start, layout_start, layout_number}
 use Rattle.table_header.specs.Layout.{tour_start, corner_start, last_start, tour_end, kept_start, kept_end}
 
@@ -26,11 +24,6 @@ leg_words b = record { s = position_words b leg_start; e = position_words b (leg
 -- the standing leg, or none
 unfoldable pub leg_in : List ℕ → Option Leg
 leg_in b = cond (eqb (word_at b flag_start) 0) None (Some (leg_words b))
-
--- the code's answer, as a leg or none
-abbrev pub as_option : Standing → Option Leg
-as_option Standing.Unset = None
-as_option (Standing.Along l) = Some l
 
 -- the number of entries of the standing list
 abbrev pub length_in : List ℕ → ℕ
@@ -74,11 +67,6 @@ tour_at p n = record { corner = p; last = site_number n }
 -- the tour that is under way, or none
 unfoldable pub tour_in : List ℕ → Option Tour
 tour_in b = cond (eqb (word_at b tour_start) 0) None (Some (tour_at (position_words b corner_start) (word_at b last_start)))
-
--- the code's answer, as a tour or none
-abbrev pub touring_as : Touring → Option Tour
-touring_as Touring.Idle = None
-touring_as (Touring.From p n) = Some (tour_at p n)
 
 -- b with a tour's words stored: flag, corner, number
 unfoldable pub put_tour : List ℕ → ℕ → Position → ℕ → List ℕ

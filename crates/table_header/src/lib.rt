@@ -3,30 +3,17 @@
 // else, but that laying out first sets the whole table to 0.
 #![tactic(auto)]
 
-ghost use Rattle.std.specs.Prelude.{◌≡◌, ◌+◌, ◌<◌, ◌≤◌, length, None, Some};
+ghost use Rattle.std.specs.Prelude.{◌≡◌, ◌+◌, ◌<◌, ◌≤◌, length, IfSome};
 ghost use Rattle.limits.specs.Limits.{table_bytes};
 ghost use Rattle.words.specs.Words.{put_word};
 ghost use Rattle.grid.specs.Says.{Says};
 ghost use Rattle.table_header.specs.Layout.{count_start, length_start, layout_start, layout_number};
-ghost use Rattle.table_header.specs.Header.{count_in, length_in, position_words, put_position, leg_in, as_option};
+ghost use Rattle.table_header.specs.Header.{count_in, length_in, position_words, put_position, leg_in};
 ghost use Rattle.table_header.specs.Header.{LegStored, ZeroFrom, FlagOk, HeaderOk};
-ghost use Rattle.table_header.specs.Header.{tour_at, tour_in, touring_as, put_tour, TourStored};
+ghost use Rattle.table_header.specs.Header.{site_number, tour_in, put_tour, TourStored};
 
+use book::Tour;
 use grid::{Leg, Position};
-
-// A standing leg, or none.
-#[derive(Clone, Copy)]
-pub enum Standing {
-    Unset,
-    Along(Leg),
-}
-
-// A tour, or none: its last corner, and the number of the site that is remembered, 0 where there is none yet.
-#[derive(Clone, Copy)]
-pub enum Touring {
-    Idle,
-    From(Position, u16),
-}
 
 // Where the fields stand.
 const COUNT_START: usize = 0;
@@ -78,24 +65,21 @@ fn position_at(t: &[u8], i: usize) -> Position
 {
     let east = words::word(t, i);
     let north = words::word(t, i + 2);
-    Position {
-        east: east,
-        north: north,
-    }
+    Position { east, north }
 }
 
-// The standing leg.
-pub fn leg(t: &[u8]) -> Standing
+// The standing leg, or none.
+pub fn leg(t: &[u8]) -> Option<Leg>
     requires { length t.now ≡ table_bytes }
-    ensures { as_option result ≡ leg_in t.now }
+    ensures { result ≡ leg_in t.now }
 {
     let flag = words::word(t, FLAG_START);
     if flag == 0 {
-        return Standing::Unset;
+        return None;
     }
-    let from = position_at(t, LEG_START);
-    let to = position_at(t, LEG_START + 4);
-    Standing::Along(Leg { s: from, e: to })
+    let s = position_at(t, LEG_START);
+    let e = position_at(t, LEG_START + 4);
+    Some(Leg { s, e })
 }
 
 // Stores a position's two words at byte i.
@@ -185,18 +169,25 @@ pub fn header_ok(t: &[u8]) -> bool
     false
 }
 
-// The tour.
-pub fn tour(t: &[u8]) -> Touring
+// The number of a site, or none where it is 0: site numbers begin at 1.
+fn site_number(n: u16) -> Option<u16>
+    ensures { result ≡ site_number n }
+{
+    if n == 0 { None } else { Some(n) }
+}
+
+// The tour, or none.
+pub fn tour(t: &[u8]) -> Option<Tour>
     requires { length t.now ≡ table_bytes }
-    ensures { touring_as result ≡ tour_in t.now }
+    ensures { result ≡ tour_in t.now }
 {
     let flag = words::word(t, TOUR_START);
     if flag == 0 {
-        return Touring::Idle;
+        return None;
     }
     let corner = position_at(t, CORNER_START);
-    let last = words::word(t, LAST_START);
-    Touring::From(corner, last)
+    let last = site_number(words::word(t, LAST_START));
+    Some(Tour { corner, last })
 }
 
 // Stores a tour's words: flag, corner, number.
@@ -209,19 +200,16 @@ fn put_tour(t: &mut [u8], flag: u16, corner: Position, last: u16)
     words::put_word(t, LAST_START, last);
 }
 
-// Stores the tour: its last corner, and the number that is remembered.
-pub fn store_tour(t: &mut [u8], corner: Position, last: u16)
-    requires { length t.old ≡ table_bytes }
-    ensures { TourStored (Some (tour_at corner last)) t.old t.new }
+// Stores the tour, or that there is none. A site's number is not 0: that stands for no site.
+pub fn store_tour(t: &mut [u8], tour: Option<Tour>)
+    requires { (length t.old ≡ table_bytes) × IfSome tour (λ k. IfSome k.last (λ n. 0 < n)) }
+    ensures { TourStored tour t.old t.new }
 {
-    put_tour(t, 1, corner, last);
-}
-
-// Ends the tour.
-pub fn end_tour(t: &mut [u8])
-    requires { length t.old ≡ table_bytes }
-    ensures { TourStored None t.old t.new }
-{
-    let nowhere = Position { east: 0, north: 0 };
-    put_tour(t, 0, nowhere, 0);
+    match tour {
+        None => {
+            let nowhere = Position { east: 0, north: 0 };
+            put_tour(t, 0, nowhere, 0);
+        }
+        Some(k) => put_tour(t, 1, k.corner, k.last.unwrap_or(0)),
+    }
 }

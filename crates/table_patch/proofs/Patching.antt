@@ -28,8 +28,7 @@ use Rattle.list_skip.specs.Skipping.{Space, Dealt}
 use Rattle.book.specs.Book.{sites_of, strike_line, holds, list_of, standing_list}
 use Rattle.book.specs.Proper.{Rising, LegOk}
 use Rattle.book.proofs.Lines.{HeldLine, holds_member, member_holds, strike_from, strike_sites, strike_none, strike_length}
-use Rattle.table_header.specs.declared.Standing.{Standing}
-use Rattle.table_header.specs.Header.{leg_in, as_option, length_in}
+use Rattle.table_header.specs.Header.{leg_in, length_in}
 use Rattle.table_sites.specs.Lines.{lines_in}
 use Rattle.table_sites.proofs.Reading.{lines_length}
 use Rattle.table_standing.specs.Standing.{standing_in, numbers_of, ListStored}
@@ -125,15 +124,15 @@ same_holds : (b : List ℕ) → Whole b → LegOk (leg_in b)
     → standing_in b ≡ numbers_of (standing_list (book_of b)) → Holds b (book_of b)
 same_holds b w leg e = record { sound = record { whole = w; standing = record { leg = leg; list = e } }; book = refl }
 
-pub unset_holds : (b : List ℕ) (n : ℕ) (s : Standing) → Whole b → LegOk (leg_in b) → ListsOthers n b → as_option s ≡ leg_in b → s ≡ Standing.Unset → Holds b (book_of b)
+pub unset_holds : (b : List ℕ) (n : ℕ) (s : Option Leg) → Whole b → LegOk (leg_in b) → ListsOthers n b → s ≡ leg_in b → s ≡ None → Holds b (book_of b)
 unset_holds b n s w leg o q u =
-    let e : leg_in b ≡ None = sym q ∙ ap as_option u in
+    let e : leg_in b ≡ None = sym q ∙ u in
     same_holds b w leg
     (o.list ∙ ap (λ (x : Option Leg). numbers_of (list_of x (strike_line n (sites_of (book_of b))))) e
     ∙ sym (ap (λ (x : Option Leg). numbers_of (list_of x (sites_of (book_of b)))) e))
 
-pub along_is : (b : List ℕ) (s : Standing) (l : Leg) → as_option s ≡ leg_in b → s ≡ Standing.Along l → leg_in b ≡ Some l
-along_is b s l q u = sym q ∙ ap as_option u
+pub along_is : (b : List ℕ) (s : Option Leg) (l : Leg) → s ≡ leg_in b → s ≡ Some l → leg_in b ≡ Some l
+along_is b s l q u = sym q ∙ u
 
 -- ---- what the test says
 

@@ -15,9 +15,8 @@ use Rattle.split.specs.SplitList.{Entry}
 use Rattle.list_row.specs.Vertices.{entries_in}
 use Rattle.book.specs.Book.{sites_of, list_of, standing_list}
 use Rattle.book.specs.Proper.{LegOk}
-use Rattle.table_header.specs.declared.Standing.{Standing}
 use Rattle.table_header.specs.Layout.{length_start}
-use Rattle.table_header.specs.Header.{leg_in, as_option, length_in}
+use Rattle.table_header.specs.Header.{leg_in, length_in}
 use Rattle.table_standing.specs.Layout.{list_start}
 use Rattle.table_standing.specs.Standing.{words_from, standing_in, numbers_of, ListStored}
 use Rattle.table_rules.specs.Table.{book_of, Whole}
@@ -73,20 +72,20 @@ cleared b b' len e =
       high = λ i h. o.high i (omega arith);
     }
 
-pub restood_none : (b b' : List ℕ) (s : Standing) → Whole b → LegOk (leg_in b) → as_option s ≡ leg_in b → s ≡ Standing.Unset → b' ≡ put_word b length_start 0 → Holds b' (book_of b)
+pub restood_none : (b b' : List ℕ) (s : Option Leg) → Whole b → LegOk (leg_in b) → s ≡ leg_in b → s ≡ None → b' ≡ put_word b length_start 0 → Holds b' (book_of b)
 unfolding numbers_of
 restood_none b b' s w leg q u e =
-    let n : leg_in b ≡ None = sym q ∙ ap as_option u in
+    let n : leg_in b ≡ None = sym q ∙ u in
     stored_holds b b' w [] (cleared b b' w.len e) leg
     (sym (ap (λ (o : Option Leg). numbers_of (list_of o (sites_of (book_of b)))) n))
 
 -- the leg that is searched is on the grid
-pub along_leg : (b : List ℕ) (s : Standing) (l : Leg) → LegOk (leg_in b) → as_option s ≡ leg_in b → s ≡ Standing.Along l → LegOnGrid l
-along_leg b s l leg q u = subst LegOk (sym q ∙ ap as_option u) leg
+pub along_leg : (b : List ℕ) (s : Option Leg) (l : Leg) → LegOk (leg_in b) → s ≡ leg_in b → s ≡ Some l → LegOnGrid l
+along_leg b s l leg q u = subst LegOk (sym q ∙ u) leg
 
-pub restood_list : (b b' : List ℕ) (s : Standing) (l : Leg) (r : List ℕ) (k : ℕ) → Whole b → LegOk (leg_in b) → as_option s ≡ leg_in b → s ≡ Standing.Along l
+pub restood_list : (b b' : List ℕ) (s : Option Leg) (l : Leg) (r : List ℕ) (k : ℕ) → Whole b → LegOk (leg_in b) → s ≡ leg_in b → s ≡ Some l
     → ListsTable l b r k → ListStored (entries_in l b r k) b b' → Holds b' (book_of b)
 restood_list b b' s l r k w leg q u f st =
-    let n : leg_in b ≡ Some l = sym q ∙ ap as_option u in
+    let n : leg_in b ≡ Some l = sym q ∙ u in
     stored_holds b b' w (entries_in l b r k) st leg
     (ap numbers_of f.list ∙ sym (ap (λ (o : Option Leg). numbers_of (list_of o (sites_of (book_of b)))) n))

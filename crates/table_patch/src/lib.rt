@@ -14,17 +14,15 @@ ghost use Rattle.table_list.specs.Loading.{PlaceOf};
 ghost use Rattle.table_patch.specs.Patching.{ListsOthers, Patchable};
 
 use grid::Leg;
-use table_header::Standing;
 
 // Makes the standing list anew.
 pub fn restand(t: &mut [u8], work: &mut [u8])
     requires { Whole t.old × LegOk (leg_in t.old) × (row_bytes ≤ length work.old) }
     ensures { Holds t.new (book_of t.old) }
 {
-    let s = table_header::leg(t);
-    match s {
-        Standing::Unset => table_header::put_length(t, 0),
-        Standing::Along(leg) => {
+    match table_header::leg(t) {
+        None => table_header::put_length(t, 0),
+        Some(leg) => {
             let k = table_search::search(t, leg, work);
             table_standing::store_list(t, work, leg, k);
         }
@@ -64,10 +62,8 @@ fn deal_site(t: &mut [u8], work: &mut [u8], n: u16, k: usize)
     requires lists_others { ListsOthers n t.old × StandsAt k n (lines_in t.old) }
     ensures { Holds t.new (book_of t.old) }
 {
-    let s = table_header::leg(t);
-    match s {
-        Standing::Unset => {}
-        Standing::Along(leg) => deal_along(t, work, leg, n, k),
+    if let Some(leg) = table_header::leg(t) {
+        deal_along(t, work, leg, n, k);
     }
 }
 

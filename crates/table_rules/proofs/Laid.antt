@@ -10,7 +10,7 @@ use borrow.Author.Tests.{eq-eqb}
 use Rattle.words.specs.Words.{word_at}
 use Rattle.grid.specs.declared.Site.{Site}
 use Rattle.grid.specs.declared.Leg.{Leg}
-use Rattle.book.specs.Tour.{Tour}
+use Rattle.book.specs.declared.Tour.{Tour}
 use Rattle.book.specs.Book.{empty_book, sites_of, list_of}
 use Rattle.book.specs.Proper.{LegOk, TourOk, Rising}
 use Rattle.table_header.specs.Layout.{flag_start, length_start, tour_start}

@@ -4,7 +4,8 @@ use Rattle.std.specs.Prelude.{◌≡◌, List, ℕ, None, Some}
 use Rattle.grid.specs.declared.Leg.{Leg}
 use Rattle.grid.specs.Position.{OnGrid}
 use Rattle.split.specs.SplitOf.{split_of}
-use Rattle.book.specs.Tour.{Tour, last_number}
+use Rattle.book.specs.declared.Tour.{Tour}
+use Rattle.book.specs.Tour.{last_number}
 use Rattle.book.specs.Book.{sites_of}
 use Rattle.table_header.specs.Header.{tour_in}
 use Rattle.table_rules.specs.Table.{book_of}

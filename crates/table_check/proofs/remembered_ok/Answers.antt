@@ -1,12 +1,9 @@
-use Rattle.table_check.proofs.Deciding.{unnamed_ok, named_ok, named_not}
+use Rattle.table_check.proofs.Deciding.{unnamed_ok, named_says}
 use borrow.Author.Rules.{rules}
 use Rattle.table_check.proofs.remembered_ok.Goals as goal
 
-pub returns-then-n-eq0 : goal.returns-then-n-eq0
-returns-then-n-eq0 c = search (rules, unnamed_ok)
+pub returns-in-None : goal.returns-in-None
+returns-in-None c = search (rules, unnamed_ok)
 
-pub returns-in-Ok : goal.returns-in-Ok
-returns-in-Ok c = search (rules, named_ok)
-
-pub returns-in-Err : goal.returns-in-Err
-returns-in-Err c = search (rules, named_not)
+pub returns-in-Some : goal.returns-in-Some
+returns-in-Some c = search (rules, named_says)

@@ -5,8 +5,8 @@ use Rattle.table_patch.proofs.restand.Goals as goal
 pub search-k-requires : goal.search-k-requires
 search-k-requires c = (search rules, search (rules, along_leg), search rules)
 
-pub returns-in-Unset : goal.returns-in-Unset
-returns-in-Unset c = search (rules, restood_none)
+pub returns-in-None : goal.returns-in-None
+returns-in-None c = search (rules, restood_none)
 
-pub returns-in-Along : goal.returns-in-Along
-returns-in-Along c = search (rules, restood_list)
+pub returns-in-Some : goal.returns-in-Some
+returns-in-Some c = search (rules, restood_list)

@@ -5,5 +5,5 @@ use Rattle.call_judge.proofs.list.print.Goals as goal
 pub stored-requires : goal.stored-requires
 stored-requires c = (search rules, search (rules, print_along), search rules)
 
-pub returns-in-Unset : goal.returns-in-Unset
-returns-in-Unset c = search (rules, print_unset)
+pub returns-in-None : goal.returns-in-None
+returns-in-None c = search (rules, print_unset)

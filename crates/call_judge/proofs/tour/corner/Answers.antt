@@ -5,5 +5,5 @@ use Rattle.call_judge.proofs.tour.corner.Goals as goal
 pub onward-requires : goal.onward-requires
 onward-requires c = (search rules, search (rules, corner_runs), search rules)
 
-pub returns-in-Idle : goal.returns-in-Idle
-returns-in-Idle c = search (rules, corner_idle)
+pub returns-in-None : goal.returns-in-None
+returns-in-None c = search (rules, corner_idle)
