@@ -155,9 +155,9 @@ fn put_starts(report: &mut [u8], at: usize, n: u16, m: u16, p: Fraction, q: Frac
         (write report.old at (start_bytes n (lowest p.num p.den)))
         (at + entry_size) (start_bytes m (lowest q.num q.den)) }
 {
-    let starts = grid::factor::lowest_two(p, q);
-    put_start(report, at, n, starts.first);
-    put_start(report, at + ENTRY_SIZE, m, starts.second);
+    let (first, second) = grid::factor::lowest_two(p, q);
+    put_start(report, at, n, first);
+    put_start(report, at + ENTRY_SIZE, m, second);
 }
 
 // Writes the entries of the vertices at i and i + 1: two starts are reduced together, which takes less time than one

@@ -4,7 +4,6 @@
 use mathlib.Core.Path.{◌≡◌, ap, subst, subst⁻¹}
 use mathlib.Core.Bool.{Bool, true, false, cond, not}
 use Prim.Native.Nat.{ℕ, zero, suc, ◌+◌, ◌*◌, ◌-◌, ◌%◌, ◌^◌, ◌≤◌, ◌<◌}
-use native.Mathlib.Nat.{mul-le-mul}
 use native.Mathlib.Omega.{arith}
 use lib.Dec.{T, ltb, ltb→lt, nltb→le}
 use lib.IntN.{ℤ, pos, negsuc, neg_ℤ, sub_ℕ, ◌+ℤ◌, ◌-ℤ◌, ◌*ℤ◌}
@@ -17,10 +16,6 @@ use Rattle.grid.specs.declared.Leg.{Leg}
 use Rattle.grid.specs.Position.{OnGrid}
 use Rattle.grid.specs.Coordinate.{from_word, word_position}
 use Rattle.grid.specs.Side.{cross_plus, cross_minus, OnTheRight, cross_product, signed_of, signed_words, way_back}
-
--- the product of two words
-pub words_product : (x y : ℕ) → x < 65536 → y < 65536 → x * y < 2 ^ 32
-words_product x y h k = omega (arith, mul-le-mul {n₁ = x} {m₁ = y} {n₂ = 65535} {m₂ = 65535} (omega arith) (omega arith))
 
 -- z is a less b
 abbrev IsLess : ℤ → ℕ → ℕ → Type 0

@@ -75,14 +75,6 @@ step_near a b x y r h q s = go q.either (step a b x y s)
     go (inl e) f = rw e f
     go (inr e) f = rw e (missing a b y (x % y) (mod-lt x {m = y} h) f)
 
--- the returns of `nearest_rest`
-module _ (x y : ℕ) (h : 0 < y) where
-  pub rest_near : NearestRest x y (x % y)
-  rest_near = record { below = mod-lt x {m = y} h; either = inl refl }
-
-  pub missing_near : y - x % y < x % y → NearestRest x y (y - x % y)
-  missing_near l = record { below = omega (arith, mod-lt x {m = y} h); either = inr refl }
-
 pub done : (a b x : ℕ) → SameFactors a b x 0 → IsGcd a b x
 done a b x h =
     let d = h.back x (itself x) (nothing x) in

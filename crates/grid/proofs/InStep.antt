@@ -3,30 +3,18 @@
 use mathlib.Core.Path.{◌≡◌, refl}
 use mathlib.Core.Logic.{◌≢◌}
 use Prim.Native.Nat.{ℕ, zero, suc, ◌+◌, ◌≤◌, ◌<◌}
+use Rattle.std.specs.Prelude.{max}
 use native.Mathlib.Omega.{arith}
 use Rattle.grid.specs.Fraction.{gcd_of}
 use Rattle.grid.specs.Euclid.{NearestRest, Stepped, divisor_of, kept_of}
 use Rattle.grid.proofs.Factors.{SameFactors, same, step_near}
 use Rattle.grid.proofs.LowestTerms.{gcd_done}
 
--- the returns of `divisor_of` and `kept_of`
-pub divisor_ended : (y : ℕ) → y ≡ 0 → 1 ≡ divisor_of y
+-- the return of `divisor_of`
+pub divisor_max : (y : ℕ) → max y 1 ≡ divisor_of y
 unfolding divisor_of
-divisor_ended y e = rw e refl
-
-pub divisor_on : (y : ℕ) → y ≢ 0 → y ≡ divisor_of y
-unfolding divisor_of
-divisor_on zero h = absurd (h refl)
-divisor_on (suc y) h = refl
-
-pub kept_ended : (x y : ℕ) → y ≡ 0 → x ≡ kept_of x y
-unfolding kept_of
-kept_ended x y e = rw e refl
-
-pub kept_on : (x y : ℕ) → y ≢ 0 → y ≡ kept_of x y
-unfolding kept_of
-kept_on x zero h = absurd (h refl)
-kept_on x (suc y) h = refl
+divisor_max zero = refl
+divisor_max (suc y) = omega arith
 
 pub divisor_positive : (y m : ℕ) → m ≡ divisor_of y → 0 < m
 unfolding divisor_of

@@ -78,16 +78,8 @@ point_far b q h k =
     let f : (nearest_in b q).north ≡ b.south = omega (arith, k, n.0) in
     sym n.1 ∙ ap₂ (λ (x y : ℕ). distance (record { east = x; north = y }) q) e f
 
--- the cases as the code has them, with differences of two coordinates
+-- within the box
 module _ (lo hi x : ℕ) where
-  pub outside_below : (d : ℕ) → d ≡ (lo - x) + (x - lo) → x < lo → d ≡ outside lo hi x
-  unfolding outside
-  outside_below d e h = rw (lt-ltb x lo h) (omega arith)
-
-  pub outside_above : (d : ℕ) → d ≡ (hi - x) + (x - hi) → lo ≤ x → hi < x → d ≡ outside lo hi x
-  unfolding outside
-  outside_above d e h k = rw (le-ltb x lo h, lt-ltb hi x k) (omega arith)
-
   pub outside_within : lo ≤ x → x ≤ hi → 0 ≡ outside lo hi x
   unfolding outside
   outside_within h k = rw (le-ltb x lo h, le-ltb hi x k) refl

@@ -1,9 +1,7 @@
--- What a yes or a no says, taken from the answer; and the answer of two tests after each other.
+-- What a yes or a no says, taken from the answer.
 -- Assumes nothing.
 use mathlib.Core.Path.{◌≡◌, sym}
 use mathlib.Core.Bool.{Bool, true, false, true≢false}
-use Rattle.grid.specs.declared.Leg.{Leg}
-use Rattle.grid.specs.Position.{OnGrid, LegOnGrid}
 use Rattle.grid.specs.Says.{Says}
 
 pub says_yes : {A : Type 0} (q : Bool) → Says q A → q ≡ true → A
@@ -18,11 +16,3 @@ says_no false s e = s
 pub says_map : {A B : Type 0} (q : Bool) → (A → B) → (B → A) → Says q A → Says q B
 says_map true f g s = f s
 says_map false f g s = λ b. s (g b)
-
--- a leg, whose start is on the grid: its end decides
-pub leg_both : (l : Leg) (q r : Bool) → Says q (OnGrid l.s) → q ≡ true → Says r (OnGrid l.e) → Says r (LegOnGrid l)
-leg_both l q r s e t = says_map r (λ x. record { s = says_yes q s e; e = x }) (λ x. x.e) t
-
--- a leg whose start is off it
-pub leg_not : (l : Leg) (q : Bool) → Says q (OnGrid l.s) → q ≡ false → ¬ LegOnGrid l
-leg_not l q s e x = says_no q s e x.s

@@ -7,32 +7,23 @@ ghost use Rattle.grid.specs.Says.{Says};
 use crate::{Leg, Position};
 
 // The coordinate that a signed 16-bit word stands for.
+#[tactic(auto, unfolding(crate::specs::Coordinate::from_word))]
 pub fn from_word(w: u16) -> u16
     ensures { result ≡ from_word w }
 {
-    let sum = w as u32 + limits::HALF_WIDTH as u32;
-    (sum % 65536) as u16
+    w.wrapping_add(limits::HALF_WIDTH)
 }
 
 // Whether a position is on the grid.
 pub fn on_grid(p: Position) -> bool
     ensures { Says result (OnGrid p) }
 {
-    if limits::GRID_WIDTH < p.east {
-        return false;
-    }
-    if limits::GRID_WIDTH < p.north {
-        return false;
-    }
-    true
+    p.east <= limits::GRID_WIDTH && p.north <= limits::GRID_WIDTH
 }
 
 // Whether both ends of a leg are on the grid.
 pub fn leg_on_grid(leg: Leg) -> bool
     ensures { Says result (LegOnGrid leg) }
 {
-    if on_grid(leg.s) {
-        return on_grid(leg.e);
-    }
-    false
+    on_grid(leg.s) && on_grid(leg.e)
 }

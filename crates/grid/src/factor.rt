@@ -11,12 +11,12 @@ fn nearest_rest(x: u64, y: u64) -> u64
     ensures { NearestRest x y result }
 {
     let rest = x % y;
-    let missing = y - rest;
-    if rest <= missing { rest } else { missing }
+    rest.min(y - rest)
 }
 
 // The greatest common factor, by Euclid's rule with the nearest multiple: that takes a third fewer divisions than the
 // multiple below.
+#[tactic(auto, using(crate::proofs::Factors::same, crate::proofs::Factors::step_near, crate::proofs::LowestTerms::gcd_done))]
 pub fn gcd(a: u64, b: u64) -> u64
     ensures { result ≡ gcd_of a b }
 {
@@ -31,13 +31,14 @@ pub fn gcd(a: u64, b: u64) -> u64
 }
 
 // n / d, divided by the greatest common factor f.
+#[tactic(auto, using(crate::proofs::LowestTerms::gcd_positive, crate::proofs::LowestTerms::lowest_by))]
 fn divided(n: u64, d: u64, f: u64) -> Fraction
     requires { (0 < d) × (f ≡ gcd_of d n) }
     ensures { result ≡ lowest n d }
 {
     let num = n / f;
     let den = d / f;
-    Fraction { num: num, den: den }
+    Fraction { num, den }
 }
 
 // n / d without common factor.
@@ -56,21 +57,16 @@ struct Pair {
     y: u64,
 }
 
-// Two fractions.
-#[derive(Clone, Copy)]
-pub struct Fractions {
-    pub first: Fraction,
-    pub second: Fraction,
-}
-
 // What a step divides by: 1 after the end, where the rest is to be 0.
+#[tactic(auto, using(crate::proofs::InStep::divisor_max))]
 fn divisor_of(y: u64) -> u64
     ensures { result ≡ divisor_of y }
 {
-    if y == 0 { 1 } else { y }
+    y.max(1)
 }
 
 // What a step leaves of x: all of it after the end.
+#[tactic(auto, unfolding(crate::specs::Euclid::kept_of))]
 fn kept_of(x: u64, y: u64) -> u64
     ensures { result ≡ kept_of x y }
 {
@@ -78,6 +74,7 @@ fn kept_of(x: u64, y: u64) -> u64
 }
 
 // A step of Euclid's rule, without a branch: after the end it changes nothing.
+#[tactic(auto, using(crate::proofs::InStep::divisor_positive, crate::proofs::InStep::stepped))]
 fn step(p: Pair) -> Pair
     ensures { Stepped p.x p.y result.x result.y }
 {
@@ -90,6 +87,7 @@ fn step(p: Pair) -> Pair
 
 // The greatest common factors of two pairs. A division waits for the one before it: those of the other pair fill the
 // wait.
+#[tactic(auto, using(crate::proofs::InStep::in_step, crate::proofs::InStep::both_fall, crate::proofs::InStep::both_done))]
 fn gcd_two(a: Pair, b: Pair) -> Pair
     requires { a.y + b.y < 2 ^ 64 }
     ensures { (result.x ≡ gcd_of a.x a.y) × (result.y ≡ gcd_of b.x b.y) }
@@ -104,15 +102,10 @@ fn gcd_two(a: Pair, b: Pair) -> Pair
 }
 
 // Two fractions without common factor, for less than twice the time of one.
-pub fn lowest_two(s: Fraction, t: Fraction) -> Fractions
+pub fn lowest_two(s: Fraction, t: Fraction) -> (Fraction, Fraction)
     requires { (0 < s.den) × (0 < t.den) × (s.num + t.num < 2 ^ 64) }
-    ensures { (result.first ≡ lowest s.num s.den) × (result.second ≡ lowest t.num t.den) }
+    ensures { (result.0 ≡ lowest s.num s.den) × (result.1 ≡ lowest t.num t.den) }
 {
     let f = gcd_two(Pair { x: s.den, y: s.num }, Pair { x: t.den, y: t.num });
-    let first = divided(s.num, s.den, f.x);
-    let second = divided(t.num, t.den, f.y);
-    Fractions {
-        first: first,
-        second: second,
-    }
+    (divided(s.num, s.den, f.x), divided(t.num, t.den, f.y))
 }

@@ -9,11 +9,12 @@ use crate::{Leg, Position};
 fn product(x: u16, y: u16) -> u64
     ensures { (result ≡ x * y) × (result < 2 ^ 32) }
 {
-    x as u64 * y as u64
+    u64::from(x) * u64::from(y)
 }
 
 // Whether a position is on the right of a leg: the sign of the cross product, with every product that has a minus on
 // the other side.
+#[tactic(auto, unfolding(crate::specs::Side::OnTheRight))]
 pub fn on_the_right(leg: Leg, p: Position) -> bool
     ensures { Says result (OnTheRight leg p) }
 {
@@ -21,8 +22,5 @@ pub fn on_the_right(leg: Leg, p: Position) -> bool
     let e = leg.e;
     let plus = product(e.east, p.north) + product(e.north, s.east) + product(s.north, p.east);
     let minus = product(e.east, s.north) + product(s.east, p.north) + product(e.north, p.east);
-    if plus < minus {
-        return true;
-    }
-    false
+    plus < minus
 }
