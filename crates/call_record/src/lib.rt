@@ -5,8 +5,6 @@
 ghost use Rattle.std.specs.Prelude.{◌≡◌, ◌+◌, ◌*◌, ◌-◌, ◌%◌, ◌^◌, ◌<◌, ◌≤◌, length};
 ghost use Rattle.limits.specs.Limits.{max_sites};
 ghost use Rattle.grid.specs.Fraction.{lowest};
-ghost use Rattle.grid.specs.Position.{LegOnGrid};
-ghost use Rattle.list_row.specs.Vertices.{Held};
 ghost use Rattle.records.specs.Bytes.{bytes4, write};
 ghost use Rattle.records.specs.ListRecord.{entry_bytes, list_bytes, record_bytes, entry_size, list_size};
 ghost use Rattle.book.specs.Reply.{done, refused, record_of, record_size};
@@ -14,8 +12,8 @@ ghost use Rattle.list_row.specs.Entries.{start_at, row_entry, entries_from};
 ghost use Rattle.call_record.specs.Starts.{RatioAt, start_bytes};
 
 use book::Cause;
-use grid::{Fraction, Leg};
-use list_row::Vertex;
+use grid::Fraction;
+use list_row::{Row, Vertex};
 
 // What each record begins with: 2B of an accepted change, 21 of a refusal, 3D of a list.
 const DONE_MARK: u8 = 0x2B;
@@ -75,8 +73,8 @@ fn ratio_of(u: Vertex, v: Vertex) -> Fraction
     requires { (u.a < v.a) × (v.c < u.c) × (v.a < 2 ^ 31) × (u.c < 2 ^ 31) }
     ensures { (result.num ≡ v.a - u.a) × (result.den ≡ (v.a - u.a) + (u.c - v.c)) }
 {
-    let rise = (v.a - u.a) as u64;
-    let fall = (u.c - v.c) as u64;
+    let rise = u64::from(v.a - u.a);
+    let fall = u64::from(u.c - v.c);
     Fraction {
         num: rise,
         den: rise + fall,
@@ -84,24 +82,22 @@ fn ratio_of(u: Vertex, v: Vertex) -> Fraction
 }
 
 // Where the stretch of the vertex at i starts, not yet in lowest terms.
-fn ratio_in(t: &[u8], row: &[u8], leg: Leg, k: usize, i: usize) -> Fraction
-    requires { Held leg t.now row.now k × LegOnGrid leg × (i < k) }
-    ensures { RatioAt leg t.now row.now i result }
+fn ratio_in(row: Row, i: usize) -> Fraction
+    requires { i < row.k }
+    ensures { let r = row.entry in RatioAt r.leg r.t.now r.places.now i result }
 {
     if i == 0 {
         return Fraction { num: 0, den: 1 };
     }
-    let u = list_row::vertex_in(t, row, leg, k, i - 1);
-    let v = list_row::vertex_in(t, row, leg, k, i);
-    ratio_of(u, v)
+    ratio_of(row.vertex(i - 1), row.vertex(i))
 }
 
 // Where the stretch of the vertex at i starts.
-fn start_of(t: &[u8], row: &[u8], leg: Leg, k: usize, i: usize) -> Fraction
-    requires { Held leg t.now row.now k × LegOnGrid leg × (i < k) }
-    ensures { result ≡ start_at leg t.now row.now i }
+fn start_of(row: Row, i: usize) -> Fraction
+    requires { i < row.k }
+    ensures { let r = row.entry in result ≡ start_at r.leg r.t.now r.places.now i }
 {
-    let q = ratio_in(t, row, leg, k, i);
+    let q = ratio_in(row, i);
     grid::factor::lowest_terms(q.num, q.den)
 }
 
@@ -136,15 +132,12 @@ fn put_start(report: &mut [u8], at: usize, number: u16, start: Fraction)
 }
 
 // Writes the entry of the vertex at i.
-fn put_entry(t: &[u8], row: &[u8], leg: Leg, k: usize, i: usize, report: &mut [u8], at: usize)
-    requires { Held leg t.now row.now k × LegOnGrid leg × (i < k)
-        × (at + entry_size ≤ length report.old) }
-    ensures { report.new ≡ write report.old at
-        (entry_bytes (row_entry leg t.now row.now i)) }
+fn put_entry(row: Row, i: usize, report: &mut [u8], at: usize)
+    requires { (i < row.k) × (at + entry_size ≤ length report.old) }
+    ensures { let r = row.entry in report.new ≡ write report.old at
+        (entry_bytes (row_entry r.leg r.t.now r.places.now i)) }
 {
-    let number = list_row::number_in(t, row, i);
-    let start = start_of(t, row, leg, k, i);
-    put_start(report, at, number, start);
+    put_start(report, at, row.number(i), start_of(row, i));
 }
 
 // Writes n with the start p and m with the start q, both in lowest terms.
@@ -162,57 +155,43 @@ fn put_starts(report: &mut [u8], at: usize, n: u16, m: u16, p: Fraction, q: Frac
 
 // Writes the entries of the vertices at i and i + 1: two starts are reduced together, which takes less time than one
 // after the other.
-fn put_two(t: &[u8], row: &[u8], leg: Leg, k: usize, i: usize, report: &mut [u8], at: usize)
-    requires { Held leg t.now row.now k × LegOnGrid leg × (i + 1 < k)
-        × (at + 2 * entry_size ≤ length report.old) }
-    ensures { report.new ≡ write
-        (write report.old at (entry_bytes (row_entry leg t.now row.now i)))
-        (at + entry_size) (entry_bytes (row_entry leg t.now row.now (i + 1))) }
+fn put_two(row: Row, i: usize, report: &mut [u8], at: usize)
+    requires { (i + 1 < row.k) × (at + 2 * entry_size ≤ length report.old) }
+    ensures { let r = row.entry in report.new ≡ write
+        (write report.old at (entry_bytes (row_entry r.leg r.t.now r.places.now i)))
+        (at + entry_size) (entry_bytes (row_entry r.leg r.t.now r.places.now (i + 1))) }
 {
     let j = i + 1;
-    let p = ratio_in(t, row, leg, k, i);
-    let q = ratio_in(t, row, leg, k, j);
-    let n = list_row::number_in(t, row, i);
-    let m = list_row::number_in(t, row, j);
-    put_starts(report, at, n, m, p, q);
+    let p = ratio_in(row, i);
+    let q = ratio_in(row, j);
+    put_starts(report, at, row.number(i), row.number(j), p, q);
 }
 
-// Writes the entries of the first k, from the one at j on.
-fn put_entries(t: &[u8], row: &[u8], leg: Leg, j: usize, k: usize, report: &mut [u8], at: usize)
-    requires { Held leg t.now row.now k × LegOnGrid leg × (j ≤ k)
-        × (at + entry_size * (k - j) ≤ length report.old) }
-    ensures { report.new ≡ write report.old at
-        (list_bytes (entries_from leg t.now row.now j k)) }
+// Writes the entries from the one at j on.
+fn put_entries(row: Row, j: usize, report: &mut [u8], at: usize)
+    requires { (j ≤ row.k) × (at + entry_size * (row.k - j) ≤ length report.old) }
+    ensures { let r = row.entry in report.new ≡ write report.old at
+        (list_bytes (entries_from r.leg r.t.now r.places.now j r.k)) }
 {
-    let mut i = j;
-    while i + 1 < k {
-        put_two(t, row, leg, k, i, report, at + ENTRY_SIZE * (i - j));
-        i += 2;
+    let n = row.k - j;
+    for pair in 0..n / 2 {
+        put_two(row, j + 2 * pair, report, at + 2 * ENTRY_SIZE * pair);
     }
-    if i < k {
-        put_entry(t, row, leg, k, i, report, at + ENTRY_SIZE * (i - j));
+    if n % 2 == 1 {
+        put_entry(row, row.k - 1, report, at + ENTRY_SIZE * (n - 1));
     }
 }
 
-// Writes the list in the first k of a row as a record, from the entry at j on, and says where the record ends.
-pub fn put_list(
-    t: &[u8],
-    row: &[u8],
-    leg: Leg,
-    j: usize,
-    k: usize,
-    report: &mut [u8],
-    at: usize,
-) -> usize
-    requires { Held leg t.now row.now k × LegOnGrid leg × (j ≤ k)
-        × (at + list_size (k - j) ≤ length report.old) }
-    ensures wrote { report.new ≡ write report.old at
-        (record_bytes (entries_from leg t.now row.now j k)) }
-    ensures upto { result ≡ at + list_size (k - j) }
+// Writes the list in a row as a record, from the entry at j on, and says where the record ends.
+pub fn put_list(row: Row, j: usize, report: &mut [u8], at: usize) -> usize
+    requires { (j ≤ row.k) × (at + list_size (row.k - j) ≤ length report.old) }
+    ensures wrote { let r = row.entry in report.new ≡ write report.old at
+        (record_bytes (entries_from r.leg r.t.now r.places.now j r.k)) }
+    ensures upto { result ≡ at + list_size (row.entry.k - j) }
 {
-    let n = k - j;
+    let n = row.k - j;
     report[at] = LIST_MARK;
     words::put_word(report, at + 1, count_of(n));
-    put_entries(t, row, leg, j, k, report, at + HEAD_SIZE);
+    put_entries(row, j, report, at + HEAD_SIZE);
     at + list_size(n)
 }

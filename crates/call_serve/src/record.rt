@@ -6,6 +6,7 @@ ghost use Rattle.call_judge.specs.Judged.{reply_of, RowOk};
 ghost use Rattle.call_serve.specs.Serving.{Sized, Few};
 
 use call_judge::Answer;
+use list_row::Row;
 
 // How many bytes it takes.
 pub fn size(a: Answer) -> usize
@@ -30,7 +31,8 @@ pub fn put(t: &[u8], work: &[u8], a: Answer, report: &mut [u8], at: usize)
         Answer::Done => call_record::put_done(report, at),
         Answer::Refused(cause) => call_record::put_refusal(cause, report, at),
         Answer::Listed(leg, j, k) => {
-            call_record::put_list(t, work, leg, j, k, report, at);
+            let row = Row { t, places: work, leg, k };
+            call_record::put_list(row, j, report, at);
         }
     }
 }

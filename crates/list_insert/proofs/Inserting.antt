@@ -2,6 +2,7 @@
 -- Assumes nothing.
 use mathlib.Core.Path.{◌≡◌, refl, sym, subst}
 use mathlib.Core.Bool.{Bool, true, false}
+use Rattle.std.specs.Prelude.{None}
 use mathlib.Core.Logic.{◌⊎◌, inl, inr}
 use mathlib.Core.List.Memᴰ
 use mathlib.Core.List.{List, ◌∷◌}
@@ -109,21 +110,21 @@ module _ (l : Leg) (t : List ℕ) {r r' : List ℕ} {k j i p : ℕ} (le : j ≤ 
     convex_upto (suc d) h = rw (one_more d (omega arith)) (under d (omega arith), convex_upto d (omega arith))
 
 -- Both sides: the first n are not right of x.
-module _ {l : Leg} {t r : List ℕ} {k n p : ℕ} {x : Vertex} (hd : Held l t r k) (ct : Cut l t r k x.a n) (hx : IsVertex l t p x) {j : ℕ} (le : j ≤ n) (b : Bool)
-    (pl : Placed (point_at l t p) (stack l t r n) b (stack l t r j)) where
+module _ {l : Leg} {t r : List ℕ} {k n p : ℕ} {x : Vertex} (hd : Held l t r k) (ct : Cut l t r k x.a n) (hx : IsVertex l t p x) where
   left : IsHull (point_at l t p ∷ stack l t r n) (push (point_at l t p) (stack l t r n))
   left = pushed_stack l t r n (point_at l t p) (convex_below l t r k n ct.within hd.convex) (λ h. omega (arith, ct.left h, hx.a_is))
 
   -- hidden by a vertex on the left
-  pub insert_hidden : b ≡ false → Inserted l t r k (point_at l t p) r k
-  insert_hidden e =
+  pub insert_hidden : Placed l t r n (point_at l t p) None → Inserted l t r k (point_at l t p) r k
+  insert_hidden (j, le, pl) =
       unlisted hd (λ m w pm pw.
-      let (v, iv, bv) = (rw (rw e at pl) at left).covers m w pm pw (point_at l t p) (Memᴰ.head refl) in
+      let (v, iv, bv) = (rw pl at left).covers m w pm pw (point_at l t p) (Memᴰ.head refl) in
       (v, stack_sub l t r j k (omega (arith, ct.within)) v iv, bv))
 
-  module _ (e : b ≡ true) {i : ℕ} (tg : Tangent l t r k n (point_at l t p) i) where
+  module _ {j : ℕ} (le : j ≤ n) (pl : push (point_at l t p) (stack l t r n) ≡ point_at l t p ∷ stack l t r j) {i : ℕ}
+      (tg : Tangent l t r k n (point_at l t p) i) where
     left_kept : IsHull (point_at l t p ∷ stack l t r n) (point_at l t p ∷ stack l t r j)
-    left_kept = rw (rw e at pl) at left
+    left_kept = rw pl at left
 
     pub insert_between : (j ≤ k) × (i ≤ k) × Between l t r k j i (point_at l t p)
     insert_between = (

@@ -1,6 +1,6 @@
 -- What the steps of an insertion do to a row. `push` is that of the computed split list (split, specs/SplitOf.antt).
 -- Assumes nothing.
-use Rattle.std.specs.Prelude.{◌≡◌, Bool, true, false, ◌⊎◌, List, ◌∷◌, ℕ, ◌+◌, ◌*◌, ◌-◌, ◌≤◌, ◌<◌, length}
+use Rattle.std.specs.Prelude.{◌≡◌, Option, None, Some, ◌⊎◌, List, ◌∷◌, ℕ, ◌+◌, ◌*◌, ◌-◌, ◌≤◌, ◌<◌, length}
 use Rattle.limits.specs.Limits.{max_sites}
 use Rattle.words.specs.Words.{Only}
 use Rattle.grid.specs.declared.Leg.{Leg}
@@ -18,10 +18,10 @@ pub record RowRoom (k : ℕ) (r : List ℕ) : Type 0 where
 abbrev pub BendsInHand : Vertex → Vertex → Vertex → Type 0
 BendsInHand s u x = (u.a - s.a) * (u.c - x.c) < (x.a - u.a) * (s.c - u.c)
 
--- x goes on r, or (add false) nowhere
-abbrev pub Placed : Point → List Point → Bool → List Point → Type 0
-Placed x l true r = push x l ≡ x ∷ r
-Placed x l false r = push x l ≡ r
+-- pushed on the first k, x goes on the first j of them, or (none) nowhere
+abbrev pub Placed : Leg → List ℕ → List ℕ → ℕ → Point → Option ℕ → Type 0
+Placed l t r k x (Some j) = (j ≤ k) × (push x (stack l t r k) ≡ x ∷ stack l t r j)
+Placed l t r k x None = (j : ℕ) × (j ≤ k) × (push x (stack l t r k) ≡ stack l t r j)
 
 -- the vertex at i stays behind x: it lies right of and below x, and the breakpoints rise
 pub record Stays (l : Leg) (t r : List ℕ) (k : ℕ) (x : Point) (i : ℕ) : Type 0 where

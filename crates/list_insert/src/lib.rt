@@ -15,7 +15,7 @@ ghost use Rattle.list_insert.specs.Insertion.{RowRoom, BendsInHand, Placed, Stay
 ghost use Rattle.list_insert.specs.Insertion.{BelowChord, Spliced, Inserted};
 
 use grid::Leg;
-use list_row::Vertex;
+use list_row::{Row, Vertex};
 
 // Whether u hides x, which is not left of it.
 fn hides(t: &[u8], leg: Leg, u: Vertex, x: Vertex) -> bool
@@ -44,18 +44,16 @@ fn bends(s: Vertex, u: Vertex, x: Vertex) -> bool
 {
     let before = list_row::product(u.a - s.a, u.c - x.c);
     let after = list_row::product(x.a - u.a, s.c - u.c);
-    if before < after {
-        return true;
-    }
-    false
+    before < after
 }
 
 // Whether x may stand on the first j, of which u is the last.
-fn stands(t: &[u8], row: &[u8], leg: Leg, j: usize, u: Vertex, x: Vertex) -> bool
-    requires held { Held leg t.now row.now j × LegOnGrid leg × (0 < j) }
-    requires vertex { IsVertex leg t.now (place_at row.now (j - 1)) u × IsVertex leg t.now x.place x }
-    ensures { Says result
-        (Under (point_at leg t.now x.place) (stack leg t.now row.now j)) }
+fn stands(row: Row, j: usize, u: Vertex, x: Vertex) -> bool
+    requires within { (0 < j) × (j ≤ row.k) }
+    requires vertex { IsVertex row.leg row.t.now (place_at row.places.now (j - 1)) u
+        × IsVertex row.leg row.t.now x.place x }
+    ensures { let r = row.entry in Says result
+        (Under (point_at r.leg r.t.now x.place) (stack r.leg r.t.now r.places.now j)) }
 {
     if x.a <= u.a {
         return false;
@@ -66,92 +64,80 @@ fn stands(t: &[u8], row: &[u8], leg: Leg, j: usize, u: Vertex, x: Vertex) -> boo
     if j == 1 {
         return true;
     }
-    let s = list_row::vertex_in(t, row, leg, j, j - 2);
+    let s = row.vertex(j - 2);
     bends(s, u, x)
 }
 
-// Where a vertex goes: on the first so many, or nowhere.
-#[derive(Clone, Copy)]
-struct Spot {
-    on: usize,
-    add: bool,
-}
-
-// Drops from the end what x takes over.
-fn place(t: &[u8], row: &[u8], leg: Leg, k: usize, x: Vertex) -> Spot
-    requires held { Held leg t.now row.now k × LegOnGrid leg }
-    requires vertex { IsVertex leg t.now x.place x × HasSite t.now x.place }
-    ensures within { result.on ≤ k }
-    ensures placed { Placed (point_at leg t.now x.place)
-        (stack leg t.now row.now k) result.add
-        (stack leg t.now row.now result.on) }
+// Drops from the end what x takes over, and says on how many x goes: on none where another hides it.
+fn place(row: Row, x: Vertex) -> Option<usize>
+    requires { IsVertex row.leg row.t.now x.place x × HasSite row.t.now x.place }
+    ensures { let r = row.entry in
+        Placed r.leg r.t.now r.places.now r.k (point_at r.leg r.t.now x.place) result }
 {
-    let mut j = k;
-    while 0 < j {
-        let u = list_row::vertex_in(t, row, leg, j, j - 1);
-        if hides(t, leg, u, x) {
-            return Spot { on: j, add: false };
+    for i in (0..row.k).rev() {
+        let j = i + 1;
+        let u = row.vertex(i);
+        if hides(row.t, row.leg, u, x) {
+            return None;
         }
-        if stands(t, row, leg, j, u, x) {
-            return Spot { on: j, add: true };
+        if stands(row, j, u, x) {
+            return Some(j);
         }
-        j -= 1;
     }
-    Spot { on: 0, add: true }
+    Some(0)
 }
 
 // Whether the vertex at i, which is right of x, stays behind it: it lies below x, and the breakpoints rise.
-fn stays(t: &[u8], row: &[u8], leg: Leg, k: usize, i: usize, x: Vertex) -> bool
-    requires held { Held leg t.now row.now k × LegOnGrid leg × (i < k) }
-    requires vertex { IsVertex leg t.now x.place x × (x.a < (vertex_in leg t.now row.now i).a) }
-    ensures { Says result
-        (Stays leg t.now row.now k (point_at leg t.now x.place) i) }
+fn stays(row: Row, i: usize, x: Vertex) -> bool
+    requires within { i < row.k }
+    requires vertex { IsVertex row.leg row.t.now x.place x
+        × (x.a < (vertex_in row.leg row.t.now row.places.now i).a) }
+    ensures { let r = row.entry in Says result
+        (Stays r.leg r.t.now r.places.now r.k (point_at r.leg r.t.now x.place) i) }
 {
-    let u = list_row::vertex_in(t, row, leg, k, i);
+    let u = row.vertex(i);
     if x.c <= u.c {
         return false;
     }
     let next = i + 1;
-    if next == k {
+    if next == row.k {
         return true;
     }
-    let v = list_row::vertex_in(t, row, leg, k, next);
+    let v = row.vertex(next);
     bends(x, u, v)
 }
 
-// The first from n on, where those right of x begin, that stays; k where none does.
-fn right_tangent(t: &[u8], row: &[u8], leg: Leg, k: usize, n: usize, x: Vertex) -> usize
-    requires { Held leg t.now row.now k × LegOnGrid leg × IsVertex leg t.now x.place x
-        × Cut leg t.now row.now k x.a n }
-    ensures { Tangent leg t.now row.now k n (point_at leg t.now x.place) result }
+// The first from n on, where those right of x begin, that stays; the row's length where none does.
+fn right_tangent(row: Row, n: usize, x: Vertex) -> usize
+    requires { IsVertex row.leg row.t.now x.place x × Cut row.leg row.t.now row.places.now row.k x.a n }
+    ensures { let r = row.entry in
+        Tangent r.leg r.t.now r.places.now r.k n (point_at r.leg r.t.now x.place) result }
 {
-    let mut i = n;
-    while i < k {
-        if stays(t, row, leg, k, i, x) {
+    for i in n..row.k {
+        if stays(row, i, x) {
             return i;
         }
-        i += 1;
     }
-    k
+    row.k
 }
 
 // Whether x is strictly below the chord of its neighbours, the vertices at j - 1 and at i. A missing neighbour leaves
 // it at an end of the list.
-fn below_chord(t: &[u8], row: &[u8], leg: Leg, k: usize, j: usize, i: usize, x: Vertex) -> bool
-    requires held { Held leg t.now row.now k × LegOnGrid leg × (j ≤ k) × (i ≤ k) }
-    requires vertex { IsVertex leg t.now x.place x
-        × Between leg t.now row.now k j i (point_at leg t.now x.place) }
-    ensures { Says result
-        (BelowChord leg t.now row.now k j i (point_at leg t.now x.place)) }
+fn below_chord(row: Row, j: usize, i: usize, x: Vertex) -> bool
+    requires within { (j ≤ row.k) × (i ≤ row.k) }
+    requires vertex { IsVertex row.leg row.t.now x.place x
+        × Between row.leg row.t.now row.places.now row.k j i (point_at row.leg row.t.now x.place) }
+    ensures { let r = row.entry in Says result
+        (BelowChord r.leg r.t.now r.places.now r.k j i (point_at r.leg r.t.now x.place)) }
 {
     if j == 0 {
         return true;
     }
-    if i == k {
+    if i == row.k {
         return true;
     }
-    let s = list_row::vertex_in(t, row, leg, k, j - 1);
-    let u = list_row::vertex_in(t, row, leg, k, i);
+    let s = row.vertex(j - 1);
+    let u = row.vertex(i);
     bends(s, x, u)
 }
 
@@ -190,13 +176,13 @@ pub fn insert(t: &[u8], work: &mut [u8], leg: Leg, k: usize, n: usize, x: Vertex
     ensures { Inserted leg t.now work.old k (point_at leg t.now x.place)
         work.new result }
 {
-    let spot = place(t, work, leg, n, x);
-    if !spot.add {
+    let left = Row { t, places: work, leg, k: n };
+    let Some(j) = place(left, x) else {
         return k;
-    }
-    let j = spot.on;
-    let i = right_tangent(t, work, leg, k, n, x);
-    if !below_chord(t, work, leg, k, j, i, x) {
+    };
+    let row = Row { t, places: work, leg, k };
+    let i = right_tangent(row, n, x);
+    if !below_chord(row, j, i, x) {
         return k;
     }
     splice(work, k, j, i, x.place)

@@ -10,6 +10,7 @@ ghost use Rattle.list_probe.specs.SiteArray.{probe_bytes, sites_from, HasSites, 
 ghost use Rattle.list_probe.specs.Probing.{Orderly, Buildable, Written, leg_of, Probed};
 
 use grid::{Leg, Position};
+use list_row::Row;
 
 // The bytes of a site record, and the places from one to the next: a place is half an offset.
 const SITE_BYTES: usize = 8;
@@ -22,18 +23,15 @@ fn orderly(t: &[u8], n: usize) -> bool
     ensures { Says result (Orderly 0 (sites_from t.now 0 n)) }
 {
     let mut last = 0;
-    let mut i = 0;
-    while i < n {
+    for i in 0..n {
         let site = list_row::site_at(t, SITE_PLACES * i);
         if site.number <= last {
             return false;
         }
-        if grid::coordinate::on_grid(site.position) {
-            last = site.number;
-            i += 1;
-            continue;
+        if !grid::coordinate::on_grid(site.position) {
+            return false;
         }
-        return false;
+        last = site.number;
     }
     true
 }
@@ -42,22 +40,11 @@ fn orderly(t: &[u8], n: usize) -> bool
 fn buildable(t: &[u8], n: usize, leg: Leg, room: usize) -> bool
     ensures { Says result (Buildable t.now n leg room) }
 {
-    if limits::MAX_SITES < n {
-        return false;
-    }
-    if t.len() < SITE_BYTES * n {
-        return false;
-    }
-    if room < list_row::ROW_BYTES {
-        return false;
-    }
-    if grid::coordinate::on_grid(leg.s) {
-        if grid::coordinate::on_grid(leg.e) {
-            return orderly(t, n);
-        }
-        return false;
-    }
-    false
+    n <= limits::MAX_SITES
+        && SITE_BYTES * n <= t.len()
+        && list_row::ROW_BYTES <= room
+        && grid::coordinate::leg_on_grid(leg)
+        && orderly(t, n)
 }
 
 // Deals with n site records of 8 bytes each, which begin at byte `from`, the last one first. The list stands in the row
@@ -68,11 +55,8 @@ fn build(t: &[u8], from: usize, n: usize, leg: Leg, work: &mut [u8]) -> usize
 {
     let first = from / 2;
     let mut k = 0;
-    let mut i = n;
-    while 0 < i {
-        i -= 1;
-        let p = first + SITE_PLACES * i;
-        k = list_skip::deal(t, leg, p, work, k);
+    for i in (0..n).rev() {
+        k = list_skip::deal(t, leg, first + SITE_PLACES * i, work, k);
     }
     k
 }
@@ -88,7 +72,8 @@ fn written(t: &[u8], n: usize, leg: Leg, work: &mut [u8], report: &mut [u8]) -> 
     if report.len() < size {
         return 0;
     }
-    call_record::put_list(t, work, leg, 0, k, report, 0)
+    let row = Row { t, places: work, leg, k };
+    call_record::put_list(row, 0, report, 0)
 }
 
 // Writes the record of the list of the leg over the n site records at the beginning of the table, and says how many
@@ -118,8 +103,7 @@ pub extern "C" fn probe_list(
             north: enorth,
         },
     };
-    let room = work.len();
-    if buildable(table, n, leg, room) {
+    if buildable(table, n, leg, work.len()) {
         return written(table, n, leg, work, report);
     }
     0

@@ -38,11 +38,8 @@ module _ {l : Leg} {t r : List ℕ} {k a lo hi : ℕ} (n : CutBetween l t r k a 
 pub stands_at : {l : Leg} {t r : List ℕ} {k n : ℕ} {u : Vertex} → IsVertex l t (place_at r n) u → n < k → Stands l t r k u
 stands_at {n = n} hu h = record { at = n; within = h; is = hu }
 
--- The steps and returns of `climb` and `fall`, and the first look of `cut_near`.
+-- The returns of `climb` and `fall`, and the first look of `cut_near`.
 module _ {l : Leg} {t r : List ℕ} {k a n : ℕ} where
-  pub climb_end : {u : Vertex} → CutBetween l t r k a n k → n ≡ k → Held l t r k → Stands l t r k u → About l t r k a (record { n = k; left = u; right = u })
-  climb_end w e hd su = record { cut = rw e at (cut_found w (omega arith) hd); left = su; right = su }
-
   pub fall_end : {v : Vertex} → CutBetween l t r k a 0 n → n ≡ 0 → Held l t r k → Stands l t r k v → About l t r k a (record { n = 0; left = v; right = v })
   fall_end w e hd sv = record { cut = cut_found w (omega arith) hd; left = sv; right = sv }
 
@@ -57,11 +54,6 @@ module _ {l : Leg} {t r : List ℕ} {k a n : ℕ} where
           right = record { at = n; within = omega arith; is = hu };
         }
 
-    pub climb_more : CutBetween l t r k a n k → n ≢ k → IsVertex l t (place_at r n) u → u.a ≤ a → CutBetween l t r k a (n + 1) k × Stands l t r k u
-    climb_more w h hu g =
-        let o = w.order in
-        (cut_up w hu (omega arith) g, record { at = n; within = omega arith; is = hu })
-
     pub fall_found : {v : Vertex} → CutBetween l t r k a 0 n → n ≢ 0 → Stands l t r k v → IsVertex l t (place_at r (n - 1)) u → u.a ≤ a → Held l t r k
         → About l t r k a (record { n = n; left = u; right = v })
     fall_found w h sv hu g hd =
@@ -71,10 +63,6 @@ module _ {l : Leg} {t r : List ℕ} {k a n : ℕ} where
           left = record { at = n - 1; within = omega (arith, w.within); is = hu };
           right = sv;
         }
-
-    pub fall_less : CutBetween l t r k a 0 n → n ≢ 0 → IsVertex l t (place_at r (n - 1)) u → a < u.a → CutBetween l t r k a 0 (n - 1) × Stands l t r k u
-    fall_less w h hu g =
-        (cut_down w hu (omega arith) (omega arith) g, record { at = n - 1; within = omega (arith, w.within); is = hu })
 
     pub climb_begun : IsVertex l t (place_at r n) u → n < k → u.a ≤ a → CutBetween l t r k a (n + 1) k
     climb_begun hu h g = cut_up (cut_begun l t r k a) hu h g

@@ -1,9 +1,11 @@
 -- The returns of `rank` and `comes_first`.
 -- Assumes nothing.
-use mathlib.Core.Path.{◌≡◌, ap}
+use mathlib.Core.Path.{◌≡◌, refl, ap}
 use mathlib.Core.Bool.{Bool, true, false}
-use Prim.Native.Nat.{ℕ, suc, ◌+◌, ◌≤◌, ◌<◌}
+use Prim.Native.Nat.{ℕ, suc, ◌+◌, ◌≤◌}
 use native.Mathlib.Omega.{arith}
+use lib.Dec.{leb}
+use borrow.Author.Tests.{leb-true, leb-false}
 use Rattle.limits.specs.Limits.{max_number}
 use Rattle.grid.specs.declared.Leg.{Leg}
 use Rattle.grid.specs.declared.Site.{Site}
@@ -21,8 +23,9 @@ ranked_elsewhere l p b s e = rank_elsewhere l p (says_no b s e)
 
 -- two sites, and their ranks in hand
 module _ (l : Leg) (p q x y : Site) (m n : ℕ) (hp : x ≡ p) (hq : y ≡ q) (hm : m ≡ rank l x) (hn : n ≡ rank l y) where
-  pub not_first : n < m → ¬ (rank l p ≤ rank l q)
-  not_first h k = omega (arith, ap (rank l) hp, ap (rank l) hq)
-
-  pub is_first : m ≤ n → rank l p ≤ rank l q
-  is_first h = omega (arith, ap (rank l) hp, ap (rank l) hq)
+  pub first_said : Says (leb m n) (rank l p ≤ rank l q)
+  first_said = by (leb m n) refl
+    where
+      by : (b : Bool) → leb m n ≡ b → Says b (rank l p ≤ rank l q)
+      by true e = omega (arith, leb-true m n e, ap (rank l) hp, ap (rank l) hq)
+      by false e = λ k. omega (arith, leb-false m n e, ap (rank l) hp, ap (rank l) hq)

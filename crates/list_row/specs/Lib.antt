@@ -2,3 +2,4 @@ pub mod Places
 pub mod Vertices
 pub mod Gaps
 pub mod Entries
+pub mod Alike

@@ -9,6 +9,7 @@ ghost use Rattle.split.specs.SplitList.{rank};
 ghost use Rattle.list_row.specs.Places.{site_at, HasSite};
 ghost use Rattle.list_row.specs.Vertices.{IsVertex, place_at, put_place, Held, Cut, CutBetween};
 ghost use Rattle.list_row.specs.Gaps.{Stands, About};
+ghost use Rattle.list_row.specs.Alike.{held_alike};
 
 use grid::{Leg, Position, Site};
 
@@ -28,7 +29,7 @@ pub fn product(x: u32, y: u32) -> u64
     requires { x * y < 2 ^ 64 }
     ensures { result ≡ x * y }
 {
-    x as u64 * y as u64
+    u64::from(x) * u64::from(y)
 }
 
 // The site at a place, wherever it lies.
@@ -41,11 +42,8 @@ pub fn site_at(t: &[u8], p: usize) -> Site
     let east = words::word(t, base + 2);
     let north = words::word(t, base + 4);
     Site {
-        number: number,
-        position: Position {
-            east: east,
-            north: north,
-        },
+        number,
+        position: Position { east, north },
     }
 }
 
@@ -57,11 +55,7 @@ pub fn vertex_at(t: &[u8], leg: Leg, p: usize) -> Vertex
     let site = site_at(t, p);
     let a = grid::distance::between(site.position, leg.s) as u32;
     let c = grid::distance::between(site.position, leg.e) as u32;
-    Vertex {
-        place: p,
-        a: a,
-        c: c,
-    }
+    Vertex { place: p, a, c }
 }
 
 // What decides a tie: the least comes first. On the right of the leg it is the site's number, elsewhere it is above all
@@ -69,11 +63,11 @@ pub fn vertex_at(t: &[u8], leg: Leg, p: usize) -> Vertex
 fn rank(leg: Leg, site: Site) -> u32
     ensures { result ≡ rank leg site }
 {
-    let number = site.number as u32;
+    let number = u32::from(site.number);
     if grid::side::on_the_right(leg, site.position) {
         return number;
     }
-    limits::MAX_NUMBER as u32 + 1 + number
+    u32::from(limits::MAX_NUMBER) + 1 + number
 }
 
 // Whether of two sites that tie along the whole leg the one at p comes first, or has the same rank: then the one at q
@@ -84,18 +78,15 @@ pub fn comes_first(t: &[u8], leg: Leg, p: usize, q: usize) -> bool
 {
     let m = rank(leg, site_at(t, p));
     let n = rank(leg, site_at(t, q));
-    if n < m {
-        return false;
-    }
-    true
+    m <= n
 }
 
-// The number of the site that stands in a row at i.
+// The number of the site that stands in a row at i. A row that is in the course of being spent is no `Row`.
 pub fn number_in(t: &[u8], row: &[u8], i: usize) -> u16
     requires { (2 * i + 2 ≤ length row.now) × HasSite t.now (place_at row.now i) }
     ensures { (result ≡ (site_at t.now (place_at row.now i)).number) × (result < 65536) }
 {
-    let p = words::word(row, 2 * i) as usize;
+    let p = usize::from(words::word(row, 2 * i));
     words::word(t, 2 * p)
 }
 
@@ -105,15 +96,6 @@ pub fn put_place(row: &mut [u8], i: usize, p: usize)
     ensures { row.new ≡ put_place row.old i p }
 {
     words::put_word(row, 2 * i, p as u16);
-}
-
-// The vertex that stands in a row at i.
-pub fn vertex_in(t: &[u8], row: &[u8], leg: Leg, k: usize, i: usize) -> Vertex
-    requires { Held leg t.now row.now k × LegOnGrid leg × (i < k) }
-    ensures { IsVertex leg t.now (place_at row.now i) result }
-{
-    let p = words::word(row, 2 * i) as usize;
-    vertex_at(t, leg, p)
 }
 
 // Where a bisection of lo to hi looks next: at the ends of the k first, where a site that comes in the order of the
@@ -131,25 +113,6 @@ fn probe(lo: usize, hi: usize, k: usize) -> usize
     lo + (hi - lo) / 2
 }
 
-// How many of the first k are not right of a, by bisection from lo to hi.
-fn bisect(t: &[u8], row: &[u8], leg: Leg, k: usize, a: u32, from: usize, to: usize) -> usize
-    requires { Held leg t.now row.now k × LegOnGrid leg × CutBetween leg t.now row.now k a from to }
-    ensures { Cut leg t.now row.now k a result }
-{
-    let mut lo = from;
-    let mut hi = to;
-    while lo < hi {
-        let mid = probe(lo, hi, k);
-        let u = vertex_in(t, row, leg, k, mid);
-        if u.a <= a {
-            lo = mid + 1;
-            continue;
-        }
-        hi = mid;
-    }
-    lo
-}
-
 // A cut, and two vertices of the row about it: the last that is not right of the cut and the first that is; at an end
 // of the row, that end twice.
 #[derive(Clone, Copy)]
@@ -159,137 +122,157 @@ pub struct Gap {
     pub right: Vertex,
 }
 
-// The index before n; 0 before 0.
-fn before(n: usize, k: usize) -> usize
-    requires { (n ≤ k) × (0 < k) }
-    ensures { (result ≡ n - 1) × (result < k) }
-{
-    if n == 0 {
-        return 0;
-    }
-    n - 1
-}
-
-// The index n; the last of k behind the end.
-fn upto(n: usize, k: usize) -> usize
-    requires { 0 < k }
-    ensures { result < k }
-{
-    if n < k {
-        return n;
-    }
-    k - 1
-}
-
-// The cut at a, by bisection from lo to hi.
-fn bisected(t: &[u8], row: &[u8], leg: Leg, k: usize, a: u32, lo: usize, hi: usize) -> Gap
-    requires { Held leg t.now row.now k × LegOnGrid leg × (0 < k) × CutBetween leg t.now row.now k a lo hi }
-    ensures { About leg t.now row.now k a result }
-{
-    let n = bisect(t, row, leg, k, a, lo, hi);
-    let u = vertex_in(t, row, leg, k, before(n, k));
-    let v = vertex_in(t, row, leg, k, upto(n, k));
-    Gap {
-        n: n,
-        left: u,
-        right: v,
-    }
-}
-
-// The cut at a.
-pub fn cut(t: &[u8], row: &[u8], leg: Leg, k: usize, a: u32) -> Gap
-    requires { Held leg t.now row.now k × LegOnGrid leg × (0 < k) }
-    ensures { About leg t.now row.now k a result }
-{
-    bisected(t, row, leg, k, a, 0, k)
-}
-
 // So many steps from a guess; then a bisection is quicker, however wrong the guess is.
 const STEPS: usize = 8;
 
-// The cut at a: at least n, before which u stands, and rising one by one.
-fn climb(t: &[u8], row: &[u8], leg: Leg, k: usize, a: u32, n: usize, u: Vertex) -> Gap
-    requires { Held leg t.now row.now k × LegOnGrid leg × (0 < k) × CutBetween leg t.now row.now k a n k
-        × Stands leg t.now row.now k u }
-    ensures { About leg t.now row.now k a result }
-{
-    let mut i = n;
-    let mut last = u;
-    let mut left = STEPS;
-    while 0 < left {
-        if i == k {
+// The list of a leg as it is read: the table, and a row whose first k places are the vertices of a hull.
+#[derive(Clone, Copy)]
+pub struct Row<'a> {
+    pub t: &'a [u8],
+    pub places: &'a [u8],
+    pub leg: Leg,
+    pub k: usize,
+    pub ghost held: { Held leg t.now places.now k } by { held_alike leg t.now places.now k },
+    pub ghost on_grid: { LegOnGrid leg },
+}
+
+impl<'a> Row<'a> {
+    // The vertex that stands at i.
+    pub fn vertex(self, i: usize) -> Vertex
+        requires { i < self.k }
+        ensures { let r = self.entry in IsVertex r.leg r.t.now (place_at r.places.now i) result }
+    {
+        let p = usize::from(words::word(self.places, 2 * i));
+        vertex_at(self.t, self.leg, p)
+    }
+
+    // The number of the site that stands at i.
+    pub fn number(self, i: usize) -> u16
+        requires { i < self.k }
+        ensures { let r = self.entry in
+            (result ≡ (site_at r.t.now (place_at r.places.now i)).number) × (result < 65536) }
+    {
+        number_in(self.t, self.places, i)
+    }
+
+    // How many are not right of a, by bisection from lo to hi.
+    fn bisect(self, a: u32, from: usize, to: usize) -> usize
+        requires { CutBetween self.leg self.t.now self.places.now self.k a from to }
+        ensures { let r = self.entry in Cut r.leg r.t.now r.places.now r.k a result }
+    {
+        let mut lo = from;
+        let mut hi = to;
+        while lo < hi {
+            let mid = probe(lo, hi, self.k);
+            let u = self.vertex(mid);
+            if u.a <= a {
+                lo = mid + 1;
+                continue;
+            }
+            hi = mid;
+        }
+        lo
+    }
+
+    // The cut at a, by bisection from lo to hi.
+    fn bisected(self, a: u32, lo: usize, hi: usize) -> Gap
+        requires { (0 < self.k) × CutBetween self.leg self.t.now self.places.now self.k a lo hi }
+        ensures { let r = self.entry in About r.leg r.t.now r.places.now r.k a result }
+    {
+        let n = self.bisect(a, lo, hi);
+        Gap {
+            n,
+            left: self.vertex(n.saturating_sub(1)),
+            right: self.vertex(n.min(self.k - 1)),
+        }
+    }
+
+    // The cut at a.
+    pub fn cut(self, a: u32) -> Gap
+        requires { 0 < self.k }
+        ensures { let r = self.entry in About r.leg r.t.now r.places.now r.k a result }
+    {
+        self.bisected(a, 0, self.k)
+    }
+
+    // The cut at a: at least n, before which u stands, and rising one by one.
+    fn climb(self, a: u32, n: usize, u: Vertex) -> Gap
+        requires { CutBetween self.leg self.t.now self.places.now self.k a n self.k
+            × Stands self.leg self.t.now self.places.now self.k u }
+        ensures { let r = self.entry in About r.leg r.t.now r.places.now r.k a result }
+    {
+        let end = self.k.min(n + STEPS);
+        let mut last = u;
+        for i in n..end {
+            let v = self.vertex(i);
+            if a < v.a {
+                return Gap {
+                    n: i,
+                    left: last,
+                    right: v,
+                };
+            }
+            last = v;
+        }
+        if end == self.k {
             return Gap {
-                n: k,
+                n: end,
                 left: last,
                 right: last,
             };
         }
-        let v = vertex_in(t, row, leg, k, i);
-        if a < v.a {
-            return Gap {
-                n: i,
-                left: last,
-                right: v,
-            };
-        }
-        last = v;
-        i += 1;
-        left -= 1;
+        self.bisected(a, end, self.k)
     }
-    bisected(t, row, leg, k, a, i, k)
-}
 
-// The cut at a: at most n, where v stands, and falling one by one.
-fn fall(t: &[u8], row: &[u8], leg: Leg, k: usize, a: u32, n: usize, v: Vertex) -> Gap
-    requires { Held leg t.now row.now k × LegOnGrid leg × (0 < k) × CutBetween leg t.now row.now k a 0 n
-        × Stands leg t.now row.now k v }
-    ensures { About leg t.now row.now k a result }
-{
-    let mut i = n;
-    let mut first = v;
-    let mut left = STEPS;
-    while 0 < left {
-        if i == 0 {
+    // The cut at a: at most n, where v stands, and falling one by one.
+    fn fall(self, a: u32, n: usize, v: Vertex) -> Gap
+        requires { CutBetween self.leg self.t.now self.places.now self.k a 0 n
+            × Stands self.leg self.t.now self.places.now self.k v }
+        ensures { let r = self.entry in About r.leg r.t.now r.places.now r.k a result }
+    {
+        let end = n.saturating_sub(STEPS);
+        let mut first = v;
+        for i in (end..n).rev() {
+            let u = self.vertex(i);
+            if u.a <= a {
+                return Gap {
+                    n: i + 1,
+                    left: u,
+                    right: first,
+                };
+            }
+            first = u;
+        }
+        if end == 0 {
             return Gap {
                 n: 0,
                 left: first,
                 right: first,
             };
         }
-        let u = vertex_in(t, row, leg, k, i - 1);
+        self.bisected(a, 0, end)
+    }
+
+    // The cut at a, which is about `near`: steps that are few and can be foreseen are quicker than a bisection. The two
+    // vertices about the guess are read together, since neither waits for the other.
+    pub fn cut_near(self, a: u32, near: usize) -> Gap
+        requires { 0 < self.k }
+        ensures { let r = self.entry in About r.leg r.t.now r.places.now r.k a result }
+    {
+        let i = near.min(self.k - 1);
+        let j = i.saturating_sub(1);
+        let v = self.vertex(i);
+        let u = self.vertex(j);
+        if v.a <= a {
+            return self.climb(a, i + 1, v);
+        }
         if u.a <= a {
             return Gap {
                 n: i,
                 left: u,
-                right: first,
+                right: v,
             };
         }
-        first = u;
-        i -= 1;
-        left -= 1;
+        self.fall(a, j, u)
     }
-    bisected(t, row, leg, k, a, 0, i)
-}
-
-// The cut at a, which is about `near`: steps that are few and can be foreseen are quicker than a bisection. The two
-// vertices about the guess are read together, since neither waits for the other.
-pub fn cut_near(t: &[u8], row: &[u8], leg: Leg, k: usize, a: u32, near: usize) -> Gap
-    requires { Held leg t.now row.now k × LegOnGrid leg × (0 < k) }
-    ensures { About leg t.now row.now k a result }
-{
-    let i = upto(near, k);
-    let j = before(i, k);
-    let v = vertex_in(t, row, leg, k, i);
-    let u = vertex_in(t, row, leg, k, j);
-    if v.a <= a {
-        return climb(t, row, leg, k, a, i + 1, v);
-    }
-    if u.a <= a {
-        return Gap {
-            n: i,
-            left: u,
-            right: v,
-        };
-    }
-    fall(t, row, leg, k, a, j, u)
 }

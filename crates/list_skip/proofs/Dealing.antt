@@ -1,7 +1,6 @@
 -- A site dealt with: it stands already, it is skipped, or it is inserted. The returns of `deal`.
 -- Assumes nothing.
 use mathlib.Core.Path.{◌≡◌, sym, subst}
-use mathlib.Core.Bool.{Bool, true}
 use mathlib.Core.List.Memᴰ
 use mathlib.Core.List.{List, [], ◌∷◌}
 use Prim.Native.Nat.{ℕ}
@@ -9,7 +8,6 @@ use native.Mathlib.Omega.{arith}
 use Rattle.limits.specs.Limits.{max_sites}
 use Rattle.words.proofs.Frame.{only_refl, only_wider}
 use Rattle.grid.specs.declared.Leg.{Leg}
-use Rattle.grid.specs.Says.{If}
 use Rattle.split.specs.Hull.{Point, In, IsHull}
 use Rattle.split.specs.Skip.{ShutOut}
 use Rattle.split.proofs.HullLaws.{grow, covers_cons, self, members}
@@ -18,7 +16,6 @@ use Rattle.list_row.specs.declared.Vertex.{Vertex}
 use Rattle.list_row.specs.Vertices.{point_at, IsVertex, stack, Held}
 use Rattle.list_insert.specs.Insertion.{Inserted}
 use Rattle.list_skip.specs.Skipping.{Space, Dealt}
-use Rattle.list_skip.proofs.Witnesses.{if_true}
 
 -- a vertex of the hull once more
 again : {p : Point} {Q h : List Point} → In p h → IsHull Q h → IsHull (p ∷ Q) h
@@ -34,12 +31,12 @@ module _ {l : Leg} {t r : List ℕ} {k p : ℕ} (hd : Held l t r k) where
       record { within = omega arith; held = hd; lists = λ s d. again (f (omega arith)) d; only = only_refl }
 
   module _ {x : Vertex} (hx : IsVertex l t p x) where
-    pub deal_skipped : (b : Bool) → b ≡ true → If b (ShutOut (stack l t r k) x.a x.c) → Dealt l t r k p r k
-    deal_skipped b e w =
+    pub deal_skipped : ShutOut (stack l t r k) x.a x.c → Dealt l t r k p r k
+    deal_skipped w =
         record {
           within = omega arith;
           held = hd;
-          lists = λ s d. skip_hull (if_true b e w) (point_at l t p) (omega (arith, hx.a_is)) (omega (arith, hx.c_is)) d;
+          lists = λ s d. skip_hull w (point_at l t p) (omega (arith, hx.a_is)) (omega (arith, hx.c_is)) d;
           only = only_refl;
         }
 

@@ -1,12 +1,15 @@
 -- The witnesses of a skip, in hand.
 -- Assumes nothing.
-use mathlib.Core.Path.{◌≡◌, subst⁻¹}
+use mathlib.Core.Path.{◌≡◌, refl, subst⁻¹}
 use mathlib.Core.Logic.{inl, inr}
 use mathlib.Core.Bool.{Bool, true, false}
 use mathlib.Core.List.{List}
+use Rattle.std.specs.Prelude.{Option, None, Some}
 use Prim.Native.Nat.{ℕ, ◌+◌, ◌*◌, ◌^◌, ◌≤◌, ◌<◌}
 use native.Mathlib.Nat.{mul-le-mul_left}
 use native.Mathlib.Omega.{arith}
+use lib.Dec.{ltb}
+use borrow.Author.Tests.{ltb-true}
 use Rattle.grid.specs.declared.Corner.{Corner}
 use Rattle.grid.specs.declared.Leg.{Leg}
 use Rattle.grid.specs.Says.{If}
@@ -19,10 +22,18 @@ use Rattle.list_row.specs.Gaps.{Stands, About}
 use Rattle.list_row.proofs.Stacks.{in_stack}
 use Rattle.list_skip.specs.declared.Edge.{Edge}
 use Rattle.list_skip.specs.declared.Seen.{Seen}
-use Rattle.list_skip.specs.Skipping.{SmallCorner, EdgeShuts, Knows, KnowsNothing, edge_of, SeenAbout, Looked}
+use Rattle.list_skip.specs.Skipping.{SmallCorner, EdgeShuts, Knows, KnowsNothing, edge_of, SeenNothing, CutOf, SeenAbout, CutIn, Looked}
 
 pub if_true : {P : Type 0} (b : Bool) → b ≡ true → If b P → P
 if_true b e h = rw e at h
+
+-- a comparison that is the answer
+pub if_less : {P : Type 0} (m n : ℕ) → (m < n → P) → If (ltb m n) P
+if_less {P} m n f = by (ltb m n) refl
+  where
+    by : (b : Bool) → ltb m n ≡ b → If b P
+    by true e = f (ltb-true m n e)
+    by false e = tt
 
 -- TWO VERTICES OF THE ROW KNOW WHAT THE LIST SHUTS OUT
 module _ {l : Leg} {t r : List ℕ} {n : ℕ} where
@@ -52,24 +63,23 @@ module _ {l : Leg} {t r : List ℕ} {n : ℕ} where
       by (inl f) = witness su su f
       by (inr f) = witness su sv f
 
--- the return of `covers`
+-- the returns of `covers` and `look`
 pub looked : {l : Leg} {t r : List ℕ} {n : ℕ} {k : Corner} {g : Gap} {s : Seen} → SmallCorner k → About l t r n k.a g → SeenAbout g k s → Looked l t r n k s
 looked {l} {t} {r} {n} {k} {g} {s} h b w =
     let kn : Knows s.edge (stack l t r n) = subst⁻¹ (λ (e : Edge). Knows e (stack l t r n)) w.edge (edge_knows b.left b.right) in
-    record {
-      shut = told s.shut w.shut kn;
-      cut = subst⁻¹ (λ (x : ℕ). Cut l t r n k.a x) w.cut b.cut;
-      knows = kn;
-    }
+    record { cut = told s.cut w.cut kn; knows = kn }
   where
-    told : (q : Bool) → If q (EdgeShuts s.edge k.a k.c) → Knows s.edge (stack l t r n) → If q (ShutOut (stack l t r n) k.a k.c)
-    told true f kn = kn.shuts k h f
-    told false f kn = tt
+    told : (o : Option ℕ) → CutOf g s.edge k o → Knows s.edge (stack l t r n) → CutIn l t r n k o
+    told (Some m) e kn = subst⁻¹ (λ (x : ℕ). Cut l t r n k.a x) e b.cut
+    told None f kn = kn.shuts k h f
 
 -- of an empty row
-pub looked_none : {l : Leg} {t r : List ℕ} {n : ℕ} {k : Corner} {e : Edge} → n ≡ 0 → KnowsNothing e → Looked l t r n k (record { shut = false; cut = 0; edge = e })
-looked_none {l} {t} {r} {n} z f =
-    record { shut = tt; cut = record { within = omega arith; left = λ h. absurd (omega arith); right = λ i h j. absurd (omega arith) }; knows = f (stack l t r n) }
+pub looked_none : {l : Leg} {t r : List ℕ} {n : ℕ} {k : Corner} {s : Seen} → n ≡ 0 → SeenNothing s → Looked l t r n k s
+looked_none {l} {t} {r} {n} {k} {s} z w =
+    record {
+      cut = subst⁻¹ (CutIn l t r n k) w.cut (record { within = omega arith; left = λ h. absurd (omega arith); right = λ i h j. absurd (omega arith) });
+      knows = w.edge (stack l t r n);
+    }
 
 -- the returns of `shuts`
 pub by_left : (e : Edge) (a c : ℕ) (b : Bool) → b ≡ true → If b (Shut e.left e.left a c) → EdgeShuts e a c

@@ -11,10 +11,10 @@ ghost use Rattle.split.specs.Skip.{Shut};
 ghost use Rattle.list_row.specs.Places.{HasSite};
 ghost use Rattle.list_row.specs.Vertices.{Small, IsVertex, row_bytes, Held, Cut};
 ghost use Rattle.list_skip.specs.Skipping.{SmallCorner, SmallEdge, EdgeShuts, KnowsNothing};
-ghost use Rattle.list_skip.specs.Skipping.{SeenAbout, Looked, Space, Dealt};
+ghost use Rattle.list_skip.specs.Skipping.{SeenNothing, SeenAbout, Looked, Space, Dealt};
 
 use grid::{Corner, Leg};
-use list_row::{Gap, Vertex};
+use list_row::{Gap, Row, Vertex};
 
 // Whether v is as low as the corner in both, and lower in one. A tie shuts nothing out: there the tie rule decides.
 pub fn lower(v: Corner, corner: Corner) -> bool
@@ -28,10 +28,7 @@ pub fn lower(v: Corner, corner: Corner) -> bool
         return false;
     }
     let sum = v.a + v.c;
-    if sum < corner.a + corner.c {
-        return true;
-    }
-    false
+    sum < corner.a + corner.c
 }
 
 // What is compared at the weights m and n.
@@ -63,10 +60,7 @@ fn above(u: Corner, v: Corner, corner: Corner) -> bool
     let rise = v.a - u.a;
     let edge = weigh(fall, rise, v.a, v.c);
     let here = weigh(fall, rise, corner.a, corner.c);
-    if edge < here {
-        return true;
-    }
-    false
+    edge < here
 }
 
 // Two sites that were listed when they were looked at, by their squared distances: what is known of a list without
@@ -78,7 +72,7 @@ pub struct Edge {
 }
 
 // More than any squared distance.
-const FAR: u32 = 2147483647;
+const FAR: u32 = u32::MAX / 2;
 
 // The edge that shuts nothing out.
 pub fn no_edge() -> Edge
@@ -95,20 +89,24 @@ pub fn shuts(edge: Edge, corner: Corner) -> bool
     requires { SmallEdge edge × SmallCorner corner }
     ensures { If result (EdgeShuts edge corner.a corner.c) }
 {
-    let u = edge.left;
-    if lower(u, corner) {
-        return true;
-    }
-    let v = edge.right;
-    above(u, v, corner)
+    lower(edge.left, corner) || above(edge.left, edge.right, corner)
 }
 
-// What a look at a corner found: whether the list shuts it out, its cut, and the edge there.
+// What a look at a corner found: its cut, or nothing where the list shuts it out, and the edge there.
 #[derive(Clone, Copy)]
 pub struct Seen {
-    pub shut: bool,
-    pub cut: usize,
+    pub cut: Option<usize>,
     pub edge: Edge,
+}
+
+// What an empty row tells.
+fn unseen() -> Seen
+    ensures { SeenNothing result }
+{
+    Seen {
+        cut: Some(0),
+        edge: no_edge(),
+    }
 }
 
 // What the vertices about the cut of a corner tell.
@@ -126,27 +124,19 @@ fn tell(gap: Gap, corner: Corner) -> Seen
             c: gap.right.c,
         },
     };
-    let shut = shuts(edge, corner);
-    Seen {
-        shut: shut,
-        cut: gap.n,
-        edge: edge,
-    }
+    let cut = if shuts(edge, corner) { None } else { Some(gap.n) };
+    Seen { cut, edge }
 }
 
 // Looks whether the list shuts out all that is at or beyond the corner, whose cut is about `near`.
-pub fn covers(t: &[u8], row: &[u8], leg: Leg, k: usize, corner: Corner, near: usize) -> Seen
-    requires { Held leg t.now row.now k × LegOnGrid leg × SmallCorner corner }
-    ensures { Looked leg t.now row.now k corner result }
+pub fn covers(row: Row, corner: Corner, near: usize) -> Seen
+    requires { SmallCorner corner }
+    ensures { let r = row.entry in Looked r.leg r.t.now r.places.now r.k corner result }
 {
-    if k == 0 {
-        return Seen {
-            shut: false,
-            cut: 0,
-            edge: no_edge(),
-        };
+    if row.k == 0 {
+        return unseen();
     }
-    let gap = list_row::cut_near(t, row, leg, k, corner.a, near);
+    let gap = row.cut_near(corner.a, near);
     tell(gap, corner)
 }
 
@@ -166,18 +156,14 @@ pub fn deal_vertex(t: &[u8], leg: Leg, x: Vertex, work: &mut [u8], k: usize, n: 
 }
 
 // Looks at the corner by bisection: of its cut nothing is known.
-fn look(t: &[u8], row: &[u8], leg: Leg, k: usize, corner: Corner) -> Seen
-    requires { Held leg t.now row.now k × LegOnGrid leg × SmallCorner corner }
-    ensures { Looked leg t.now row.now k corner result }
+fn look(row: Row, corner: Corner) -> Seen
+    requires { SmallCorner corner }
+    ensures { let r = row.entry in Looked r.leg r.t.now r.places.now r.k corner result }
 {
-    if k == 0 {
-        return Seen {
-            shut: false,
-            cut: 0,
-            edge: no_edge(),
-        };
+    if row.k == 0 {
+        return unseen();
     }
-    let gap = list_row::cut(t, row, leg, k, corner.a);
+    let gap = row.cut(corner.a);
     tell(gap, corner)
 }
 
@@ -189,10 +175,10 @@ pub fn deal(t: &[u8], leg: Leg, p: usize, work: &mut [u8], k: usize) -> usize
     ensures { Dealt leg t.now work.old k p work.new result }
 {
     let x = list_row::vertex_at(t, leg, p);
-    let corner = Corner { a: x.a, c: x.c };
-    let found = look(t, work, leg, k, corner);
-    if found.shut {
+    let row = Row { t, places: work, leg, k };
+    let seen = look(row, Corner { a: x.a, c: x.c });
+    let Some(cut) = seen.cut else {
         return k;
-    }
-    deal_vertex(t, leg, x, work, k, found.cut)
+    };
+    deal_vertex(t, leg, x, work, k, cut)
 }

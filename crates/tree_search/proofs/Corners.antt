@@ -3,7 +3,7 @@
 use mathlib.Core.Path.{◌≡◌, ap, subst, subst⁻¹, ◌∙◌}
 use mathlib.Core.List.{List}
 use mathlib.Core.Logic.{⊎_elim}
-use Prim.Native.Nat.{ℕ, ◌+◌, ◌^◌, ◌≤◌, ◌<◌}
+use Prim.Native.Nat.{ℕ, ◌+◌, ◌≤◌, ◌<◌}
 use native.Mathlib.Omega.{arith}
 use lib.ListN.{length, get_or, set}
 use lib.Seq.{get_or-set_same, get_or-set_other}
@@ -43,31 +43,22 @@ corner_skips l t r n e k c w =
     (subst (λ (x : ℕ). ShutOut (stack l t r n) x k.c) c.a_is w)
 
 -- The loop of `measure`.
-module _ {q : Position} {t : List ℕ} {n : ℕ} where
-  pub measured_none : (far : List ℕ) → Measured q t n 0 far
-  measured_none far = record { is = λ i h. absurd (omega arith); small = λ i h. absurd (omega arith) }
+module _ {l : Leg} {t : List ℕ} {n : ℕ} where
+  pub measured_none : (far : List Corner) → Measured l t n 0 far
+  measured_none far = record { is = λ i h. absurd (omega arith) }
 
-  pub measured_next : {i : ℕ} {far : List ℕ} {x : ℕ} → Measured q t n i far → i < length far → x ≡ area_distance (area_of (entry_of t n i)) q → x < 2 ^ 31
-      → Measured q t n (i + 1) (set far i x)
-  measured_next {i} {far} {x} m lt e s = record { is = λ j h. (both j h).0; small = λ j h. (both j h).1 }
+  pub measured_next : {i : ℕ} {far : List Corner} {x : Corner} → Measured l t n i far → i < length far → IsCorner l (area_of (entry_of t n i)) x
+      → Measured l t n (i + 1) (set far i x)
+  measured_next {i} {far} {x} m lt w = record { is = both }
     where
-      both : (j : ℕ) → j < i + 1 → (get_or (set far i x) j 0 ≡ area_distance (area_of (entry_of t n j)) q) × (get_or (set far i x) j 0 < 2 ^ 31)
+      none : Corner
+      none = record { a = 0; c = 0 }
+
+      both : (j : ℕ) → j < i + 1 → IsCorner l (area_of (entry_of t n j)) (get_or (set far i x) j none)
       both j h =
           ⊎_elim
           (λ (g : i ≤ j).
-          let w : i ≡ j = omega arith in
-          subst (λ (y : ℕ). (get_or (set far i x) y 0 ≡ area_distance (area_of (entry_of t n y)) q) × (get_or (set far i x) y 0 < 2 ^ 31)) w
-          (get_or-set_same far i x 0 lt ∙ e, rw (get_or-set_same far i x 0 lt) s))
-          (λ (g : j < i).
-          let o : get_or (set far i x) j 0 ≡ get_or far j 0 = get_or-set_other far i j x 0 (λ w. omega arith) in
-          (o ∙ m.is j g, rw o (m.small j g)))
+          let e : i ≡ j = omega arith in
+          subst (λ (y : ℕ). IsCorner l (area_of (entry_of t n y)) (get_or (set far i x) y none)) e (rw (get_or-set_same far i x none lt) w))
+          (λ (g : j < i). rw (get_or-set_other far i j x none (λ w. omega arith)) (m.is j g))
           (le_or_lt i j)
-
-  pub measured_all : {i m : ℕ} {far : List ℕ} → Measured q t n i far → i ≤ m → m ≤ i → m ≡ length (entries t n) → Measured q t n (length (entries t n)) far
-  measured_all {i} {m} {far} w h g e = subst (λ (y : ℕ). Measured q t n y far) (let z : i ≡ length (entries t n) = omega arith in z) w
-
--- the numbers at i are the corner of entry i
-pub corner_is : {l : Leg} {t : List ℕ} {n m : ℕ} {a c : List ℕ} (i : ℕ) → Measured l.s t n m a → Measured l.e t n m c → i < m
-    → IsCorner l (area_of (entry_of t n i)) (record { a = get_or a i 0; c = get_or c i 0 })
-corner_is i u v h =
-    record { a_is = u.is i h; c_is = v.is i h; small = record { small_a = u.small i h; small_c = v.small i h } }

@@ -3,6 +3,7 @@
 use mathlib.Core.Path.{◌≡◌, refl, sym, ap, subst, subst⁻¹, ◌∙◌}
 use mathlib.Core.Bool.{Bool, true}
 use mathlib.Core.List.{List, ◌++◌}
+use Rattle.std.specs.Prelude.{None}
 use Prim.Native.Nat.{ℕ, suc, ◌*◌, ◌-◌, ◌≤◌, ◌<◌}
 use native.Mathlib.Omega.{arith}
 use lib.ListN.{length}
@@ -47,10 +48,10 @@ module _ (t : List ℕ) (h n i : ℕ) (rd : Readable t h n) (lt : i < length (en
   entry_sound = each_at (SoundUnder (entries t) h) (entries t n) i no_entry rd.sound lt
 
   module _ {l : Leg} {r : List ℕ} {k : ℕ} (ah : Ahead l t r k (leaves (entries t) h (entry_of t n i))) where
-    pub entry_skipped : {w : Corner} → IsCorner l (area_of (entry_of t n i)) w → (b : Bool) → b ≡ true → If b (ShutOut (stack l t r k) w.a w.c)
+    pub entry_skipped : {w : Corner} → IsCorner l (area_of (entry_of t n i)) w → ShutOut (stack l t r k) w.a w.c
         → Searched l t r k (leaves (entries t) h (entry_of t n i)) r k
-    entry_skipped {w} q b e f =
-        searched_skip (entries t) h (entry_of t n i) entry_sound ah.points ah.held (corner_skips l t r k (entry_of t n i) w q (if_true b e f))
+    entry_skipped {w} q f =
+        searched_skip (entries t) h (entry_of t n i) entry_sound ah.points ah.held (corner_skips l t r k (entry_of t n i) w q f)
 
 -- The returns of `search_entry`: the list has sites more, and the edge that was looked at is still known.
 pub step_on : {l : Leg} {t r r' : List ℕ} {k m : ℕ} {q : List NodeEntry} {e : Edge} → Ahead l t r k q → Knows e (stack l t r k) → Searched l t r k q r' m
@@ -67,10 +68,10 @@ module _ (t : List ℕ) (h n i : ℕ) (rd : Readable t h n) (lt : i < length (en
     {w : Corner} (c : IsCorner l (area_of (entry_of t n i)) w) where
   pub step_known : {e : Edge} → Knows e (stack l t r k) → (b : Bool) → b ≡ true → If b (EdgeShuts e w.a w.c)
       → Progressed l t r k (leaves (entries t) h (entry_of t n i)) r (record { k = k; edge = e })
-  step_known kn b q f = step_on ah kn (entry_skipped t h n i rd lt ah c true refl (kn.shuts w c.small (if_true b q f)))
+  step_known kn b q f = step_on ah kn (entry_skipped t h n i rd lt ah c (kn.shuts w c.small (if_true b q f)))
 
-  pub step_shut : {s : Seen} → Looked l t r k w s → s.shut ≡ true → Progressed l t r k (leaves (entries t) h (entry_of t n i)) r (record { k = k; edge = s.edge })
-  step_shut {s} o q = step_on ah o.knows (entry_skipped t h n i rd lt ah c s.shut q o.shut)
+  pub step_shut : {s : Seen} → Looked l t r k w s → s.cut ≡ None → Progressed l t r k (leaves (entries t) h (entry_of t n i)) r (record { k = k; edge = s.edge })
+  step_shut {s} o q = step_on ah o.knows (entry_skipped t h n i rd lt ah c (rw q at o.cut))
 
 byte_site : (t : List ℕ) (x : ℕ) → site_at_byte t x ≡ site_of (entry_at t x)
 unfolding site_at_byte entry_at

@@ -2,17 +2,17 @@
 -- above the leaves by reading its child node." Which entry is read first, and which subtrees are skipped, shows
 -- nowhere here: whatever the search skips, its list is that of all sites.
 -- Assumes nothing.
-use Rattle.std.specs.Prelude.{◌≡◌, List, ◌++◌, ℕ, ◌+◌, ◌^◌, ◌≤◌, ◌<◌, length, get_or}
+use Rattle.std.specs.Prelude.{◌≡◌, List, ◌++◌, ℕ, ◌+◌, ◌≤◌, ◌<◌, length, get_or}
 use Rattle.limits.specs.Limits.{max_sites, max_nodes, table_bytes}
 use Rattle.words.specs.Words.{Only}
 use Rattle.grid.specs.declared.Site.{Site}
-use Rattle.grid.specs.declared.Position.{Position}
+use Rattle.grid.specs.declared.Corner.{Corner}
 use Rattle.grid.specs.declared.Leg.{Leg}
 use Rattle.grid.specs.Position.{LegOnGrid}
 use Rattle.grid.specs.Area.{area_distance}
 use Rattle.split.specs.Skip.{ShutOut}
 use Rattle.list_row.specs.Vertices.{row_bytes, stack, Held, Lists}
-use Rattle.list_skip.specs.Skipping.{Knows}
+use Rattle.list_skip.specs.Skipping.{Knows, IsCorner}
 use Rattle.tree_node.specs.declared.NodeEntry.{NodeEntry}
 use Rattle.tree_node.specs.Node.{entries, no_entry}
 use Rattle.tree_rules.specs.Tree.{joined, leaves, Each, SoundUnder}
@@ -33,10 +33,9 @@ pub record ComesNext (m i j : ℕ) : Type 0 where
   pub inner : i + 1 < m → j ≡ i + 1
   pub last : m ≤ i + 1 → j ≡ 0
 
--- the first m numbers of far are how far q is from the boxes of node n's entries, squared
-pub record Measured (q : Position) (t : List ℕ) (n m : ℕ) (far : List ℕ) : Type 0 where
-  pub is : (i : ℕ) → i < m → get_or far i 0 ≡ area_distance (area_of (entry_of t n i)) q
-  pub small : (i : ℕ) → i < m → get_or far i 0 < 2 ^ 31
+-- the first m of far are the corners of the boxes of node n's entries
+pub record Measured (l : Leg) (t : List ℕ) (n m : ℕ) (far : List Corner) : Type 0 where
+  pub is : (i : ℕ) → i < m → IsCorner l (area_of (entry_of t n i)) (get_or far i (record { a = 0; c = 0 }))
 
 -- the row shuts out all that lies in e's box
 abbrev pub Skips : Leg → List ℕ → List ℕ → ℕ → NodeEntry → Type 0

@@ -12,8 +12,8 @@ ghost use Rattle.tree_search.specs.Searching.{entry_of, under, ComesNext, Readab
 
 use crate::boxes;
 use grid::{Corner, Leg};
-use list_row::Vertex;
-use list_skip::Edge;
+use list_row::{Row, Vertex};
+use list_skip::{Edge, Seen};
 
 // The place of the site record that entry i of node n begins with.
 fn leaf_place(n: usize, i: usize) -> usize
@@ -54,11 +54,8 @@ fn search_leaf(
         (leaves (entries t.now) 0 (entry_of t.now n i)) work.new result }
 {
     let p = leaf_place(n, i);
-    let x = Vertex {
-        place: p,
-        a: corner.a,
-        c: corner.c,
-    };
+    let Corner { a, c } = corner;
+    let x = Vertex { place: p, a, c };
     list_skip::deal_vertex(t, leg, x, work, k, cut)
 }
 
@@ -92,21 +89,21 @@ fn search_entry(
         (leaves (entries t.now) h (entry_of t.now n i)) work.new result }
 {
     if list_skip::shuts(edge, corner) {
-        return Progress { k: k, edge: edge };
+        return Progress { k, edge };
     }
-    let seen = list_skip::covers(t, work, leg, k, corner, near);
-    let known = seen.edge;
-    if seen.shut {
-        return Progress { k: k, edge: known };
-    }
+    let row = Row { t, places: work, leg, k };
+    let Seen { cut, edge } = list_skip::covers(row, corner, near);
+    let Some(cut) = cut else {
+        return Progress { k, edge };
+    };
     if h == 0 {
-        let m = search_leaf(t, leg, n, i, corner, work, k, seen.cut);
-        return Progress { k: m, edge: known };
+        let k = search_leaf(t, leg, n, i, corner, work, k, cut);
+        return Progress { k, edge };
     }
     let e = tree_node::pool::entry_at(t, n, i);
-    let child = e.reference as usize;
-    let m = search_node(t, leg, h - 1, child, work, k, seen.cut, known);
-    Progress { k: m, edge: known }
+    let child = usize::from(e.reference);
+    let k = search_node(t, leg, h - 1, child, work, k, cut, edge);
+    Progress { k, edge }
 }
 
 // Deals with every site under node n, whose entries stand at height h: from the nearest one on, the first after the
@@ -128,20 +125,16 @@ pub fn search_node(
     ensures { Searched leg t.now work.old k
         (under t.now h (entries t.now n)) work.new result }
 {
-    let mut a: [u32; limits::MAX_ENTRIES] = [0; limits::MAX_ENTRIES];
-    let mut c: [u32; limits::MAX_ENTRIES] = [0; limits::MAX_ENTRIES];
+    let mut corners = [Corner { a: 0, c: 0 }; limits::MAX_ENTRIES];
     let all = tree_node::pool::count(t, n);
-    let mut i = boxes::measure(t, leg, n, &mut a, &mut c);
-    let mut left = all;
+    let mut i = boxes::measure(t, leg, n, &mut corners);
     let mut kept = k;
     let mut known = edge;
-    while 0 < left {
-        let corner = Corner { a: a[i], c: c[i] };
-        let step = search_entry(t, leg, h, n, i, corner, work, kept, near, known);
+    for _ in 0..all {
+        let step = search_entry(t, leg, h, n, i, corners[i], work, kept, near, known);
         kept = step.k;
         known = step.edge;
         i = after(i, all);
-        left -= 1;
     }
     kept
 }

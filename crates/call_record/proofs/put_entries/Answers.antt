@@ -1,16 +1,22 @@
-use borrow.Author.Rules.{rules}
-use Prim.Native.Nat.{◌-◌}
-use Rattle.call_record.proofs.PutEntries.{putting_none, putting_two, putting_last, putting_all}
+use mathlib.Core.Path.{◌≡◌}
+use Prim.Native.Nat.{◌+◌, ◌*◌, ◌-◌}
+use native.Mathlib.Omega.{arith}
+use Rattle.call_record.proofs.PutEntries.{putting_none, putting_two, putting_last}
 use Rattle.call_record.proofs.put_entries.Goals as goal
 
-pub loop-i-init : goal.loop-i-init
-loop-i-init c = search (rules, putting_none)
+pub loop-pair-init : goal.loop-pair-init
+loop-pair-init c =
+    let e : c.args.j + 0 ≡ c.args.j = omega arith in
+    rw e (putting_none _ _ _ _ _ _ _ c.requires.0)
 
-pub loop-i-preserved : goal.loop-i-preserved
-loop-i-preserved c = search (rules, putting_two)
+pub loop-pair-preserved : goal.loop-pair-preserved
+loop-pair-preserved c =
+    let i : c.args.j + 2 * (c.loop-pair.pair + 1) ≡ c.args.j + 2 * c.loop-pair.pair + 2 = omega arith in
+    let place : c.args.at + 20 * c.loop-pair.pair ≡ c.args.at + 10 * (c.args.j + 2 * c.loop-pair.pair - c.args.j) = omega arith in
+    rw i (putting_two c.loop-pair.invariant (omega arith) (rw place at c.put_two.ensures))
 
-pub returns-then-i-k : goal.returns-then-i-k
-returns-then-i-k c = search (rules, putting_last)
-
-pub returns-else-i-k : goal.returns-else-i-k
-returns-else-i-k c = search (rules, putting_all)
+pub returns-then-n-eq1 : goal.returns-then-n-eq1
+returns-then-n-eq1 c =
+    let i : c.args.row.k - 1 ≡ c.args.j + 2 * c.loop-pair.pair = omega arith in
+    let place : c.args.at + 10 * (c.args.row.k - c.args.j - 1) ≡ c.args.at + 10 * (c.args.j + 2 * c.loop-pair.pair - c.args.j) = omega arith in
+    putting_last c.loop-pair.invariant (omega arith) (omega arith) (rw (place, i) at c.put_entry.ensures)

@@ -13,12 +13,12 @@ put_word-requires c = simp length-set (omega arith)
 pub put_entries-requires : goal.put_entries-requires
 put_entries-requires c =
     let w = simp length-set at c.put_word.auto.b in
-    (c.requires.0, c.requires.1, c.requires.2, omega (arith, c.requires.3))
+    (c.requires.0, omega (arith, c.requires.1))
 
 pub returns : goal.returns
 returns c =
-    let es = from_length c.args.leg c.args.t.now c.args.row.now c.args.j c.args.k in record {
-      wrote = record_is (entries_from c.args.leg c.args.t.now c.args.row.now c.args.j c.args.k) c.args.report.now c.put_word.new.b
-          c.put_entries.new.report c.args.at c.count_of.result (c.count_of.ensures ∙ sym es) (omega (arith, c.requires.0.few, c.count_of.ensures)) c.put_word.ensures c.put_entries.ensures;
+    let es = from_length c.args.row.leg c.args.row.t.now c.args.row.places.now c.args.j c.args.row.k in record {
+      wrote = record_is (entries_from c.args.row.leg c.args.row.t.now c.args.row.places.now c.args.j c.args.row.k) c.args.report.now c.put_word.new.b
+          c.put_entries.new.report c.args.at c.count_of.result (c.count_of.ensures ∙ sym es) (omega (arith, c.args.row.held.few, c.count_of.ensures)) c.put_word.ensures c.put_entries.ensures;
       upto = search rules;
     }

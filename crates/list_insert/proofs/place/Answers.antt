@@ -1,24 +1,36 @@
 use borrow.Author.Rules.{rules}
 use native.Mathlib.Omega.{arith}
-use mathlib.Core.Path.{refl}
+use mathlib.Core.Path.{◌≡◌, refl}
+use Prim.Native.Nat.{◌+◌, ◌-◌}
 use Rattle.list_row.proofs.Reading.{itself}
 use Rattle.list_insert.proofs.Pushing.{last_has, place_hidden, place_under, place_next, none_left}
 use Rattle.list_insert.proofs.place.Goals as goal
 
-pub loop-j-init : goal.loop-j-init
-loop-j-init c = record { held = c.requires.held.0; within = omega arith; same = refl }
+pub loop-i-init : goal.loop-i-init
+loop-i-init c = record { held = c.args.row.held; within = omega arith; same = refl }
 
 pub hides-requires : goal.hides-requires
 hides-requires c = record { hider = (search (rules, itself), search (rules, last_has)); hidden = (search rules, search rules) }
 
 pub returns-then-hides : goal.returns-then-hides
-returns-then-hides c = record { within = omega arith; placed = search (rules, place_hidden) }
+returns-then-hides c = (c.loop-i.i, omega arith, search (rules, place_hidden))
+
+pub stands-requires : goal.stands-requires
+stands-requires c =
+    let e : c.loop-i.i - 1 + 1 ≡ c.loop-i.i = omega arith in
+    rw e (record { within = search rules; vertex = search rules })
 
 pub returns-then-stands : goal.returns-then-stands
-returns-then-stands c = record { within = omega arith; placed = search (rules, place_under) }
+returns-then-stands c =
+    let e : c.loop-i.i - 1 + 1 ≡ c.loop-i.i = omega arith in
+    let s = rw e at c.stands.ensures in
+    rw e (omega arith, search (rules, place_under))
 
-pub loop-j-preserved : goal.loop-j-preserved
-loop-j-preserved c = search (rules, place_next)
+pub loop-i-preserved : goal.loop-i-preserved
+loop-i-preserved c =
+    let e : c.loop-i.i - 1 + 1 ≡ c.loop-i.i = omega arith in
+    let s = rw e at c.stands.ensures in
+    search (rules, place_next)
 
 pub returns : goal.returns
-returns c = record { within = omega arith; placed = none_left c.loop-j.invariant (omega arith) }
+returns c = (omega arith, none_left c.loop-i.invariant (omega arith))

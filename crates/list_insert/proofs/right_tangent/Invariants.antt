@@ -1,10 +1,8 @@
-use Rattle.list_insert.specs.Insertion.{TakenOver}
 use Rattle.list_row.specs.Vertices.{point_at}
-use Prim.Native.Nat.{◌-◌}
+use Rattle.list_insert.specs.Insertion.{TakenOver}
 use Rattle.list_insert.proofs.right_tangent.Given as goal
 
 abbrev pub invariant-loop-i : goal.invariant-loop-i
-invariant-loop-i l = TakenOver l.leg l.t l.row l.k l.n (point_at l.leg l.t l.x.place) l.i
-
-abbrev pub decreases-loop-i : goal.decreases-loop-i
-decreases-loop-i l = l.k - l.i
+invariant-loop-i l =
+    let r = l.row in
+    TakenOver r.leg r.t.now r.places.now r.k l.n (point_at r.leg r.t.now l.x.place) l.i

@@ -3,6 +3,3 @@ use Rattle.list_probe.proofs.build.Given as goal
 
 abbrev pub invariant-loop-i : goal.invariant-loop-i
 invariant-loop-i l = Building l.leg l.t l.from l.n l.initial.work l.work l.k l.i
-
-abbrev pub decreases-loop-i : goal.decreases-loop-i
-decreases-loop-i l = l.i

@@ -5,5 +5,5 @@ use Rattle.list_skip.proofs.shuts.Goals as goal
 pub returns-then-lower : goal.returns-then-lower
 returns-then-lower c = search (rules, by_left)
 
-pub returns : goal.returns
-returns c = search (rules, by_edge)
+pub returns-else-lower : goal.returns-else-lower
+returns-else-lower c = search (rules, by_edge)

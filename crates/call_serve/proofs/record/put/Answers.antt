@@ -8,8 +8,11 @@ put_done-requires c = search (rules, one_fits)
 pub put_refusal-requires : goal.put_refusal-requires
 put_refusal-requires c = search (rules, refusal_fits)
 
+pub invariant_of-row : goal.invariant_of-row
+invariant_of-row c = record { held = search (rules, list_held); on_grid = search (rules, list_leg) }
+
 pub put_list-requires : goal.put_list-requires
-put_list-requires c = (search (rules, list_held), search (rules, list_leg), search (rules, list_left), search (rules, list_fits))
+put_list-requires c = (search (rules, list_left), search (rules, list_fits))
 
 pub returns-in-Done : goal.returns-in-Done
 returns-in-Done c = search (rules, put_done)

@@ -1,7 +1,6 @@
 use borrow.Author.Rules.{rules}
-use Prim.Native.Nat.{◌-◌}
 use Rattle.list_row.proofs.Bisection.{cut_up, cut_down, cut_found}
-use Rattle.list_row.proofs.bisect.Goals as goal
+use Rattle.list_row.proofs.Row.bisect.Goals as goal
 
 pub loop-lo-preserved-then-u-a : goal.loop-lo-preserved-then-u-a
 loop-lo-preserved-then-u-a c = search (rules, cut_up)
