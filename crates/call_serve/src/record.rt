@@ -31,7 +31,12 @@ pub fn put(t: &[u8], work: &[u8], a: Answer, report: &mut [u8], at: usize)
         Answer::Done => call_record::put_done(report, at),
         Answer::Refused(cause) => call_record::put_refusal(cause, report, at),
         Answer::Listed(leg, j, k) => {
-            let row = Row { t, places: work, leg, k };
+            let row = Row {
+                t,
+                places: work,
+                leg,
+                k,
+            };
             call_record::put_list(row, j, report, at);
         }
     }

@@ -176,11 +176,21 @@ pub fn insert(t: &[u8], work: &mut [u8], leg: Leg, k: usize, n: usize, x: Vertex
     ensures { Inserted leg t.now work.old k (point_at leg t.now x.place)
         work.new result }
 {
-    let left = Row { t, places: work, leg, k: n };
+    let left = Row {
+        t,
+        places: work,
+        leg,
+        k: n,
+    };
     let Some(j) = place(left, x) else {
         return k;
     };
-    let row = Row { t, places: work, leg, k };
+    let row = Row {
+        t,
+        places: work,
+        leg,
+        k,
+    };
     let i = right_tangent(row, n, x);
     if !below_chord(row, j, i, x) {
         return k;

@@ -72,7 +72,12 @@ fn written(t: &[u8], n: usize, leg: Leg, work: &mut [u8], report: &mut [u8]) -> 
     if report.len() < size {
         return 0;
     }
-    let row = Row { t, places: work, leg, k };
+    let row = Row {
+        t,
+        places: work,
+        leg,
+        k,
+    };
     call_record::put_list(row, 0, report, 0)
 }
 

@@ -124,7 +124,11 @@ fn tell(gap: Gap, corner: Corner) -> Seen
             c: gap.right.c,
         },
     };
-    let cut = if shuts(edge, corner) { None } else { Some(gap.n) };
+    let cut = if shuts(edge, corner) {
+        None
+    } else {
+        Some(gap.n)
+    };
     Seen { cut, edge }
 }
 
@@ -175,7 +179,12 @@ pub fn deal(t: &[u8], leg: Leg, p: usize, work: &mut [u8], k: usize) -> usize
     ensures { Dealt leg t.now work.old k p work.new result }
 {
     let x = list_row::vertex_at(t, leg, p);
-    let row = Row { t, places: work, leg, k };
+    let row = Row {
+        t,
+        places: work,
+        leg,
+        k,
+    };
     let seen = look(row, Corner { a: x.a, c: x.c });
     let Some(cut) = seen.cut else {
         return k;

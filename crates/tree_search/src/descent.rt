@@ -91,7 +91,12 @@ fn search_entry(
     if list_skip::shuts(edge, corner) {
         return Progress { k, edge };
     }
-    let row = Row { t, places: work, leg, k };
+    let row = Row {
+        t,
+        places: work,
+        leg,
+        k,
+    };
     let Seen { cut, edge } = list_skip::covers(row, corner, near);
     let Some(cut) = cut else {
         return Progress { k, edge };

@@ -11,4 +11,3 @@ decreases-search_node l = 2 * l.h + 1
 
 abbrev pub invariant-search_node-loop : goal.invariant-search_node-loop
 invariant-search_node-loop l = Left l.leg l.t l.initial.work l.k l.h l.n l.i (l.all - l.counter) l.work l.kept l.known
-
