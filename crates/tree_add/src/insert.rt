@@ -38,7 +38,14 @@ fn renew(table: &mut [u8], n: usize, k: usize, c: usize)
 }
 
 // Splits the child c of node n, its entry k, which has eight entries and hands x back.
-fn halve(table: &mut [u8], h: usize, n: usize, k: usize, c: usize, x: NodeEntry) -> Option<NodeEntry>
+fn halve(
+    table: &mut [u8],
+    h: usize,
+    n: usize,
+    k: usize,
+    c: usize,
+    x: NodeEntry,
+) -> Option<NodeEntry>
     requires { Divisible h c (x ∷ []) table.old × (n < max_nodes) × (k < length (entries table.old n))
         × (length (entries table.old c) ≡ max_entries) × (0 < length (free table.old))
         × (hit n c + tally n (joined (nodes (entries table.old) h) (entries table.old c ++ (x ∷ []))) ≡ 0)
@@ -54,7 +61,14 @@ fn halve(table: &mut [u8], h: usize, n: usize, k: usize, c: usize, x: NodeEntry)
 // Adds the leaf entry e under f, which is entry k of node n and stands at height h, above the leaves; or hands back the
 // ninth entry of n. A child that is not split has its old box, grown by e's: its entries need not be read again.
 #[cycle(insert_insert_under)]
-fn insert_under(table: &mut [u8], h: usize, n: usize, k: usize, f: NodeEntry, e: NodeEntry) -> Option<NodeEntry>
+fn insert_under(
+    table: &mut [u8],
+    h: usize,
+    n: usize,
+    k: usize,
+    f: NodeEntry,
+    e: NodeEntry,
+) -> Option<NodeEntry>
     requires ready { Ready h n table.old × (h ≡ 0 → ⊥) × (h ≤ length (free table.old)) }
     requires k_in_bounds { (k < length (entries table.old n)) × (f ≡ get_or (entries table.old n) k no_entry) }
     ensures { InsertedUnder result h n e table.old table.new }

@@ -11,9 +11,8 @@ use Rattle.tree_node.specs.Node.{entries, no_entry, Wrote}
 use Rattle.tree_node.specs.Boxes.{grow, hull, InBox}
 
 -- the entries are passed from the last to the first
-pub hull_end : (n : ℕ) (l : List NodeEntry) (k : ℕ) → k ≡ length l → record { reference = n; west = 65535; south = 65535; east = 0; north = 0; spare = 0 } ≡ hull n (drop k l)
-unfolding hull
-hull_end n l k q = let le : length l ≤ k = omega arith in rw (drop_of_length-le l le)
+pub hull_end : (n : ℕ) (l : List NodeEntry) (k : ℕ) (f : NodeEntry) → k ≡ length l → f ≡ hull n [] → f ≡ hull n (drop k l)
+hull_end n l k f q e = let le : length l ≤ k = omega arith in rw (drop_of_length-le l le) e
 
 pub hull_step : (n : ℕ) (l : List NodeEntry) (k : ℕ) (e f r : NodeEntry) → 0 < k → k ≤ length l → e ≡ get_or l (k - 1) no_entry → f ≡ hull n (drop k l) → r ≡ grow e f → r ≡ hull n (drop (k - 1) l)
 unfolding hull

@@ -20,22 +20,28 @@ pub fn grown(e: NodeEntry, f: NodeEntry) -> NodeEntry
     }
 }
 
-// The entry for node n: the smallest box of its entries.
-pub fn hull_of(table: &[u8], n: usize) -> NodeEntry
-    requires { (length table.now ≡ table_bytes) × (n < max_nodes) }
-    ensures { result ≡ hull n (entries table.now n) }
+// An entry whose box holds nothing.
+pub fn nowhere(reference: u16) -> NodeEntry
+    ensures { result ≡ hull reference [] }
 {
-    let mut f = NodeEntry {
-        reference: n as u16,
+    NodeEntry {
+        reference,
         west: 65535,
         south: 65535,
         east: 0,
         north: 0,
         spare: 0,
-    };
+    }
+}
+
+// The entry for node n: the smallest box of its entries.
+pub fn hull_of(table: &[u8], n: usize) -> NodeEntry
+    requires { (length table.now ≡ table_bytes) × (n < max_nodes) }
+    ensures { result ≡ hull n (entries table.now n) }
+{
+    let mut f = nowhere(n as u16);
     for k in (0..pool::count(table, n)).rev() {
-        let e = pool::entry_at(table, n, k);
-        f = grown(e, f);
+        f = grown(pool::entry_at(table, n, k), f);
     }
     f
 }

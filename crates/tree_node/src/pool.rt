@@ -74,6 +74,24 @@ pub fn entry_at(table: &[u8], n: usize, k: usize) -> NodeEntry
     get_entry(table, entry_start(n, k))
 }
 
+// Which entry of node n costs least, and of such the first.
+pub fn least_by<F: Fn(NodeEntry) -> u64>(table: &[u8], n: usize, cost: F) -> usize
+    requires node { (length table.now ≡ table_bytes) × (n < max_nodes) × (0 < length (entries table.now n)) }
+    requires callable { F.IsAlwaysCallable cost }
+    ensures { result < length (entries table.now n) }
+{
+    let mut best = 0;
+    let mut least = cost(entry_at(table, n, 0));
+    for k in 1..count(table, n) {
+        let c = cost(entry_at(table, n, k));
+        if c < least {
+            best = k;
+            least = c;
+        }
+    }
+    best
+}
+
 // Stores e as entry k of node n.
 pub fn put(table: &mut [u8], n: usize, k: usize, e: NodeEntry)
     requires { (length table.old ≡ table_bytes) × (n < max_nodes) × (k < length (entries table.old n)) }

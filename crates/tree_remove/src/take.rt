@@ -51,11 +51,14 @@ fn next_equal(table: &[u8], n: usize, k: usize, e: NodeEntry) -> Option<usize>
     requires { (length table.now ≡ table_bytes) × (n < max_nodes) × (k ≤ length (entries table.now n)) }
     ensures { Next (λ f. f ≡ e) (entries table.now n) k result }
 {
-    next_where(table, n, k, |f|
-        ensures { Told result (f ≡ e) (f ≡ e) }
-    {
-        f == e
-    })
+    next_where(
+        table,
+        n,
+        k,
+        |f|
+            ensures { Told result (f ≡ e) (f ≡ e) }
+        { f == e },
+    )
 }
 
 // Takes the leaf entry e from the entries from k on of the leaf n. Whether it was there.

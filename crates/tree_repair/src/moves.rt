@@ -25,10 +25,8 @@ pub fn move_some(table: &mut [u8], c: usize, d: usize, m: usize)
         × (m ≤ length (entries table.old c)) × (length (entries table.old d) + m ≤ max_entries) }
     ensures { Moved c d m table.old table.new }
 {
-    let mut k = 0;
-    while k < m {
+    for _ in 0..m {
         move_one(table, c, d);
-        k += 1;
     }
 }
 

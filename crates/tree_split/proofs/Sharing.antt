@@ -59,10 +59,9 @@ module _ (c s : ℕ) (b : List ℕ) (hc : c < max_nodes) (hs : s < max_nodes) (n
         }
 
   -- the ninth entry goes to c or to s
-  module _ (x : NodeEntry) (m r : ℕ) (b' : List ℕ) (qm : m ≡ length (entries b s)) (sum : length (entries b c) + length (entries b s) ≡ max_entries)
-      (most : m + r ≤ most_parted) (least : min_entries ≤ m + r + 0) where
-    pub ninth_new : r ≡ 1 → Wrote s (entries b s ++ (x ∷ [])) b b' → Ninth c s x b b'
-    ninth_new one w =
+  module _ (x : NodeEntry) (m : ℕ) (b' : List ℕ) (qm : m ≡ length (entries b s)) (sum : length (entries b c) + length (entries b s) ≡ max_entries) where
+    pub ninth_new : m < most_parted → min_entries ≤ m + 1 → Wrote s (entries b s ++ (x ∷ [])) b b' → Ninth c s x b b'
+    ninth_new most least w =
         let C : List NodeEntry = entries b c in
         let S : List NodeEntry = entries b s in
         let now_c : entries b' c ≡ C = others w.only c ne in
@@ -75,8 +74,8 @@ module _ (c s : ℕ) (b : List ℕ) (hc : c < max_nodes) (hs : s < max_nodes) (n
           rest = one_of_two hs w (λ m x y. y);
         }
 
-    pub ninth_old : r ≤ 1 → (r ≡ 1 → ⊥) → Wrote c (entries b c ++ (x ∷ [])) b b' → Ninth c s x b b'
-    ninth_old le none w =
+    pub ninth_old : min_entries ≤ m → m ≤ most_parted → Wrote c (entries b c ++ (x ∷ [])) b b' → Ninth c s x b b'
+    ninth_old least most w =
         let C : List NodeEntry = entries b c in
         let S : List NodeEntry = entries b s in
         let now_s : entries b' s ≡ S = others w.only s s≢c in
@@ -90,9 +89,9 @@ module _ (c s : ℕ) (b : List ℕ) (hc : c < max_nodes) (hs : s < max_nodes) (n
         }
 
 -- entry k, which goes from c to s or stays
-module _ (c s k m r : ℕ) (b : List ℕ) (lt : k < length (entries b c)) (qm : m ≡ length (entries b s)) (most : m + r ≤ most_parted) (least : min_entries ≤ m + r + (k + 1)) where
-  pub offer_gone : (b' : List ℕ) → r ≡ 1 → MovedOne c s b b' → Dealing c s k b b'
-  offer_gone b' one mv =
+module _ (c s k m : ℕ) (b : List ℕ) (lt : k < length (entries b c)) (qm : m ≡ length (entries b s)) where
+  pub offer_gone : (b' : List ℕ) → m < most_parted → min_entries ≤ m + k + 2 → MovedOne c s b b' → Dealing c s k b b'
+  offer_gone b' most least mv =
       record {
         whole = mv.whole;
         left = omega (arith, shared_length (entries b' c) (entries b' s) (entries b c) (entries b s) mv.whole, mv.more);
@@ -101,8 +100,8 @@ module _ (c s k m r : ℕ) (b : List ℕ) (lt : k < length (entries b c)) (qm : 
         rest = mv.rest;
       }
 
-  pub offer_kept : r ≤ 1 → (r ≡ 1 → ⊥) → Dealing c s k b b
-  offer_kept le none = record { whole = same; left = omega arith; least = omega arith; most = omega arith; rest = only_two_refl }
+  pub offer_kept : m ≤ most_parted → min_entries ≤ m + (k + 1) → Dealing c s k b b
+  offer_kept most least = record { whole = same; left = omega arith; least = omega arith; most = omega arith; rest = only_two_refl }
 
 -- the dealing of eight
 pub dealing_none : (c s : ℕ) (b : List ℕ) → length (entries b c) ≡ max_entries → length (entries b s) ≡ 0 → Dealing c s max_entries b b

@@ -1,5 +1,5 @@
 // Eight entries and a ninth dealt to two nodes, by the bits of a mask while both keep to three to six.
-ghost use Rattle.std.specs.Prelude.{◌≡◌, ◌+◌, ◌<◌, ◌≤◌, length};
+ghost use Rattle.std.specs.Prelude.{◌≡◌, ◌+◌, ◌<◌, ◌≤◌, length, true, false};
 ghost use Rattle.limits.specs.Limits.{min_entries, max_entries, max_nodes, table_bytes};
 ghost use Rattle.tree_node.specs.Node.{entries};
 ghost use Rattle.tree_node.specs.Free.{free};
@@ -10,22 +10,16 @@ use crate::MOST_PARTED;
 use limits::{MAX_ENTRIES, MIN_ENTRIES};
 use tree_node::{NodeEntry, free, pool};
 
-// Whether an entry goes to the new node, which has m: 1 or 0, as bit i of the mask says, so long as the node can end
-// with three to six. So many others follow.
-fn due(mask: u16, i: usize, m: usize, follow: usize) -> usize
+// Whether an entry goes to the new node, which has m: as bit i of the mask says, so long as the node can end with three
+// to six. So many others follow.
+fn due(mask: u16, i: usize, m: usize, follow: usize) -> bool
     requires { (i ≤ max_entries) × (m ≤ most_parted) × (follow ≤ max_entries) × (min_entries ≤ m + follow + 1) }
-    ensures { (result ≤ 1) × (m + result ≤ most_parted) × (min_entries ≤ m + result + follow) }
+    ensures { (result ≡ true → m < most_parted) × (result ≡ false → min_entries ≤ m + follow) }
 {
     if m + follow < MIN_ENTRIES {
-        return 1;
+        return true;
     }
-    if m == MOST_PARTED {
-        return 0;
-    }
-    if (mask >> i) & 1 == 1 {
-        return 1;
-    }
-    0
+    m < MOST_PARTED && (mask >> i) & 1 == 1
 }
 
 // Moves entry k of node c to node s.
@@ -46,9 +40,7 @@ fn offer(table: &mut [u8], c: usize, s: usize, k: usize, mask: u16)
         × (length (entries table.old s) ≤ most_parted) × (min_entries ≤ length (entries table.old s) + k + 2) }
     ensures { Dealing c s k table.old table.new }
 {
-    let m = pool::count(table, s);
-    let r = due(mask, k, m, k + 1);
-    if r == 1 {
+    if due(mask, k, pool::count(table, s), k + 1) {
         shift(table, c, s, k);
     }
 }
@@ -60,9 +52,7 @@ fn deal(table: &mut [u8], c: usize, s: usize, mask: u16)
         × (length (entries table.old c) ≡ max_entries) × (length (entries table.old s) ≡ 0) }
     ensures { Dealing c s 0 table.old table.new }
 {
-    let mut k = MAX_ENTRIES;
-    while 0 < k {
-        k -= 1;
+    for k in (0..MAX_ENTRIES).rev() {
         offer(table, c, s, k, mask);
     }
 }
@@ -74,9 +64,7 @@ fn place(table: &mut [u8], c: usize, s: usize, x: NodeEntry, mask: u16)
         × (length (entries table.old c) + length (entries table.old s) ≡ max_entries) }
     ensures { Ninth c s x table.old table.new }
 {
-    let m = pool::count(table, s);
-    let r = due(mask, MAX_ENTRIES, m, 0);
-    if r == 1 {
+    if due(mask, MAX_ENTRIES, pool::count(table, s), 0) {
         pool::push(table, s, x);
     } else {
         pool::push(table, c, x);

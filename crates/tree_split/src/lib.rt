@@ -15,7 +15,6 @@ use tree_node::NodeEntry;
 
 pub mod deal;
 pub mod mask;
-pub mod measure;
 
 // What a split deals: the entries of a full node and one more.
 const OVERFULL: usize = limits::MAX_ENTRIES + 1;

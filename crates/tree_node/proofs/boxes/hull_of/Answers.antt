@@ -6,4 +6,4 @@ pub loop-k-init : goal.loop-k-init
 loop-k-init c = search hull_end
 
 pub loop-k-preserved : goal.loop-k-preserved
-loop-k-preserved c = hull_step _ _ c.loop-k.k _ _ _ (omega arith) (omega arith) c.entry_at-e.ensures c.loop-k.invariant c.grown-f.ensures
+loop-k-preserved c = hull_step _ _ c.loop-k.k _ _ _ (omega arith) (omega arith) c.entry_at.ensures c.loop-k.invariant c.grown-f.ensures

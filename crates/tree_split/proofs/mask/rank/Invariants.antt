@@ -1,9 +1,5 @@
-use Prim.Native.Nat.{◌≤◌, ◌-◌}
-use Rattle.tree_split.specs.Parted.{overfull}
+use Rattle.std.proofs.Common.{◌≤◌}
 use Rattle.tree_split.proofs.mask.rank.Given as goal
 
-abbrev pub invariant-loop-j : goal.invariant-loop-j
-invariant-loop-j l = (l.j ≤ overfull) × (l.r ≤ l.j)
-
-abbrev pub decreases-loop-j : goal.decreases-loop-j
-decreases-loop-j l = overfull - l.j
+abbrev pub invariant-loop-k : goal.invariant-loop-k
+invariant-loop-k l = l.r ≤ l.k-index
