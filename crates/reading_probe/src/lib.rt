@@ -10,7 +10,7 @@ pub extern "C" fn probe_coordinate(bits: u32) -> u32
 {
     let x = readings::number(bits);
     if readings::is_finite(x) {
-        return readings::coordinate(x) as u32;
+        return u32::from(readings::coordinate(x));
     }
     65536
 }

@@ -10,7 +10,7 @@ use Rattle.readings.specs.Reading.{negative, finite?, metre, units, Nearest, nea
 use Rattle.readings.specs.Location.{coordinate_in, position_of, both_finite, long_at, number_of, reading_at}
 use Rattle.readings.specs.Patterns.{sided, Receives}
 use Rattle.readings.proofs.Rounding.{nearest_is, nearest_only}
-use Rattle.readings.proofs.StepWords.{within_of, on_grid, word_east, word_west, word_off}
+use Rattle.readings.proofs.StepWords.{within_of, word_east, word_west, word_off}
 use Rattle.readings.proofs.Patterns.{metre_pos, pattern_value, number_finite, finite_number, coordinate_number}
 
 -- ---- the nearest step: there is one, and `nearest_step` computes it

@@ -3,7 +3,7 @@
 -- Assumes nothing.
 use Rattle.std.proofs.Common.{◌≡◌, ℕ, zero, suc, ◌+◌, ◌*◌, ◌%◌, ◌^◌, ◌<◌, ◌≤◌, Bool, true, false, cond, not, T, eqb, ltb, sym, refl, ap, ◌∙◌, subst, mul-one, arith, eqb→eq, ltb→lt, lt→ltb, nltb→le, pow_pos}
 use lib.Dec.{not_T}
-use lib.Ieee.{Float, nan, inf, fin, binary32, up, down, odd, div, of_fields, of_bits, nan_bits}
+use lib.Ieee.{Float, nan, inf, fin, binary32, up, down, odd, of_fields, of_bits, nan_bits}
 use lib.Ieee.Bits.{is_true, is_false, cond_no, nan_bits_above}
 use lib.Ieee.Fits.{down_pos}
 use lib.Ieee.Exact.{HasValue, odd_sign}
@@ -73,8 +73,8 @@ coordinate_pattern b h = by_value (of_bits binary32 b) (negative b) (units b) me
 
 -- ---- `number`: the finite patterns lie below infinity's
 
-none : div binary32 (of_bits binary32 0) (of_bits binary32 0) ≡ nan
-unfolding div of_bits
+none : of_bits binary32 0x7FC00000 ≡ nan
+unfolding of_bits
 none = refl
 
 pub number_finite : (b : ℕ) → T (finite? b) → number_of b ≡ of_bits binary32 b
@@ -95,7 +95,7 @@ from_infinity b h = is_false (finite? b) (not_T (finite? b) (λ u. omega (arith,
 pub number_some : (b : ℕ) → b % 0x80000000 < 0x7F800000 → of_bits binary32 b ≡ number_of b
 number_some b h = sym (number_finite b (below_infinity b h))
 
-pub number_none : (b : ℕ) → 0x7F800000 ≤ b % 0x80000000 → div binary32 (of_bits binary32 0) (of_bits binary32 0) ≡ number_of b
+pub number_none : (b : ℕ) → 0x7F800000 ≤ b % 0x80000000 → of_bits binary32 0x7FC00000 ≡ number_of b
 number_none b h = none ∙ sym (number_not b (from_infinity b h))
 
 -- what `from_bits` asks

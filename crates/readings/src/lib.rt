@@ -34,7 +34,8 @@ const BEYOND_STEP: u16 = 32767;
 
 // The nearest step to a reading above zero, exact halves up; 32,767 where the grid does not reach. Readings beyond the
 // grid are told first, so that remainder and step meet small numbers alone. The remainder of the whole metres by 100
-// shows which side of a half the reading is on: halves lie at whole metres.
+// shows which side of a half the reading is on: halves lie at whole metres. Half the width is cast: so the edge stays a
+// number that the check computes.
 fn steps(x: f32) -> u16
     requires { T (positive x) }
     ensures { result ≡ steps_of x }
@@ -77,22 +78,15 @@ pub fn step(r: Reading) -> Position
 {
     let east = coordinate(r.easting);
     let north = coordinate(r.northing);
-    Position {
-        east: east,
-        north: north,
-    }
+    Position { east, north }
 }
 
-// Whether a reading is a finite number: neither an infinity nor no number at all, which is neither above nor below
-// anything.
+// Whether a reading is a finite number: neither an infinity nor no number at all.
+#[tactic(auto, using(crate::proofs::Answers::finite_same))]
 pub fn is_finite(x: f32) -> bool
     ensures { result ≡ finite x }
 {
-    let infinity = f32::from_bits(0x7F80_0000);
-    if x < infinity {
-        return -infinity < x;
-    }
-    false
+    x.is_finite()
 }
 
 // Where two readings are.
@@ -117,25 +111,19 @@ pub fn locate(l: Location) -> Located
     }
 }
 
-// A byte pair as a wider number.
-fn wide(x: u16) -> u32
-    ensures { (result ≡ x) × (result < 65536) }
-{
-    x as u32
-}
-
 // The 32-bit number at byte i.
+#[tactic(auto, unfolding(crate::specs::Location::long_at))]
 fn long(s: &[u8], i: usize) -> u32
     requires { i + 4 ≤ length s.now }
     ensures { result ≡ long_at s.now i }
 {
-    let low = wide(words::word(s, i));
-    let high = wide(words::word(s, i + 2));
+    let low = u32::from(words::word(s, i));
+    let high = u32::from(words::word(s, i + 2));
     low + 65536 * high
 }
 
 // The number that a pattern stands for. The bits are tested before they become a float: from infinity's on they stand
-// for no finite number, and 0.0 / 0.0 is none.
+// for no finite number.
 pub fn number(bits: u32) -> f32
     ensures { result ≡ number_of bits }
 {
@@ -143,7 +131,7 @@ pub fn number(bits: u32) -> f32
     if size < 0x7F80_0000 {
         return f32::from_bits(bits);
     }
-    0.0 / 0.0
+    f32::NAN
 }
 
 // The readings at byte i.
@@ -153,8 +141,5 @@ pub fn reading_at(s: &[u8], i: usize) -> Reading
 {
     let easting = number(long(s, i));
     let northing = number(long(s, i + 4));
-    Reading {
-        easting: easting,
-        northing: northing,
-    }
+    Reading { easting, northing }
 }

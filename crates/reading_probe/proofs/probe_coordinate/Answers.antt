@@ -6,7 +6,7 @@ pub coordinate-requires : goal.coordinate-requires
 coordinate-requires c = search finite_told
 
 pub returns-then-is_finite : goal.returns-then-is_finite
-returns-then-is_finite c = search probed_finite
+returns-then-is_finite c = rw c.from.ensures (search probed_finite)
 
 pub returns : goal.returns
 returns c = search probed_not
