@@ -86,6 +86,19 @@ pub struct BatchResult {
 ghost use Rattle.std.specs.Prelude.{◌≡◌};
 ghost use Rattle.book.specs.Numbers.{cause_number, reason_number};
 
+impl BatchResult {
+    // The result of a call that ends for this reason, with so many bytes used and written.
+    pub fn new(reason: Reason, used: usize, written: usize) -> BatchResult
+        ensures { result ≡ record { reason = reason; used = used; written = written } }
+    {
+        BatchResult {
+            reason,
+            used,
+            written,
+        }
+    }
+}
+
 // A cause's number.
 pub fn cause_number(c: Cause) -> u8
     ensures { result ≡ cause_number c }

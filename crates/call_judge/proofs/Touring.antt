@@ -4,7 +4,7 @@ use mathlib.Core.Path.{◌≡◌, refl, sym, ap, subst, ◌∙◌}
 use mathlib.Core.Logic.{◌≢◌}
 use mathlib.Core.Bool.{Bool, true, false, cond}
 use mathlib.Core.List.{List, [], ◌∷◌, ◌++◌}
-use Rattle.std.specs.Prelude.{Option, None, Some}
+use Rattle.std.specs.Prelude.{Option, None, Some, Ok, Err}
 use Prim.Native.Nat.{ℕ, zero, suc, ◌-◌, ◌≤◌, ◌<◌}
 use native.Mathlib.Omega.{arith}
 use lib.ListN.{length, drop}
@@ -46,10 +46,10 @@ use Rattle.call_judge.proofs.Deciding.{refusal, refused_so_lem}
 -- ---- 42
 
 module _ (b : List ℕ) (p : Position) (q : Bool) (s : Says q (OnGrid p)) where
-  pub begin_off : q ≡ false → Settled (Verdict.Refuse OffGrid) (Begin p) b
+  pub begin_off : q ≡ false → Settled (Err OffGrid) (Begin p) b
   begin_off e = refused_so_lem b (Begin p) OffGrid (answer_begin_off (book_of b) p (says_no q s e))
 
-  pub begin_done : q ≡ true → Settled (Verdict.Begin p) (Begin p) b
+  pub begin_done : q ≡ true → Settled (Ok (Verdict.Begin p)) (Begin p) b
   begin_done e =
       record {
         decided = λ w. record { judged = record { said = sym (answer_begin_done (book_of b) p (says_yes q s e)); row = tt }; found = says_yes q s e; command = refl };
@@ -129,10 +129,10 @@ module _ (b w : List ℕ) (tour : Tour) (p : Position) (k : ℕ) (s : Sound b) (
         ap (last_number None) (sym f.list ∙ ap (entries_in l b w) e) ∙ last_in_lem l b w m
         ∙ ap (λ (x : ℕ). Some (site_at b (place_at w x)).number) c ∙ ap Some (sym he)
 
-    pub shown_done : 0 < k → Decided (Verdict.Follow l j ending k) (Corner p) b w
+    pub shown_done : 0 < k → Decided (Ok (Verdict.Follow l j ending k)) (Corner p) b w
     shown_done h = by k refl
       where
-        by : (n : ℕ) → k ≡ n → Decided (Verdict.Follow l j ending k) (Corner p) b w
+        by : (n : ℕ) → k ≡ n → Decided (Ok (Verdict.Follow l j ending k)) (Corner p) b w
         by zero e = absurd (omega arith)
         by (suc m) e =
             record {
@@ -147,10 +147,10 @@ module _ (b w : List ℕ) (tour : Tour) (p : Position) (k : ℕ) (s : Sound b) (
 -- ---- 43: position, site
 
 module _ (b : List ℕ) (tour : Tour) (p : Position) (s : Sound b) (runs : tour_in b ≡ Some tour) (q : Bool) (g : Says q (OnGrid p)) where
-  pub onward_off : (w : List ℕ) → q ≡ false → Decided (Verdict.Refuse OffGrid) (Corner p) b w
+  pub onward_off : (w : List ℕ) → q ≡ false → Decided (Err OffGrid) (Corner p) b w
   onward_off w e = refusal b (Corner p) OffGrid (answer_corner_off (book_of b) p tour runs (says_no q g e)) w
 
-  pub onward_none : (w : List ℕ) (m : ℕ) → q ≡ true → m ≡ count_in b → m ≡ 0 → Decided (Verdict.Refuse NoSite) (Corner p) b w
+  pub onward_none : (w : List ℕ) (m : ℕ) → q ≡ true → m ≡ count_in b → m ≡ 0 → Decided (Err NoSite) (Corner p) b w
   onward_none w m y c z =
       refusal b (Corner p) NoSite (answer_corner_empty (book_of b) p tour runs (says_yes q g y) (lines_length b ∙ sym c ∙ z)) w
 
@@ -175,7 +175,7 @@ onward_some b w l m k f s c z = by k refl
 -- ---- 43: tour
 
 module _ (b : List ℕ) (p : Position) (r : Option Tour) (q : r ≡ tour_in b) where
-  pub corner_idle : (w : List ℕ) → r ≡ None → Decided (Verdict.Refuse NoTour) (Corner p) b w
+  pub corner_idle : (w : List ℕ) → r ≡ None → Decided (Err NoTour) (Corner p) b w
   corner_idle w u = refusal b (Corner p) NoTour (answer_corner_tourless (book_of b) p (sym q ∙ u)) w
 
   pub corner_runs : (tour : Tour) → r ≡ Some tour → tour_in b ≡ Some tour

@@ -11,33 +11,23 @@ ghost use Rattle.call_judge.specs.Verdict.{TestedAs, Settled};
 use crate::Verdict;
 use book::Cause;
 use grid::Site;
-use readings::{Located, Location};
-
-// What the tests of a number and a position find: a cause, or the site that they make.
-#[derive(Clone, Copy)]
-pub enum Tested {
-    Bad(Cause),
-    Good(Site),
-}
+use readings::Location;
 
 // The tests that an addition and a move begin with: number, readings, position. The grid limit is tested on the step.
-fn test(n: u16, l: Location) -> Tested
+fn test(n: u16, l: Location) -> Result<Site, Cause>
     ensures { TestedAs result n l }
 {
     if n == 0 {
-        return Tested::Bad(Cause::NumberZero);
+        return Err(Cause::NumberZero);
     }
-    let located = readings::locate(l);
-    let Located::At(p) = located else {
-        return Tested::Bad(Cause::NotFinite);
-    };
-    if grid::coordinate::on_grid(p) {
-        return Tested::Good(Site {
+    let position = readings::locate(l).ok_or(Cause::NotFinite)?;
+    if grid::coordinate::on_grid(position) {
+        return Ok(Site {
             number: n,
-            position: p,
+            position,
         });
     }
-    Tested::Bad(Cause::OffGrid)
+    Err(Cause::OffGrid)
 }
 
 // A record's index in 16 bits: so a verdict is copied in machine words that no other field shares.
@@ -49,79 +39,61 @@ fn narrow(k: usize) -> u16
 }
 
 // An addition of this site: held, full.
-fn add_site(t: &[u8], site: Site) -> Verdict
+fn add_site(t: &[u8], site: Site) -> Result<Verdict, Cause>
     requires { Sound t.now × NumberOk site × OnGrid site.position }
     ensures { Settled result (Command.Add site.number (Location.InSteps site.position)) t.now }
 {
-    let n = site.number;
-    let found = table_sites::find(t, n);
     let k = table_header::count(t);
-    match found {
-        Ok(_) => Verdict::Refuse(Cause::Held),
+    match table_sites::find(t, site.number) {
+        Ok(_) => Err(Cause::Held),
         Err(at) => {
             if k == limits::MAX_SITES {
-                return Verdict::Refuse(Cause::Full);
+                return Err(Cause::Full);
             }
-            let index = narrow(at);
-            Verdict::Insert(index, site)
+            Ok(Verdict::Insert(narrow(at), site))
         }
     }
 }
 
 // A move of this site: held.
-fn place_site(t: &[u8], site: Site) -> Verdict
+fn place_site(t: &[u8], site: Site) -> Result<Verdict, Cause>
     requires { Sound t.now × NumberOk site × OnGrid site.position }
     ensures { Settled result (Command.Move site.number (Location.InSteps site.position)) t.now }
 {
-    let n = site.number;
-    let found = table_sites::find(t, n);
-    match found {
-        Ok(at) => {
-            let index = narrow(at);
-            Verdict::Place(index, site)
-        }
-        Err(_) => Verdict::Refuse(Cause::NotHeld),
+    match table_sites::find(t, site.number) {
+        Ok(at) => Ok(Verdict::Place(narrow(at), site)),
+        Err(_) => Err(Cause::NotHeld),
     }
 }
 
 // An addition: number, readings, position, held, full.
-pub fn add(t: &[u8], n: u16, l: Location) -> Verdict
+pub fn add(t: &[u8], n: u16, l: Location) -> Result<Verdict, Cause>
     requires { Sound t.now }
     ensures { Settled result (Command.Add n l) t.now }
 {
-    let tested = test(n, l);
-    match tested {
-        Tested::Bad(cause) => Verdict::Refuse(cause),
-        Tested::Good(site) => add_site(t, site),
-    }
+    let site = test(n, l)?;
+    add_site(t, site)
 }
 
 // A removal: number, held.
-pub fn remove(t: &[u8], n: u16) -> Verdict
+pub fn remove(t: &[u8], n: u16) -> Result<Verdict, Cause>
     requires { Sound t.now }
     ensures { Settled result (Command.Remove n) t.now }
 {
     if n == 0 {
-        return Verdict::Refuse(Cause::NumberZero);
+        return Err(Cause::NumberZero);
     }
-    let found = table_sites::find(t, n);
-    match found {
-        Ok(at) => {
-            let index = narrow(at);
-            Verdict::Delete(index, n)
-        }
-        Err(_) => Verdict::Refuse(Cause::NotHeld),
+    match table_sites::find(t, n) {
+        Ok(at) => Ok(Verdict::Delete(narrow(at), n)),
+        Err(_) => Err(Cause::NotHeld),
     }
 }
 
 // A move: number, readings, position, held.
-pub fn place(t: &[u8], n: u16, l: Location) -> Verdict
+pub fn place(t: &[u8], n: u16, l: Location) -> Result<Verdict, Cause>
     requires { Sound t.now }
     ensures { Settled result (Command.Move n l) t.now }
 {
-    let tested = test(n, l);
-    match tested {
-        Tested::Bad(cause) => Verdict::Refuse(cause),
-        Tested::Good(site) => place_site(t, site),
-    }
+    let site = test(n, l)?;
+    place_site(t, site)
 }

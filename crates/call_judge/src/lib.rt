@@ -23,12 +23,11 @@ pub enum Answer {
     Listed(Leg, usize, usize),
 }
 
-// What is to be done, with what was found: nothing but a refusal; nothing but a list; a site inserted before a
-// record; the record of a number deleted; a record given a new position; a standing leg set; a tour begun; a tour that
+// What is to be done for a command that is not refused, with what was found: nothing but a list; a site inserted before
+// a record; the record of a number deleted; a record given a new position; a standing leg set; a tour begun; a tour that
 // goes on along a leg, with so many entries of its list left out, the site that ends it, and the list's length.
 #[derive(Clone, Copy)]
 pub enum Verdict {
-    Refuse(Cause),
     Show(Leg, usize),
     Insert(u16, Site),
     Delete(u16, u16),
@@ -38,24 +37,24 @@ pub enum Verdict {
     Follow(Leg, u16, u16, usize),
 }
 
-// What a verdict is answered.
-pub fn reply(v: Verdict) -> Answer
-    ensures { result ≡ answer_of v }
+// What a verdict, or the cause of a refusal, is answered.
+pub fn reply(judged: Result<Verdict, Cause>) -> Answer
+    ensures { result ≡ answer_of judged }
 {
-    match v {
-        Verdict::Refuse(cause) => Answer::Refused(cause),
-        Verdict::Show(leg, k) => Answer::Listed(leg, 0, k),
-        Verdict::Insert(_, _) => Answer::Done,
-        Verdict::Delete(_, _) => Answer::Done,
-        Verdict::Place(_, _) => Answer::Done,
-        Verdict::Stand(_) => Answer::Done,
-        Verdict::Begin(_) => Answer::Done,
-        Verdict::Follow(leg, j, _, k) => Answer::Listed(leg, j as usize, k),
+    match judged {
+        Err(cause) => Answer::Refused(cause),
+        Ok(Verdict::Show(leg, k)) => Answer::Listed(leg, 0, k),
+        Ok(Verdict::Insert(_, _)) => Answer::Done,
+        Ok(Verdict::Delete(_, _)) => Answer::Done,
+        Ok(Verdict::Place(_, _)) => Answer::Done,
+        Ok(Verdict::Stand(_)) => Answer::Done,
+        Ok(Verdict::Begin(_)) => Answer::Done,
+        Ok(Verdict::Follow(leg, j, _, k)) => Answer::Listed(leg, j as usize, k),
     }
 }
 
-// The verdict on a command.
-pub fn judge(t: &[u8], work: &mut [u8], c: Command) -> Verdict
+// The verdict on a command, or why it is refused.
+pub fn judge(t: &[u8], work: &mut [u8], c: Command) -> Result<Verdict, Cause>
     requires { Sound t.now × (row_bytes ≤ length work.old) }
     ensures { Decided result c t.now work.new }
 {

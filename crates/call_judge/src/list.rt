@@ -11,51 +11,51 @@ use book::Cause;
 use grid::Leg;
 
 // A list: leg, site.
-pub fn list(t: &[u8], work: &mut [u8], leg: Leg) -> Verdict
+pub fn list(t: &[u8], work: &mut [u8], leg: Leg) -> Result<Verdict, Cause>
     requires { Sound t.now × (row_bytes ≤ length work.old) }
     ensures { Decided result (Command.List leg) t.now work.new }
 {
     if grid::coordinate::leg_on_grid(leg) {
         let n = table_header::count(t);
         if n == 0 {
-            return Verdict::Refuse(Cause::NoSite);
+            return Err(Cause::NoSite);
         }
         let k = table_search::search(t, leg, work);
-        return Verdict::Show(leg, k);
+        return Ok(Verdict::Show(leg, k));
     }
-    Verdict::Refuse(Cause::OffGrid)
+    Err(Cause::OffGrid)
 }
 
 // A standing leg: leg.
-pub fn stand(t: &[u8], leg: Leg) -> Verdict
+pub fn stand(t: &[u8], leg: Leg) -> Result<Verdict, Cause>
     ensures { Settled result (Command.Stand leg) t.now }
 {
     if grid::coordinate::leg_on_grid(leg) {
-        return Verdict::Stand(leg);
+        return Ok(Verdict::Stand(leg));
     }
-    Verdict::Refuse(Cause::OffGrid)
+    Err(Cause::OffGrid)
 }
 
 // The standing list of a leg: site.
-fn stored(t: &[u8], work: &mut [u8], leg: Leg) -> Verdict
+fn stored(t: &[u8], work: &mut [u8], leg: Leg) -> Result<Verdict, Cause>
     requires { Sound t.now × (leg_in t.now ≡ Some leg) × (row_bytes ≤ length work.old) }
     ensures { Decided result Command.Print t.now work.new }
 {
     let n = table_header::count(t);
     if n == 0 {
-        return Verdict::Refuse(Cause::NoSite);
+        return Err(Cause::NoSite);
     }
     let k = table_list::load(t, work, leg);
-    Verdict::Show(leg, k)
+    Ok(Verdict::Show(leg, k))
 }
 
 // The standing list: leg, site.
-pub fn print(t: &[u8], work: &mut [u8]) -> Verdict
+pub fn print(t: &[u8], work: &mut [u8]) -> Result<Verdict, Cause>
     requires { Sound t.now × (row_bytes ≤ length work.old) }
     ensures { Decided result Command.Print t.now work.new }
 {
     match table_header::leg(t) {
-        None => Verdict::Refuse(Cause::NoLeg),
+        None => Err(Cause::NoLeg),
         Some(leg) => stored(t, work, leg),
     }
 }

@@ -14,13 +14,13 @@ use book::{Cause, Tour};
 use grid::{Leg, Position};
 
 // A tour begins: position.
-pub fn begin(t: &[u8], p: Position) -> Verdict
+pub fn begin(t: &[u8], p: Position) -> Result<Verdict, Cause>
     ensures { Settled result (Command.Begin p) t.now }
 {
     if grid::coordinate::on_grid(p) {
-        return Verdict::Begin(p);
+        return Ok(Verdict::Begin(p));
     }
-    Verdict::Refuse(Cause::OffGrid)
+    Err(Cause::OffGrid)
 }
 
 // How many entries are left out at a list's beginning: the first, if it names the site that is remembered.
@@ -31,7 +31,7 @@ fn passed(first: u16, last: Option<u16>) -> u16
 }
 
 // The verdict on the leg from the tour's last corner to p, whose list is in the first k of the row.
-fn shown(t: &[u8], work: &[u8], tour: Tour, p: Position, k: usize) -> Verdict
+fn shown(t: &[u8], work: &[u8], tour: Tour, p: Position, k: usize) -> Result<Verdict, Cause>
     requires sound { Sound t.now × (tour_in t.now ≡ Some tour) × OnGrid p }
     requires lists_table { ListsTable (leg_to tour p) t.now work.now k × (0 < k) }
     ensures { Decided result (Command.Corner p) t.now work.now }
@@ -43,18 +43,18 @@ fn shown(t: &[u8], work: &[u8], tour: Tour, p: Position, k: usize) -> Verdict
     let first = list_row::number_in(t, work, 0);
     let ending = list_row::number_in(t, work, k - 1);
     let j = passed(first, tour.last);
-    Verdict::Follow(leg, j, ending, k)
+    Ok(Verdict::Follow(leg, j, ending, k))
 }
 
 // The next leg of this tour: position, site.
-fn onward(t: &[u8], work: &mut [u8], tour: Tour, p: Position) -> Verdict
+fn onward(t: &[u8], work: &mut [u8], tour: Tour, p: Position) -> Result<Verdict, Cause>
     requires { Sound t.now × (tour_in t.now ≡ Some tour) × (row_bytes ≤ length work.old) }
     ensures { Decided result (Command.Corner p) t.now work.new }
 {
     if grid::coordinate::on_grid(p) {
         let n = table_header::count(t);
         if n == 0 {
-            return Verdict::Refuse(Cause::NoSite);
+            return Err(Cause::NoSite);
         }
         let leg = Leg {
             s: tour.corner,
@@ -63,16 +63,16 @@ fn onward(t: &[u8], work: &mut [u8], tour: Tour, p: Position) -> Verdict
         let k = table_search::search(t, leg, work);
         return shown(t, work, tour, p, k);
     }
-    Verdict::Refuse(Cause::OffGrid)
+    Err(Cause::OffGrid)
 }
 
 // The next leg of a tour: tour, position, site.
-pub fn corner(t: &[u8], work: &mut [u8], p: Position) -> Verdict
+pub fn corner(t: &[u8], work: &mut [u8], p: Position) -> Result<Verdict, Cause>
     requires { Sound t.now × (row_bytes ≤ length work.old) }
     ensures { Decided result (Command.Corner p) t.now work.new }
 {
     match table_header::tour(t) {
-        None => Verdict::Refuse(Cause::NoTour),
+        None => Err(Cause::NoTour),
         Some(tour) => onward(t, work, tour, p),
     }
 }

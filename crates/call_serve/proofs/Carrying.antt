@@ -3,6 +3,7 @@
 use mathlib.Core.Path.{◌≡◌, ap, subst, subst⁻¹, ◌∙◌}
 use mathlib.Core.Bool.{Bool, true, false}
 use mathlib.Core.List.{List}
+use Rattle.std.specs.Prelude.{Result, Ok, Err}
 use Prim.Native.Nat.{ℕ, ◌+◌, ◌≤◌, ◌<◌}
 use native.Mathlib.Omega.{arith}
 use lib.ListN.{length}
@@ -38,7 +39,7 @@ use Rattle.call_serve.specs.Serving.{Carried, Obeyed}
 
 -- ---- the record
 
-module _ (v : Verdict) (a : Answer) (t w : List ℕ) (ha : a ≡ answer_of v) where
+module _ (v : Result Verdict Cause) (a : Answer) (t w : List ℕ) (ha : a ≡ answer_of v) where
   pub put_row : RowOk (answer_of v) t w → RowOk a t w
   put_row r = subst⁻¹ (λ (y : Answer). RowOk y t w) ha r
 
@@ -49,24 +50,24 @@ module _ (v : Verdict) (a : Answer) (t w : List ℕ) (ha : a ≡ answer_of v) wh
   obeyed t' rep rep' at p h = record { carried = h; report = p ∙ ap (λ (y : Answer). write rep at (record_of (reply_of y t w))) ha }
 
 -- what a decided verdict says of the table and of its row
-pub decided_found : (v : Verdict) (c : Command) (t w : List ℕ) → Decided v c t w → Findings v t
+pub decided_found : (v : Result Verdict Cause) (c : Command) (t w : List ℕ) → Decided v c t w → Findings v t
 decided_found v c t w d = d.found
 
-pub decided_row : (v : Verdict) (c : Command) (t w : List ℕ) → Decided v c t w → RowOk (answer_of v) t w
+pub decided_row : (v : Result Verdict Cause) (c : Command) (t w : List ℕ) → Decided v c t w → RowOk (answer_of v) t w
 decided_row v c t w d = d.judged.row
 
 -- ---- each verdict
 
-module _ (t t' : List ℕ) (v : Verdict) where
-  pub refused_left : (x : Cause) → v ≡ Verdict.Refuse x → Carried v t t
-  refused_left x e = subst⁻¹ (λ (y : Verdict). Carried y t t) e (λ i. t)
+module _ (t t' : List ℕ) (v : Result Verdict Cause) where
+  pub refused_left : (x : Cause) → v ≡ Err x → Carried v t t
+  refused_left x e = subst⁻¹ (λ (y : Result Verdict Cause). Carried y t t) e (λ i. t)
 
-  pub shown_left : (l : Leg) (k : ℕ) → v ≡ Verdict.Show l k → Carried v t t
-  shown_left l k e = subst⁻¹ (λ (y : Verdict). Carried y t t) e (λ i. t)
+  pub shown_left : (l : Leg) (k : ℕ) → v ≡ Ok (Verdict.Show l k) → Carried v t t
+  shown_left l k e = subst⁻¹ (λ (y : Result Verdict Cause). Carried y t t) e (λ i. t)
 
-  module _ (k : ℕ) (p : Site) (e : v ≡ Verdict.Insert k p) where
+  module _ (k : ℕ) (p : Site) (e : v ≡ Ok (Verdict.Insert k p)) where
     insertable : Findings v t → Insertable k p t
-    insertable f = subst (λ (y : Verdict). Findings y t) e f
+    insertable f = subst (λ (y : Result Verdict Cause). Findings y t) e f
 
     pub insert_nowhere : Findings v t → StandsNowhere k p.number (lines_in t)
     insert_nowhere f = (insertable f).nowhere
@@ -81,45 +82,45 @@ module _ (t t' : List ℕ) (v : Verdict) where
     insert_grid f = (insertable f).on_grid
 
     pub inserted : Holds t' (change (Add p.number (InSteps p.position)) (book_of t)) → Carried v t t'
-    inserted h = subst⁻¹ (λ (y : Verdict). Carried y t t') e h
+    inserted h = subst⁻¹ (λ (y : Result Verdict Cause). Carried y t t') e h
 
-  module _ (k n : ℕ) (e : v ≡ Verdict.Delete k n) where
+  module _ (k n : ℕ) (e : v ≡ Ok (Verdict.Delete k n)) where
     pub delete_at : Findings v t → StandsAt k n (lines_in t)
-    delete_at f = subst (λ (y : Verdict). Findings y t) e f
+    delete_at f = subst (λ (y : Result Verdict Cause). Findings y t) e f
 
     pub deleted : Holds t' (change (Remove n) (book_of t)) → Carried v t t'
-    deleted h = subst⁻¹ (λ (y : Verdict). Carried y t t') e h
+    deleted h = subst⁻¹ (λ (y : Result Verdict Cause). Carried y t t') e h
 
-  module _ (k : ℕ) (p : Site) (e : v ≡ Verdict.Place k p) where
+  module _ (k : ℕ) (p : Site) (e : v ≡ Ok (Verdict.Place k p)) where
     pub place_at_lem : Findings v t → StandsAt k p.number (lines_in t)
-    place_at_lem f = (subst (λ (y : Verdict). Findings y t) e f).0
+    place_at_lem f = (subst (λ (y : Result Verdict Cause). Findings y t) e f).0
 
     pub place_grid : Findings v t → OnGrid p.position
-    place_grid f = (subst (λ (y : Verdict). Findings y t) e f).1
+    place_grid f = (subst (λ (y : Result Verdict Cause). Findings y t) e f).1
 
     pub placed : Holds t' (change (Move p.number (InSteps p.position)) (book_of t)) → Carried v t t'
-    placed h = subst⁻¹ (λ (y : Verdict). Carried y t t') e h
+    placed h = subst⁻¹ (λ (y : Result Verdict Cause). Carried y t t') e h
 
-  module _ (l : Leg) (e : v ≡ Verdict.Stand l) where
+  module _ (l : Leg) (e : v ≡ Ok (Verdict.Stand l)) where
     pub stand_grid : Findings v t → LegOnGrid l
-    stand_grid f = subst (λ (y : Verdict). Findings y t) e f
+    stand_grid f = subst (λ (y : Result Verdict Cause). Findings y t) e f
 
     pub stood : Holds t' (change (Stand l) (book_of t)) → Carried v t t'
-    stood h = subst⁻¹ (λ (y : Verdict). Carried y t t') e h
+    stood h = subst⁻¹ (λ (y : Result Verdict Cause). Carried y t t') e h
 
-  module _ (p : Position) (e : v ≡ Verdict.Begin p) where
+  module _ (p : Position) (e : v ≡ Ok (Verdict.Begin p)) where
     pub begin_grid : Findings v t → OnGrid p
-    begin_grid f = subst (λ (y : Verdict). Findings y t) e f
+    begin_grid f = subst (λ (y : Result Verdict Cause). Findings y t) e f
 
     pub begun : Holds t' (change (Begin p) (book_of t)) × Only tour_start tour_end t t' → Carried v t t'
-    begun h = subst⁻¹ (λ (y : Verdict). Carried y t t') e h
+    begun h = subst⁻¹ (λ (y : Result Verdict Cause). Carried y t t') e h
 
-  module _ (l : Leg) (j n k : ℕ) (e : v ≡ Verdict.Follow l j n k) where
+  module _ (l : Leg) (j n k : ℕ) (e : v ≡ Ok (Verdict.Follow l j n k)) where
     pub follow_found : Findings v t → Follows l n t
-    follow_found f = subst (λ (y : Verdict). Findings y t) e f
+    follow_found f = subst (λ (y : Result Verdict Cause). Findings y t) e f
 
     pub followed : Holds t' (change (Corner l.e) (book_of t)) × Only tour_start tour_end t t' → Carried v t t'
-    followed h = subst⁻¹ (λ (y : Verdict). Carried y t t') e h
+    followed h = subst⁻¹ (λ (y : Result Verdict Cause). Carried y t t') e h
 
 -- ---- the book's step
 
@@ -157,13 +158,13 @@ module _ (c : Command) (t w t' : List ℕ) where
       go false = tt
 
   -- A VERDICT DOES WHAT THE BOOK'S ANSWER DEMANDS
-  pub carried_step : (v : Verdict) → Decided v c t w → Carried v t t' → Step t c (answer (book_of t) c) t'
-  carried_step (Verdict.Refuse x) d h = subst (λ (y : Reply). Step t c y t') d.judged.said (h, left_alone h)
-  carried_step (Verdict.Show l k) d h =
+  pub carried_step : (v : Result Verdict Cause) → Decided v c t w → Carried v t t' → Step t c (answer (book_of t) c) t'
+  carried_step (Err x) d h = subst (λ (y : Reply). Step t c y t') d.judged.said (h, left_alone h)
+  carried_step (Ok (Verdict.Show l k)) d h =
       subst (λ (y : Reply). Step t c y t') d.judged.said (subst⁻¹ (λ (q : Bool). Left q t (change c (book_of t)) t') d.command h, left_alone h)
-  carried_step (Verdict.Insert k p) d h = written_step (Add p.number (InSteps p.position)) d.command d.judged.said (h, tt)
-  carried_step (Verdict.Delete k n) d h = accepted_step (Remove n) d.command d.judged.said (h, tt)
-  carried_step (Verdict.Place k p) d h = written_step (Move p.number (InSteps p.position)) d.command d.judged.said (h, tt)
-  carried_step (Verdict.Stand l) d h = accepted_step (Stand l) d.command d.judged.said (h, tt)
-  carried_step (Verdict.Begin p) d h = accepted_step (Begin p) d.command d.judged.said h
-  carried_step (Verdict.Follow l j n k) d h = listed_step l.e d.command (entries_from l t w j k) d.judged.said h
+  carried_step (Ok (Verdict.Insert k p)) d h = written_step (Add p.number (InSteps p.position)) d.command d.judged.said (h, tt)
+  carried_step (Ok (Verdict.Delete k n)) d h = accepted_step (Remove n) d.command d.judged.said (h, tt)
+  carried_step (Ok (Verdict.Place k p)) d h = written_step (Move p.number (InSteps p.position)) d.command d.judged.said (h, tt)
+  carried_step (Ok (Verdict.Stand l)) d h = accepted_step (Stand l) d.command d.judged.said (h, tt)
+  carried_step (Ok (Verdict.Begin p)) d h = accepted_step (Begin p) d.command d.judged.said h
+  carried_step (Ok (Verdict.Follow l j n k)) d h = listed_step l.e d.command (entries_from l t w j k) d.judged.said h

@@ -1,6 +1,8 @@
 -- The loop over the commands: at its head the run so far is the book's, and the table and the report are as the book's turns leave them.
 -- Assumes nothing.
 use mathlib.Core.Path.{◌≡◌, refl, sym, ap, subst, subst⁻¹, ◌∙◌}
+use Rattle.std.specs.Prelude.{Result}
+use Rattle.book.specs.declared.Cause.{Cause}
 use mathlib.Core.List.{List, [], ◌∷◌, ◌++◌, append_assoc}
 use Prim.Native.Nat.{ℕ, ◌+◌, ◌-◌, ◌≤◌, ◌<◌}
 use native.Mathlib.Omega.{arith}
@@ -48,11 +50,11 @@ report_more r x rep₀ h =
     ∙ sym (append_assoc r x (drop (length r + length x) rep₀))
 
 -- a list has few entries
-pub turn_few : (v : Verdict) (a : Answer) (c : Command) (t w : List ℕ) → a ≡ answer_of v → Decided v c t w → Few a
+pub turn_few : (v : Result Verdict Cause) (a : Answer) (c : Command) (t w : List ℕ) → a ≡ answer_of v → Decided v c t w → Few a
 turn_few v a c t w ha d = subst⁻¹ Few ha (judged_few (answer_of v) c t w d.judged)
 
 -- the record has room
-pub turn_fits : (v : Verdict) (a : Answer) (t w : List ℕ) (n written size : ℕ) → written ≤ n → a ≡ answer_of v → Sized a size → size ≤ n - written
+pub turn_fits : (v : Result Verdict Cause) (a : Answer) (t w : List ℕ) (n written size : ℕ) → written ≤ n → a ≡ answer_of v → Sized a size → size ≤ n - written
     → written + record_size (reply_of (answer_of v) t w) ≤ n
 turn_fits v a t w n written size l ha s h = omega (arith, s t w, ap (λ (y : Answer). record_size (reply_of y t w)) ha)
 
@@ -95,30 +97,30 @@ module _ (cs t₀ rep₀ : List ℕ) (used written : ℕ) (t rep : List ℕ) (s 
   serving_fits = omega (arith, room, s.count, s.steps.fits)
 
   ended : (reason : Reason) → run cs (length rep₀) (book_of t₀) ≡ ends reason used s.past (book_of t)
-      → (r : BatchResult) → return_of r ≡ returns (reason_number reason) used written → Answered cs t₀ rep₀ r t rep
+      → (r : BatchResult) → r ≡ record { reason = reason; used = used; written = written } → Answered cs t₀ rep₀ r t rep
   ended reason e r h =
       subst (λ (o : Outcome). EndsAs o t₀ rep₀ r t rep) (sym e)
-      (record { said = h ∙ ap (λ (n : ℕ). returns (reason_number reason) used n) s.count; report = s.report; table = s.chain })
+      (record { said = ap return_of h ∙ ap (λ (n : ℕ). returns (reason_number reason) used n) s.count; report = s.report; table = s.chain })
 
   module _ (p : Parsed) (hp : p ≡ parse_at cs used) where
-    pub ended_all : p ≡ End → (r : BatchResult) → return_of r ≡ returns (reason_number AllUsed) used written → Answered cs t₀ rep₀ r t rep
+    pub ended_all : p ≡ End → (r : BatchResult) → r ≡ record { reason = AllUsed; used = used; written = written } → Answered cs t₀ rep₀ r t rep
     ended_all e = ended AllUsed (ends_all cs (length rep₀) (book_of t₀) used s.past (book_of t) s.steps p hp e)
 
-    pub ended_unknown : p ≡ Unknown → (r : BatchResult) → return_of r ≡ returns (reason_number UnknownCommand) used written → Answered cs t₀ rep₀ r t rep
+    pub ended_unknown : p ≡ Unknown → (r : BatchResult) → r ≡ record { reason = UnknownCommand; used = used; written = written } → Answered cs t₀ rep₀ r t rep
     ended_unknown e = ended UnknownCommand (ends_unknown cs (length rep₀) (book_of t₀) used s.past (book_of t) s.steps p hp e)
 
-    pub ended_cut : p ≡ Cut → (r : BatchResult) → return_of r ≡ returns (reason_number CutShort) used written → Answered cs t₀ rep₀ r t rep
+    pub ended_cut : p ≡ Cut → (r : BatchResult) → r ≡ record { reason = CutShort; used = used; written = written } → Answered cs t₀ rep₀ r t rep
     ended_cut e = ended CutShort (ends_cut cs (length rep₀) (book_of t₀) used s.past (book_of t) s.steps p hp e)
 
     module _ (c : Command) (after-it : ℕ) (hc : p ≡ Whole c after-it) where
       pub fewer_left : length cs - after-it < length cs - used
       fewer_left = steps_less cs (length rep₀) (book_of t₀) used s.past (book_of t) s.steps p hp c after-it hc
 
-      module _ (v : Verdict) (a : Answer) (w : List ℕ) (d : Decided v c t w) (ha : a ≡ answer_of v) (size : ℕ) (hs : Sized a size) where
+      module _ (v : Result Verdict Cause) (a : Answer) (w : List ℕ) (d : Decided v c t w) (ha : a ≡ answer_of v) (size : ℕ) (hs : Sized a size) where
         long : size ≡ length (record_of (answer (book_of t) c))
         long = size_is (answer_of v) c t w d.judged size (subst (λ (y : Answer). Sized y size) ha hs)
 
-        pub ended_full : length rep - written < size → (r : BatchResult) → return_of r ≡ returns (reason_number NoRoom) used written → Answered cs t₀ rep₀ r t rep
+        pub ended_full : length rep - written < size → (r : BatchResult) → r ≡ record { reason = NoRoom; used = used; written = written } → Answered cs t₀ rep₀ r t rep
         ended_full h =
             ended NoRoom
             (ends_full cs (length rep₀) (book_of t₀) used s.past (book_of t) s.steps p hp c after-it hc

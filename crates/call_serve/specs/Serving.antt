@@ -1,12 +1,13 @@
 -- A batch on a sound table, beside the book's run. Document 01, "The site book".
 -- Assumes nothing.
-use Rattle.std.specs.Prelude.{◌≡◌, List, ◌++◌, ℕ, ◌≤◌, length, drop}
+use Rattle.std.specs.Prelude.{◌≡◌, List, ◌++◌, ℕ, ◌≤◌, length, drop, Result, Ok, Err}
 use Rattle.limits.specs.Limits.{max_sites}
 use Rattle.words.specs.Words.{Only}
 use Rattle.records.specs.Bytes.{write}
 use Rattle.readings.specs.declared.Location.TheVariants.{InSteps}
 use Rattle.book.specs.declared.Command.TheVariants.{Add, Remove, Move, Stand, Begin, Corner}
 use Rattle.book.specs.declared.BatchResult.{BatchResult}
+use Rattle.book.specs.declared.Cause.{Cause}
 use Rattle.book.specs.Numbers.{reason_number}
 use Rattle.book.specs.Book.{change}
 use Rattle.book.specs.Reply.{record_of, record_size}
@@ -31,18 +32,18 @@ Few (Answer.Refused x) = Unit {0}
 Few (Answer.Listed l j k) = (j ≤ k) × (k ≤ max_sites)
 
 -- what a verdict does to the table: nothing, or what the book does for its command; those of a tour write it alone
-abbrev pub Carried : Verdict → List ℕ → List ℕ → Type 0
-Carried (Verdict.Refuse x) t t' = t' ≡ t
-Carried (Verdict.Show l k) t t' = t' ≡ t
-Carried (Verdict.Insert k p) t t' = Holds t' (change (Add p.number (InSteps p.position)) (book_of t))
-Carried (Verdict.Delete k n) t t' = Holds t' (change (Remove n) (book_of t))
-Carried (Verdict.Place k p) t t' = Holds t' (change (Move p.number (InSteps p.position)) (book_of t))
-Carried (Verdict.Stand l) t t' = Holds t' (change (Stand l) (book_of t))
-Carried (Verdict.Begin p) t t' = Holds t' (change (Begin p) (book_of t)) × Only tour_start tour_end t t'
-Carried (Verdict.Follow l j n k) t t' = Holds t' (change (Corner l.e) (book_of t)) × Only tour_start tour_end t t'
+abbrev pub Carried : Result Verdict Cause → List ℕ → List ℕ → Type 0
+Carried (Err x) t t' = t' ≡ t
+Carried (Ok (Verdict.Show l k)) t t' = t' ≡ t
+Carried (Ok (Verdict.Insert k p)) t t' = Holds t' (change (Add p.number (InSteps p.position)) (book_of t))
+Carried (Ok (Verdict.Delete k n)) t t' = Holds t' (change (Remove n) (book_of t))
+Carried (Ok (Verdict.Place k p)) t t' = Holds t' (change (Move p.number (InSteps p.position)) (book_of t))
+Carried (Ok (Verdict.Stand l)) t t' = Holds t' (change (Stand l) (book_of t))
+Carried (Ok (Verdict.Begin p)) t t' = Holds t' (change (Begin p) (book_of t)) × Only tour_start tour_end t t'
+Carried (Ok (Verdict.Follow l j n k)) t t' = Holds t' (change (Corner l.e) (book_of t)) × Only tour_start tour_end t t'
 
 -- a verdict carried out: the table, and the record at byte `at` of the report
-pub record Obeyed (v : Verdict) (t w t' rep : List ℕ) (at : ℕ) (rep' : List ℕ) : Type 0 where
+pub record Obeyed (v : Result Verdict Cause) (t w t' rep : List ℕ) (at : ℕ) (rep' : List ℕ) : Type 0 where
   pub carried : Carried v t t'
   pub report : rep' ≡ write rep at (record_of (reply_of (answer_of v) t w))
 

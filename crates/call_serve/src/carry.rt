@@ -5,21 +5,22 @@ ghost use Rattle.table_rules.specs.Table.{Sound};
 ghost use Rattle.call_judge.specs.Verdict.{Findings};
 ghost use Rattle.call_serve.specs.Serving.{Carried};
 
+use book::Cause;
 use call_judge::Verdict;
 
 // Changes the table as the book changes, at the record that was found.
-pub fn carry(t: &mut [u8], work: &mut [u8], v: Verdict)
+pub fn carry(t: &mut [u8], work: &mut [u8], v: Result<Verdict, Cause>)
     requires { Sound t.old × Findings v t.old × (row_bytes ≤ length work.old) }
     ensures { Carried v t.old t.new }
 {
     match v {
-        Verdict::Refuse(_) => {}
-        Verdict::Show(_, _) => {}
-        Verdict::Insert(k, site) => table_change::insert(t, work, k as usize, site),
-        Verdict::Delete(k, n) => table_change::delete(t, work, k as usize, n),
-        Verdict::Place(k, site) => table_change::place(t, work, k as usize, site),
-        Verdict::Stand(leg) => table_change::stand(t, work, leg),
-        Verdict::Begin(p) => table_change::begin(t, p),
-        Verdict::Follow(leg, _, n, _) => table_change::follow(t, leg, n),
+        Err(_) => {}
+        Ok(Verdict::Show(_, _)) => {}
+        Ok(Verdict::Insert(k, site)) => table_change::insert(t, work, k as usize, site),
+        Ok(Verdict::Delete(k, n)) => table_change::delete(t, work, k as usize, n),
+        Ok(Verdict::Place(k, site)) => table_change::place(t, work, k as usize, site),
+        Ok(Verdict::Stand(leg)) => table_change::stand(t, work, leg),
+        Ok(Verdict::Begin(p)) => table_change::begin(t, p),
+        Ok(Verdict::Follow(leg, _, n, _)) => table_change::follow(t, leg, n),
     }
 }

@@ -7,18 +7,16 @@ pub mod record;
 ghost use Rattle.std.specs.Prelude.{◌≡◌, ◌+◌, ◌≤◌, length};
 ghost use Rattle.list_row.specs.Vertices.{row_bytes};
 ghost use Rattle.table_rules.specs.Table.{Sound};
-ghost use Rattle.book.specs.Numbers.{reason_number};
-ghost use Rattle.demands.specs.Batch.{returns, return_of};
 ghost use Rattle.book.specs.Reply.{record_size};
 ghost use Rattle.call_judge.specs.Judged.{reply_of, RowOk};
 ghost use Rattle.call_judge.specs.Verdict.{answer_of, Findings};
 ghost use Rattle.call_serve.specs.Serving.{Obeyed, Answered};
 
-use book::{BatchResult, Parsed, Reason};
+use book::{BatchResult, Cause, Parsed, Reason};
 use call_judge::Verdict;
 
-// Writes the record of a verdict, and does what it says.
-fn obey(t: &mut [u8], work: &mut [u8], v: Verdict, report: &mut [u8], at: usize)
+// Writes the record of a verdict or a refusal, and does what it says.
+fn obey(t: &mut [u8], work: &mut [u8], v: Result<Verdict, Cause>, report: &mut [u8], at: usize)
     requires sound { Sound t.old × (row_bytes ≤ length work.old) }
     requires findings { Findings v t.old × RowOk (answer_of v) t.old work.old
         × (at + record_size (reply_of (answer_of v) t.old work.old) ≤ length report.old) }
@@ -28,17 +26,6 @@ fn obey(t: &mut [u8], work: &mut [u8], v: Verdict, report: &mut [u8], at: usize)
     let a = call_judge::reply(v);
     record::put(t, work, a, report, at);
     carry::carry(t, work, v);
-}
-
-// The result of a batch that ends here.
-fn ended(reason: Reason, used: usize, written: usize) -> BatchResult
-    ensures { return_of result ≡ returns (reason_number reason) used written }
-{
-    BatchResult {
-        reason: reason,
-        used: used,
-        written: written,
-    }
 }
 
 // Takes the commands in turn until one ends the batch.
@@ -52,15 +39,15 @@ pub fn serve(t: &mut [u8], work: &mut [u8], commands: &[u8], report: &mut [u8]) 
     loop {
         let p = call_parse::parse(commands, used);
         match p {
-            Parsed::End => return ended(Reason::AllUsed, used, written),
-            Parsed::Unknown => return ended(Reason::UnknownCommand, used, written),
-            Parsed::Cut => return ended(Reason::CutShort, used, written),
+            Parsed::End => return BatchResult::new(Reason::AllUsed, used, written),
+            Parsed::Unknown => return BatchResult::new(Reason::UnknownCommand, used, written),
+            Parsed::Cut => return BatchResult::new(Reason::CutShort, used, written),
             Parsed::Whole(c, next) => {
                 let v = call_judge::judge(t, work, c);
                 let a = call_judge::reply(v);
                 let size = record::size(a);
                 if report.len() - written < size {
-                    return ended(Reason::NoRoom, used, written);
+                    return BatchResult::new(Reason::NoRoom, used, written);
                 }
                 let upto = written + size;
                 obey(t, work, v, report, written);

@@ -8,8 +8,7 @@ use Rattle.grid.specs.declared.Position.{Position}
 use Rattle.readings.specs.declared.Reading.{Reading}
 use Rattle.readings.specs.declared.Location.{Location}
 use Rattle.readings.specs.declared.Location.TheVariants.{InSteps, InMetres}
-use Rattle.readings.specs.declared.Located.{Located}
-use Rattle.readings.specs.declared.Located.TheVariants.{NotFinite, At}
+use Rattle.std.specs.Prelude.{Option, None, Some}
 use Rattle.readings.specs.Location.{position_of, Stepped, located_at, long_at, number_of, reading_at}
 
 -- ---- `is_finite`
@@ -36,24 +35,24 @@ pub stepped_is : {r : Reading} {p : Position} → Stepped r p → p ≡ position
 stepped_is h = λ i. record { east = h.east.is i; north = h.north.is i }
 
 module _ (r : Reading) (q : Bool) (f : q ≡ finite r.easting) where
-  pub survey_first : q ≡ false → NotFinite ≡ located_at (InMetres r)
+  pub survey_first : q ≡ false → None ≡ located_at (InMetres r)
   unfolding located_at
   survey_first e = rw (sym f ∙ e) refl
 
-  pub survey_second : q ≡ true → (t : Bool) → t ≡ finite r.northing → t ≡ false → NotFinite ≡ located_at (InMetres r)
+  pub survey_second : q ≡ true → (t : Bool) → t ≡ finite r.northing → t ≡ false → None ≡ located_at (InMetres r)
   unfolding located_at
   survey_second e t g d = rw (sym f ∙ e, sym g ∙ d) refl
 
   pub survey_both : q ≡ true → (t : Bool) → t ≡ finite r.northing → t ≡ true → (p : Position) → Stepped r p
-      → At p ≡ located_at (InMetres r)
+      → Some p ≡ located_at (InMetres r)
   unfolding located_at
-  survey_both e t g d p h = rw (sym f ∙ e, sym g ∙ d) (ap At (stepped_is h))
+  survey_both e t g d p h = rw (sym f ∙ e, sym g ∙ d) (ap Some (stepped_is h))
 
 -- ---- `locate`
 
-pub located_steps : (l : Location) (p : Position) → l ≡ InSteps p → At p ≡ located_at l
+pub located_steps : (l : Location) (p : Position) → l ≡ InSteps p → Some p ≡ located_at l
 unfolding located_at
 located_steps l p e = rw e refl
 
-pub located_metres : (l : Location) (r : Reading) (s : Located) → l ≡ InMetres r → s ≡ located_at (InMetres r) → s ≡ located_at l
+pub located_metres : (l : Location) (r : Reading) (s : Option Position) → l ≡ InMetres r → s ≡ located_at (InMetres r) → s ≡ located_at l
 located_metres l r s e h = rw e h

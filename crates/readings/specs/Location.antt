@@ -1,8 +1,8 @@
--- Readings as the code has them, and as they stand in bytes. `Reading`, `Location` and `Located` are the code's own
+-- Readings as the code has them, and as they stand in bytes. `Reading` and `Location` are the code's own
 -- (src/lib.rt). `Float` is the logic's account of IEEE 754: `fin s m e` is m * 2 ^ e, negative where s is true, and
 -- 2 ^ e is the fraction up e / down e; `num` and `den` are its size as one fraction.
 -- Assumes nothing.
-use Rattle.std.specs.Prelude.{◌≡◌, ℕ, ◌+◌, ◌*◌, ◌≤◌, Bool, true, false, cond, ◌&&◌, List, from_bits, Float}
+use Rattle.std.specs.Prelude.{◌≡◌, ℕ, ◌+◌, ◌*◌, ◌≤◌, Bool, true, false, cond, ◌&&◌, List, from_bits, Float, Option, None, Some}
 use Rattle.std.specs.Float.{nan, inf, fin, binary32}
 use Rattle.std.specs.Float.Ieee.Scale.{finite}
 use Rattle.std.specs.Float.Ieee.Positive.{num, den}
@@ -13,8 +13,6 @@ use Rattle.grid.specs.Coordinate.{from_word}
 use Rattle.readings.specs.declared.Reading.{Reading}
 use Rattle.readings.specs.declared.Location.{Location}
 use Rattle.readings.specs.declared.Location.TheVariants.{InSteps, InMetres}
-use Rattle.readings.specs.declared.Located.{Located}
-use Rattle.readings.specs.declared.Located.TheVariants.{NotFinite, At}
 use Rattle.readings.specs.Reading.{finite?, nearest_step, kept, step_word, Within}
 
 -- ---- one reading
@@ -66,8 +64,8 @@ placed (InSteps p) = p
 placed (InMetres r) = position_of r
 
 -- the same, where the readings are finite
-unfoldable pub located_at : Location → Located
-located_at l = cond (finite_in l) (At (placed l)) NotFinite
+unfoldable pub located_at : Location → Option Position
+located_at l = cond (finite_in l) (Some (placed l)) None
 
 -- ---- in bytes
 

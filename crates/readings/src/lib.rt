@@ -22,13 +22,6 @@ pub enum Location {
     InMetres(Reading),
 }
 
-// Where that is, in steps.
-#[derive(Clone, Copy)]
-pub enum Located {
-    NotFinite,
-    At(Position),
-}
-
 // What document 02 writes for it: "a step off the grid as 32,767".
 const BEYOND_STEP: u16 = 32767;
 
@@ -89,24 +82,24 @@ pub fn is_finite(x: f32) -> bool
     x.is_finite()
 }
 
-// Where two readings are.
-fn survey(r: Reading) -> Located
+// Where two readings are, in steps, if both are finite.
+fn survey(r: Reading) -> Option<Position>
     ensures { result ≡ located_at (Location.InMetres r) }
 {
     if is_finite(r.easting) {
         if is_finite(r.northing) {
-            return Located::At(step(r));
+            return Some(step(r));
         }
     }
-    Located::NotFinite
+    None
 }
 
-// Where a command's position is.
-pub fn locate(l: Location) -> Located
+// Where a command's position is, in steps, if its readings are finite.
+pub fn locate(l: Location) -> Option<Position>
     ensures { result ≡ located_at l }
 {
     match l {
-        Location::InSteps(p) => Located::At(p),
+        Location::InSteps(p) => Some(p),
         Location::InMetres(r) => survey(r),
     }
 }

@@ -1,6 +1,6 @@
 -- The promises of the two calls, one law for each return.
 -- Assumes nothing.
-use mathlib.Core.Path.{◌≡◌, refl, ap, subst, ◌∙◌}
+use mathlib.Core.Path.{◌≡◌, refl, ap, subst, subst⁻¹, ◌∙◌}
 use mathlib.Core.Logic.{◌≢◌}
 use mathlib.Core.List.{List}
 use Prim.Native.Nat.{ℕ}
@@ -18,7 +18,7 @@ use Rattle.demands.specs.Batch.{returns, return_of, Refused, Served, Batch, Laid
 use Rattle.demands.specs.Batch.Batch.{wrong, broken, broken_standing, served}
 use Rattle.demands.specs.Batch.LaidOut.{wrong as not-laid, laid}
 use Rattle.call_serve.specs.Serving.{Answered}
-use Rattle.table_admit.specs.declared.Admission.{Admission}
+use Rattle.std.specs.Prelude.{⊤, Result, Ok, Err}
 use Rattle.table_admit.specs.Admitted.{RefusedFor, AdmittedAs}
 
 -- ---- laying out
@@ -31,10 +31,10 @@ laid_right t t' n h = laid (eq-eqb (length t) table_bytes n) refl h
 
 -- ---- a batch
 
-module _ (t w w₁ : List ℕ) (a : Admission) (h : AdmittedAs a t w w₁) where
-  module _ (e : a ≡ Admission.Taken) where
-    taken : AdmittedAs Admission.Taken t w w₁
-    taken = subst (λ (y : Admission). AdmittedAs y t w w₁) e h
+module _ (t w w₁ : List ℕ) (a : Result ⊤ Reason) (h : AdmittedAs a t w w₁) where
+  module _ (u : ⊤) (e : a ≡ Ok u) where
+    taken : AdmittedAs (Ok u) t w w₁
+    taken = subst (λ (y : Result ⊤ Reason). AdmittedAs y t w w₁) e h
 
     pub taken_sound : Sound t
     taken_sound = taken.1
@@ -46,21 +46,22 @@ module _ (t w w₁ : List ℕ) (a : Admission) (h : AdmittedAs a t w w₁) where
         → Batch t w cs rep (return_of r) t' w' rep'
     served_batch cs rep r t' w' rep' v = served taken.0 taken.1 v
 
-  pub refused_batch : (cs rep : List ℕ) (r : BatchResult) (x : Reason) → a ≡ Admission.Refused x → return_of r ≡ returns (reason_number x) 0 0
+  pub refused_batch : (cs rep : List ℕ) (r : BatchResult) (x : Reason) → a ≡ Err x → r ≡ record { reason = x; used = 0; written = 0 }
       → Batch t w cs rep (return_of r) t w₁ rep
-  refused_batch cs rep r x e s = go x (subst (λ (y : Admission). AdmittedAs y t w w₁) e h) s
+  refused_batch cs rep r x e q =
+      subst⁻¹ (λ (y : BatchResult). Batch t w cs rep (return_of y) t w₁ rep) q (go x (subst (λ (y : Result ⊤ Reason). AdmittedAs y t w w₁) e h))
     where
-      left : (n : ℕ) → return_of r ≡ returns n 0 0 → Refused n t rep (return_of r) t rep
-      left n k = record { said = k; table = refl; report = refl }
+      left : (n : ℕ) → Refused n t rep (returns n 0 0) t rep
+      left n = record { said = refl; table = refl; report = refl }
 
-      go : (y : Reason) → RefusedFor y t w w₁ → return_of r ≡ returns (reason_number y) 0 0 → Batch t w cs rep (return_of r) t w₁ rep
-      go AllUsed f k = absurd f
-      go WrongLength f k = wrong f.0 (left 64 k) f.1
-      go Broken f k = broken f.0 f.1 (left 65 k) f.2
-      go UnknownCommand f k = absurd f
-      go CutShort f k = absurd f
-      go NoRoom f k = absurd f
-      go BrokenStanding f k = broken_standing f.0 f.1 f.2 (left 69 k) f.3
+      go : (y : Reason) → RefusedFor y t w w₁ → Batch t w cs rep (returns (reason_number y) 0 0) t w₁ rep
+      go AllUsed f = absurd f
+      go WrongLength f = wrong f.0 (left 64) f.1
+      go Broken f = broken f.0 f.1 (left 65) f.2
+      go UnknownCommand f = absurd f
+      go CutShort f = absurd f
+      go NoRoom f = absurd f
+      go BrokenStanding f = broken_standing f.0 f.1 f.2 (left 69) f.3
 
 -- the work buffer is cleared behind the last command
 pub served_cleared : (t w w₁ w' cs rep t' rep' : List ℕ) (r : BatchResult) → length w ≡ work_bytes → length w₁ ≡ length w → w' ≡ zeros (length w₁)

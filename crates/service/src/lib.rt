@@ -2,14 +2,13 @@
 #![tactic(auto)]
 
 ghost use Rattle.std.specs.Prelude.{◌≡◌, length};
-ghost use Rattle.demands.specs.Batch.{returns, return_of, Served, Batch, LaidOut};
+ghost use Rattle.demands.specs.Batch.{return_of, Served, Batch, LaidOut};
 ghost use Rattle.limits.specs.Limits.{work_bytes};
 ghost use Rattle.book.specs.Numbers.{reason_number};
 ghost use Rattle.book.specs.Run.{run};
 ghost use Rattle.table_rules.specs.Table.{book_of, Sound};
 
 use book::{BatchResult, Reason};
-use table_admit::Admission;
 
 // Lays out an empty table.
 pub fn lay_out(table: &mut [u8]) -> Reason
@@ -20,17 +19,6 @@ pub fn lay_out(table: &mut [u8]) -> Reason
     }
     table_empty::lay(table);
     Reason::AllUsed
-}
-
-// The result of a call that takes no command.
-fn refused(reason: Reason) -> BatchResult
-    ensures { return_of result ≡ returns (reason_number reason) 0 0 }
-{
-    BatchResult {
-        reason: reason,
-        used: 0,
-        written: 0,
-    }
 }
 
 // Carries out commands on a sound table, and clears the work buffer.
@@ -52,9 +40,8 @@ pub fn batch(table: &mut [u8], work: &mut [u8], commands: &[u8], report: &mut [u
     ensures { Batch table.old work.old commands.now report.old
         (return_of result) table.new work.new report.new }
 {
-    let admission = table_admit::admit(table, work);
-    match admission {
-        Admission::Taken => carry_out(table, work, commands, report),
-        Admission::Refused(reason) => refused(reason),
+    match table_admit::admit(table, work) {
+        Ok(()) => carry_out(table, work, commands, report),
+        Err(reason) => BatchResult::new(reason, 0, 0),
     }
 }

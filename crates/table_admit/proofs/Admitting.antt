@@ -18,7 +18,7 @@ use Rattle.tree_check.specs.Marks.{seen_bytes}
 use Rattle.table_empty.specs.EmptyTable.{zeros}
 use Rattle.table_rules.specs.Table.{Whole, StandingOk}
 use Rattle.demands.specs.Batch.{lengths_ok}
-use Rattle.table_admit.specs.declared.Admission.{Admission}
+use Rattle.std.specs.Prelude.{Ok, Err}
 use Rattle.table_admit.specs.Admitted.{AdmittedAs}
 
 module _ (t w : List ℕ) where
@@ -30,7 +30,7 @@ module _ (t w : List ℕ) where
   pub by_work : length t ≡ table_bytes → eqb (length w) work_bytes ≡ lengths_ok t w
   by_work e = rw (eq-eqb (length t) table_bytes e) refl
 
-  pub wrong_lengths : (p : Bool) → p ≡ lengths_ok t w → p ≡ false → AdmittedAs (Admission.Refused WrongLength) t w w
+  pub wrong_lengths : (p : Bool) → p ≡ lengths_ok t w → p ≡ false → AdmittedAs (Err WrongLength) t w w
   wrong_lengths p h e = (sym h ∙ e, refl)
 
   module _ (p : Bool) (h : p ≡ lengths_ok t w) (right : p ≡ true) where
@@ -58,15 +58,15 @@ module _ (t w : List ℕ) where
     -- ---- contents
 
     module _ (q : Bool) (s : Says q (Whole t)) (w₁ : List ℕ) (kept : length w₁ ≡ length w) where
-      pub broken_table : (w' : List ℕ) → w' ≡ zeros (length w₁) → q ≡ false → AdmittedAs (Admission.Refused Broken) t w w'
+      pub broken_table : (w' : List ℕ) → w' ≡ zeros (length w₁) → q ≡ false → AdmittedAs (Err Broken) t w w'
       broken_table w' z e = (ok, says_no q s e, z ∙ ap zeros (kept ∙ right_work))
 
       pub is_whole : q ≡ true → Whole t
       is_whole e = says_yes q s e
 
       module _ (whole : q ≡ true) (v : Bool) (l : Says v (StandingOk t)) (w₂ : List ℕ) (kept₂ : length w₂ ≡ length w₁) where
-        pub table_taken : v ≡ true → AdmittedAs Admission.Taken t w w₂
+        pub table_taken : v ≡ true → AdmittedAs (Ok tt) t w w₂
         table_taken e = (ok, record { whole = says_yes q s whole; standing = says_yes v l e }, kept₂ ∙ kept ∙ right_work)
 
-        pub broken_standing : (w' : List ℕ) → w' ≡ zeros (length w₂) → v ≡ false → AdmittedAs (Admission.Refused BrokenStanding) t w w'
+        pub broken_standing : (w' : List ℕ) → w' ≡ zeros (length w₂) → v ≡ false → AdmittedAs (Err BrokenStanding) t w w'
         broken_standing w' z e = (ok, says_yes q s whole, says_no v l e, z ∙ ap zeros (kept₂ ∙ kept ∙ right_work))

@@ -8,38 +8,28 @@ ghost use Rattle.table_admit.specs.Admitted.{AdmittedAs};
 
 use book::Reason;
 
-// A lent table is taken, or the call is refused for this reason.
-#[derive(Clone, Copy)]
-pub enum Admission {
-    Taken,
-    Refused(Reason),
-}
-
 // Whether the table and the work buffer have the lengths that are asked for.
 fn lengths_ok(table: &[u8], work: &[u8]) -> bool
     ensures { result ≡ lengths_ok table.now work.now }
 {
-    if table.len() != limits::TABLE_BYTES {
-        return false;
-    }
-    work.len() == limits::WORK_BYTES
+    table.len() == limits::TABLE_BYTES && work.len() == limits::WORK_BYTES
 }
 
-// Whether the table and the work buffer are taken. The work buffer is left after 64 and all zero after 65 and 69; where
+// Takes the table and the work buffer, or says why not. The work buffer is left after 64 and all zero after 65 and 69; where
 // the table is taken it holds what the tests left.
-pub fn admit(table: &[u8], work: &mut [u8]) -> Admission
+pub fn admit(table: &[u8], work: &mut [u8]) -> Result<(), Reason>
     ensures { AdmittedAs result table.now work.old work.new }
 {
     if !lengths_ok(table, work) {
-        return Admission::Refused(Reason::WrongLength);
+        return Err(Reason::WrongLength);
     }
     if !table_check::whole_ok(table, work) {
         table_empty::clear(work);
-        return Admission::Refused(Reason::Broken);
+        return Err(Reason::Broken);
     }
     if table_check::standing_ok(table, work) {
-        return Admission::Taken;
+        return Ok(());
     }
     table_empty::clear(work);
-    Admission::Refused(Reason::BrokenStanding)
+    Err(Reason::BrokenStanding)
 }

@@ -5,8 +5,8 @@ use Rattle.service.proofs.batch.Goals as goal
 pub carry_out-requires : goal.carry_out-requires
 carry_out-requires c = (search (rules, taken_sound), search (rules, taken_work))
 
-pub returns-in-Taken : goal.returns-in-Taken
-returns-in-Taken c = search (rules, served_batch)
+pub returns-in-Ok : goal.returns-in-Ok
+returns-in-Ok c = search (rules, served_batch)
 
-pub returns-in-Refused : goal.returns-in-Refused
-returns-in-Refused c = search (rules, refused_batch)
+pub returns-in-Err : goal.returns-in-Err
+returns-in-Err c = search (rules, refused_batch)

@@ -5,8 +5,8 @@ use Rattle.call_judge.proofs.change.add_site.Goals as goal
 pub returns-then-k-eq-MAX_SITES : goal.returns-then-k-eq-MAX_SITES
 returns-then-k-eq-MAX_SITES c = search (rules, add_full)
 
-pub narrow-index-requires : goal.narrow-index-requires
-narrow-index-requires c = search (rules, absent_few)
+pub narrow-requires : goal.narrow-requires
+narrow-requires c = search (rules, absent_few)
 
 pub returns-in-Ok : goal.returns-in-Ok
 returns-in-Ok c = search (rules, add_held_lem)

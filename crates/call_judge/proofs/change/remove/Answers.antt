@@ -5,8 +5,8 @@ use Rattle.call_judge.proofs.change.remove.Goals as goal
 pub returns-then-n-eq0 : goal.returns-then-n-eq0
 returns-then-n-eq0 c = search (rules, remove_zero)
 
-pub narrow-index-requires : goal.narrow-index-requires
-narrow-index-requires c = search (rules, at_few)
+pub narrow-requires : goal.narrow-requires
+narrow-requires c = search (rules, at_few)
 
 pub returns-in-Ok : goal.returns-in-Ok
 returns-in-Ok c = search (rules, remove_done)

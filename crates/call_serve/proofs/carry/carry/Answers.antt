@@ -20,26 +20,26 @@ begin-requires c = (search rules, search (rules, begin_grid))
 pub follow-requires : goal.follow-requires
 follow-requires c = (search rules, search (rules, follow_found))
 
-pub returns-in-Refuse : goal.returns-in-Refuse
-returns-in-Refuse c = search (rules, refused_left)
+pub returns-in-Err : goal.returns-in-Err
+returns-in-Err c = search (rules, refused_left)
 
-pub returns-in-Show : goal.returns-in-Show
-returns-in-Show c = search (rules, shown_left)
+pub returns-in-Ok-Show : goal.returns-in-Ok-Show
+returns-in-Ok-Show c = search (rules, shown_left)
 
-pub returns-in-Insert : goal.returns-in-Insert
-returns-in-Insert c = search (rules, inserted)
+pub returns-in-Ok-Insert : goal.returns-in-Ok-Insert
+returns-in-Ok-Insert c = search (rules, inserted)
 
-pub returns-in-Delete : goal.returns-in-Delete
-returns-in-Delete c = search (rules, deleted)
+pub returns-in-Ok-Delete : goal.returns-in-Ok-Delete
+returns-in-Ok-Delete c = search (rules, deleted)
 
-pub returns-in-Place : goal.returns-in-Place
-returns-in-Place c = search (rules, placed)
+pub returns-in-Ok-Place : goal.returns-in-Ok-Place
+returns-in-Ok-Place c = search (rules, placed)
 
-pub returns-in-Stand : goal.returns-in-Stand
-returns-in-Stand c = search (rules, stood)
+pub returns-in-Ok-Stand : goal.returns-in-Ok-Stand
+returns-in-Ok-Stand c = search (rules, stood)
 
-pub returns-in-Begin : goal.returns-in-Begin
-returns-in-Begin c = search (rules, begun)
+pub returns-in-Ok-Begin : goal.returns-in-Ok-Begin
+returns-in-Ok-Begin c = search (rules, begun)
 
-pub returns-in-Follow : goal.returns-in-Follow
-returns-in-Follow c = search (rules, followed)
+pub returns-in-Ok-Follow : goal.returns-in-Ok-Follow
+returns-in-Ok-Follow c = search (rules, followed)
