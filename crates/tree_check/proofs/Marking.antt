@@ -1,17 +1,15 @@
 -- Laws of marks: one more is set, all are taken away, all are set.
 -- Assumes nothing.
-use mathlib.Core.Bool.{Bool, true, false}
-use mathlib.Core.List.{List}
+use mathlib.Core.List.{List, ◌++◌}
 use mathlib.Core.Path.{◌≡◌, refl, ap, ◌∙◌}
 use Prim.Native.Nat.{ℕ, min, ◌+◌, ◌≤◌, ◌<◌}
 use native.Mathlib.Decide.{ℕ_discrete}
 use native.Mathlib.Omega.{arith}
 use borrow.Author.Count.{below_more}
-use borrow.Author.Tests.{ltb-true, ltb-false, ne_eqb}
-use lib.Dec.{ltb}
-use lib.ListN.{length, get_or, set, length-set}
+use borrow.Author.Tests.{ne_eqb}
+use lib.ListN.{length, get_or, set, take, drop, replicate}
+use Rattle.std.proofs.lemmas.List.{length-take-le, length-replicate, get_or_append_left, get_or-replicate}
 use lib.Seq.{get_or-set_same, get_or-set_other}
-use Rattle.grid.specs.Says.{Says}
 use Rattle.tree_node.specs.Tally.{hit}
 use Rattle.tree_node.proofs.Counting.{hit_same}
 use Rattle.tree_check.specs.Marks.{mark_bytes, seen_bytes, Blank, Full, Fresh, Marked, Bits, Prepared}
@@ -90,31 +88,15 @@ pub marked_none : (o : List ℕ) (f : ℕ → ℕ) → ((m : ℕ) → f m ≡ 0)
 unfolding Marked
 marked_none o f z m lt = omega (arith, z m)
 
--- the loop of `clear`: the first i marks are taken away
-pub record Cleared (o : List ℕ) (i : ℕ) : Type 0 where
-  pub most : i ≤ mark_bytes
-  pub room : length o ≡ seen_bytes
-  pub so_far : (m : ℕ) → m < i → get_or o m 0 ≡ 0
-
-pub cleared_none : (o : List ℕ) → length o ≡ seen_bytes → Cleared o 0
-cleared_none o len = record { most = omega arith; room = len; so_far = λ m l. absurd (omega arith) }
-
-pub cleared_one : (o : List ℕ) (i : ℕ) → i < mark_bytes → Cleared o i → Cleared (set o i 0) (i + 1)
-cleared_one o i lt p =
-    record {
-      most = omega arith;
-      room = simp length-set p.room;
-      so_far =
-          below_more
-          (λ m. get_or (set o i 0) m 0 ≡ 0)
-          i
-          (λ m l. get_or-set_other o i m 0 0 (omega arith) ∙ p.so_far m l)
-          (get_or-set_same o i 0 0 (omega (arith, p.room)));
-    }
-
-pub cleared_all : (o : List ℕ) (i : ℕ) → mark_bytes ≤ i → Cleared o i → Blank o
+-- the marks are taken away
+pub blank_filled : (o a : List ℕ) → length o ≡ seen_bytes → a ≡ replicate (length (take mark_bytes o)) 0 → Blank (a ++ drop mark_bytes o)
 unfolding Blank
-cleared_all o i le p m lt = p.so_far m (omega arith)
+blank_filled o a len q m lt =
+    let n : length (take mark_bytes o) ≡ mark_bytes = length-take-le mark_bytes o (omega arith) in
+    let zeros : a ≡ replicate mark_bytes 0 = q ∙ ap (λ (x : ℕ). replicate x 0) n in
+    get_or_append_left a (drop mark_bytes o) 0 m (omega (arith, ap length zeros, length-replicate {A = ℕ} mark_bytes 0))
+    ∙ ap (λ (x : List ℕ). get_or x m 0) zeros
+    ∙ get_or-replicate mark_bytes m 0 0 lt
 
 pub blank_bits : (o : List ℕ) → Blank o → Bits o
 unfolding Blank Bits
@@ -137,13 +119,3 @@ least_one o i v r l q =
       yes = λ z. below_more (λ m. 0 < get_or o m 0) i (l.yes (omega arith)) (omega arith);
       no = λ p. omega (arith, l.no (λ m lt. p m (omega arith)), p i (omega arith));
     }
-
-pub least_told : (o : List ℕ) (l i v : ℕ) → l ≤ i → i ≤ l → Least o i v → Says (ltb 0 v) (Full l o)
-least_told o l i v ge le p = go (ltb 0 v) refl
-  where
-    all : Least o l v
-    all = let q : i ≡ l = omega arith in rw q at p
-
-    go : (t : Bool) → ltb 0 v ≡ t → Says t (Full l o)
-    go true z = all.yes (ltb-true 0 v z)
-    go false z = λ f. omega (arith, ltb-false 0 v z, all.no f)

@@ -8,7 +8,7 @@ use native.Mathlib.Numerals.{add-one}
 use native.Mathlib.Omega.{arith}
 use lib.ListN.{length, get_or, set, drop, length-set, drop_of_length-le}
 use lib.Seq.{drop-cons}
-use Rattle.limits.specs.Limits.{min_entries, max_nodes, max_sites}
+use Rattle.limits.specs.Limits.{max_nodes, max_sites}
 use Rattle.grid.specs.declared.Site.{Site}
 use Rattle.grid.specs.Says.{Says}
 use Rattle.grid.proofs.Says.{says_yes, says_no}
@@ -17,7 +17,6 @@ use Rattle.table_sites.specs.Lines.{lines_in, line_at, no_site, Array, StandsAt,
 use Rattle.table_sites.proofs.Reading.{line_at_lem}
 use Rattle.table_sites.proofs.Finding.{found_at, found_absent, absent_missing, at_counted}
 use Rattle.tree_node.specs.declared.NodeEntry.{NodeEntry}
-use Rattle.tree_node.specs.Boxes.{hull}
 use Rattle.tree_node.specs.Node.{entries, no_entry}
 use Rattle.tree_node.specs.Tally.{total, hit}
 use Rattle.tree_node.specs.Told.{Told}
@@ -287,16 +286,6 @@ module _ (b : List ℕ) (h : ℕ) (o : List ℕ) (e : NodeEntry) (up : h ≡ 0 �
       (pass_down b (h - 1) o e lt o₁ one)
       (marked_up b (h - 1) o e lt o₁ one o₂)
       p)
-
--- whether an entry fits its child node
-module _ (b : List ℕ) (e : NodeEntry) where
-  pub fits_few : (k : ℕ) → k ≡ length (entries b e.reference) → k < min_entries → ¬ Fits b e
-  fits_few k q lt p = omega (arith, p.least)
-
-  pub fits_told : (k : ℕ) (f : NodeEntry) (r : Bool) → k ≡ length (entries b e.reference) → min_entries ≤ k → f ≡ hull e.reference (entries b e.reference)
-      → Told r (e ≡ f) (e ≡ f) → Says r (Fits b e)
-  fits_told k f r q le h t =
-      told_says r (λ (z : e ≡ f). record { box = z ∙ h; least = omega arith }) (λ (p : Fits b e). p.box ∙ sym h) t
 
 -- the walk goes on
 module _ (b : List ℕ) (o o₁ : List ℕ) (r : Bool) (s : Prepared b o) (y : r ≡ true) where

@@ -5,7 +5,7 @@ use mathlib.Core.List.{List}
 use mathlib.Core.Path.{◌≡◌, refl}
 use Prim.Native.Nat.{ℕ, ◌+◌, ◌≤◌, ◌<◌}
 use native.Mathlib.Omega.{arith}
-use lib.ListN.{length, get_or, set}
+use lib.ListN.{get_or, set}
 use Rattle.limits.specs.Limits.{max_nodes, max_levels}
 use Rattle.grid.specs.Says.{Says}
 use Rattle.grid.proofs.Says.{says_yes, says_no}
@@ -36,20 +36,6 @@ root_none b o r s q z =
 pub root_top : (b : List ℕ) (x : Top) (o o₁ : List ℕ) (r : Option Top) (u : Bool) → r ≡ Some x → r ≡ root_in b
     → Told u (RootPass b (Some x) o) (Marked (root_met b (Some x)) o o₁) → Told u (RootPass b (root_in b) o) (Marked (root_met b (root_in b)) o o₁)
 root_top b x o o₁ r u q z t = rw (← z, q) t
-
--- as many entries as a root has to have
-module _ (b : List ℕ) (g c k : ℕ) (q : k ≡ length (entries b c)) where
-  pub enough_none : k < 1 → ¬ Enough b g c
-  enough_none lt p = omega (arith, p.one)
-
-  pub enough_leaf : 1 ≤ k → g ≡ 0 → Enough b g c
-  enough_leaf le z = record { two = λ up. absurd (up z); one = omega arith }
-
-  pub enough_one : k < 2 → (g ≡ 0 → ⊥) → ¬ Enough b g c
-  enough_one lt up p = omega (arith, p.two up)
-
-  pub enough_two : 2 ≤ k → Enough b g c
-  enough_two le = record { two = λ up. omega arith; one = omega arith }
 
 -- the root, as the code reads it
 module _ (b : List ℕ) (root : Top) (o : List ℕ) where

@@ -16,17 +16,11 @@ pub fn check_free(t: &[u8], seen: &mut [u8]) -> bool
         (Marked (λ m. tally m (free t.now)) seen.old seen.new) }
 {
     let n = tree_node::free::free_count(t);
-    let mut k = 0;
-    while k < n {
+    for k in 0..n {
         let c = tree_node::free::id_at(t, k);
-        if MAX_NODES <= c {
+        if MAX_NODES <= c || !marks::mark(seen, c) {
             return false;
         }
-        if marks::mark(seen, c) {
-            k += 1;
-            continue;
-        }
-        return false;
     }
     true
 }

@@ -9,29 +9,19 @@ use crate::marks;
 
 pub const HINT_BYTES: usize = 1024;
 
-// A byte as a wider number.
-fn wide(x: u8) -> usize
-    ensures { (result ≡ x) × (result < 256) }
-{
-    x as usize
-}
-
 // Where the hint for the number x stands.
 fn hint_at(x: u16) -> usize
     ensures { (mark_bytes ≤ result) × (result < seen_bytes) }
 {
-    marks::MARK_BYTES + x as usize % HINT_BYTES
+    marks::MARK_BYTES + usize::from(x) % HINT_BYTES
 }
 
 // Stores a hint for each of the first n records.
 pub fn note(t: &[u8], n: usize, seen: &mut [u8])
     requires { (length t.now ≡ table_bytes) × (n ≤ max_sites) × (length seen.old ≡ seen_bytes) }
 {
-    let mut k = 0;
-    while k < n {
-        let i = hint_at(table_sites::number(t, k));
-        seen[i] = (k / 2) as u8;
-        k += 1;
+    for k in 0..n {
+        seen[hint_at(table_sites::number(t, k))] = (k / 2) as u8;
     }
 }
 
@@ -40,7 +30,5 @@ pub fn find(t: &[u8], x: u16, seen: &[u8]) -> Result<usize, usize>
     requires { Array t.now × (length seen.now ≡ seen_bytes) }
     ensures { FoundAs result x (lines_in t.now) }
 {
-    let i = hint_at(x);
-    let k = 2 * wide(seen[i]);
-    table_sites::find_near(t, x, k)
+    table_sites::find_near(t, x, 2 * usize::from(seen[hint_at(x)]))
 }

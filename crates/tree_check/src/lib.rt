@@ -15,7 +15,7 @@ ghost use Rattle.tree_check.specs.Leaves.{leaf_entry};
 ghost use Rattle.tree_check.specs.Marks.{seen_bytes};
 ghost use Rattle.tree_check.specs.Tied.{Tied};
 
-use grid::Site;
+use grid::{Position, Site};
 use limits::MAX_NODES;
 use tree_node::NodeEntry;
 
@@ -26,14 +26,13 @@ pub const SEEN_BYTES: usize = marks::MARK_BYTES + hints::HINT_BYTES;
 pub fn leaf_entry(p: Site) -> NodeEntry
     ensures { result ≡ leaf_entry p }
 {
-    let east = p.position.east;
-    let north = p.position.north;
+    let Position { east, north } = p.position;
     NodeEntry {
         reference: p.number,
         west: east,
         south: north,
-        east: east,
-        north: north,
+        east,
+        north,
         spare: 0,
     }
 }
@@ -47,10 +46,8 @@ pub fn check(t: &[u8], seen: &mut [u8]) -> bool
     let n = table_header::count(t);
     hints::note(t, n, seen);
     marks::clear(seen);
-    if walk::check_root(t, seen) {
-        if free::check_free(t, seen) {
-            return marks::full(seen, MAX_NODES + n);
-        }
+    if !walk::check_root(t, seen) {
+        return false;
     }
-    false
+    free::check_free(t, seen) && marks::full(seen, MAX_NODES + n)
 }

@@ -1,5 +1,5 @@
 // The marks of what a walk has met, in lent bytes.
-ghost use Rattle.std.specs.Prelude.{◌≡◌, ◌≤◌, ◌<◌, min, length, get_or, set};
+ghost use Rattle.std.specs.Prelude.{◌≡◌, ◌≤◌, ◌<◌, length, get_or, set};
 ghost use Rattle.grid.specs.Says.{Says};
 ghost use Rattle.tree_node.specs.Told.{Told};
 ghost use Rattle.tree_check.specs.Marks.{mark_bytes, seen_bytes, Blank, Full};
@@ -12,11 +12,7 @@ pub fn clear(seen: &mut [u8])
     requires { length seen.old ≡ seen_bytes }
     ensures { Blank seen.new }
 {
-    let mut i = 0;
-    while i < MARK_BYTES {
-        seen[i] = 0;
-        i += 1;
-    }
+    seen[..MARK_BYTES].fill(0);
 }
 
 // Sets mark m. Whether it was not set before.
@@ -31,23 +27,15 @@ pub fn mark(seen: &mut [u8], m: usize) -> bool
     false
 }
 
-fn lesser(a: u8, b: u8) -> u8
-    ensures { result ≡ min a b }
-{
-    if a <= b { a } else { b }
-}
-
 // Whether each of the first l marks is set. All are read: the least of many bytes takes less time than a branch for
 // each.
 pub fn full(seen: &[u8], l: usize) -> bool
     requires { (length seen.now ≡ seen_bytes) × (l ≤ mark_bytes) }
     ensures { Says result (Full l seen.now) }
 {
-    let mut least: u8 = 255;
-    let mut m = 0;
-    while m < l {
-        least = lesser(least, seen[m]);
-        m += 1;
+    let mut least = u8::MAX;
+    for m in 0..l {
+        least = least.min(seen[m]);
     }
     0 < least
 }

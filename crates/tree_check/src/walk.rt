@@ -19,16 +19,9 @@ fn check_leaf(t: &[u8], e: NodeEntry, seen: &mut [u8]) -> bool
     ensures { Told result (Pass t.now 0 (e ∷ []) seen.old)
         (Marked (met t.now 0 (e ∷ [])) seen.old seen.new) }
 {
-    let f = hints::find(t, e.reference, seen);
-    match f {
+    match hints::find(t, e.reference, seen) {
         Err(_) => false,
-        Ok(k) => {
-            let p = leaf_entry(table_sites::line(t, k));
-            if e == p {
-                return marks::mark(seen, MAX_NODES + k);
-            }
-            false
-        }
+        Ok(k) => e == leaf_entry(table_sites::line(t, k)) && marks::mark(seen, MAX_NODES + k),
     }
 }
 
@@ -38,11 +31,7 @@ fn fits(t: &[u8], e: NodeEntry) -> bool
     ensures { Says result (Fits t.now e) }
 {
     let c = e.reference as usize;
-    if pool::count(t, c) < MIN_ENTRIES {
-        return false;
-    }
-    let f = boxes::hull_of(t, c);
-    e == f
+    MIN_ENTRIES <= pool::count(t, c) && e == boxes::hull_of(t, c)
 }
 
 // Whether the entries of the leaf c pass. Marks their records.
@@ -51,15 +40,10 @@ fn check_leaves(t: &[u8], c: usize, seen: &mut [u8]) -> bool
     ensures { Told result (Pass t.now 0 (entries t.now c) seen.old)
         (Marked (met t.now 0 (entries t.now c)) seen.old seen.new) }
 {
-    let m = pool::count(t, c);
-    let mut k = 0;
-    while k < m {
-        let e = pool::entry_at(t, c, k);
-        if check_leaf(t, e, seen) {
-            k += 1;
-            continue;
+    for k in 0..pool::count(t, c) {
+        if !check_leaf(t, pool::entry_at(t, c, k), seen) {
+            return false;
         }
-        return false;
     }
     true
 }
@@ -75,13 +59,10 @@ fn check_entry(t: &[u8], h: usize, e: NodeEntry, seen: &mut [u8]) -> bool
     if MAX_NODES <= c {
         return false;
     }
-    let first = marks::mark(seen, c);
-    if first {
-        if fits(t, e) {
-            return check_node(t, h - 1, c, seen);
-        }
+    if !marks::mark(seen, c) {
+        return false;
     }
-    false
+    fits(t, e) && check_node(t, h - 1, c, seen)
 }
 
 // Whether the entries of node c, which stand at height h, pass. Marks what lies under them.
@@ -94,15 +75,10 @@ fn check_node(t: &[u8], h: usize, c: usize, seen: &mut [u8]) -> bool
     if h == 0 {
         return check_leaves(t, c, seen);
     }
-    let m = pool::count(t, c);
-    let mut k = 0;
-    while k < m {
-        let e = pool::entry_at(t, c, k);
-        if check_entry(t, h, e, seen) {
-            k += 1;
-            continue;
+    for k in 0..pool::count(t, c) {
+        if !check_entry(t, h, pool::entry_at(t, c, k), seen) {
+            return false;
         }
-        return false;
     }
     true
 }
@@ -113,16 +89,10 @@ fn enough(t: &[u8], g: usize, c: usize) -> bool
     ensures { Says result (Enough t.now g c) }
 {
     let k = pool::count(t, c);
-    if k < 1 {
-        return false;
-    }
     if g == 0 {
-        return true;
+        return 1 <= k;
     }
-    if k < 2 {
-        return false;
-    }
-    true
+    2 <= k
 }
 
 // Whether the tree over r passes. Marks what lies under it.
@@ -137,12 +107,10 @@ fn check_top(t: &[u8], r: Top, seen: &mut [u8]) -> bool
     if MAX_NODES <= r.node {
         return false;
     }
-    if enough(t, r.height, r.node) {
-        if marks::mark(seen, r.node) {
-            return check_node(t, r.height, r.node, seen);
-        }
+    if !enough(t, r.height, r.node) {
+        return false;
     }
-    false
+    marks::mark(seen, r.node) && check_node(t, r.height, r.node, seen)
 }
 
 // Whether the tree that the header tells passes. Marks what lies under it.

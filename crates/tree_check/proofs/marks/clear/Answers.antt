@@ -1,11 +1,11 @@
-use Rattle.tree_check.proofs.Marking.{cleared_none, cleared_one, cleared_all}
+use Rattle.tree_check.specs.Marks.{mark_bytes}
+use Rattle.std.proofs.Common.{arith}
+use Rattle.std.proofs.lemmas.List.{length-take-le}
+use Rattle.tree_check.proofs.Marking.{blank_filled}
 use Rattle.tree_check.proofs.marks.clear.Goals as goal
 
-pub loop-i-init : goal.loop-i-init
-loop-i-init c = search cleared_none
-
-pub loop-i-preserved : goal.loop-i-preserved
-loop-i-preserved c = search cleared_one
+pub slice_bounds-fill-end-2 : goal.slice_bounds-fill-end-2
+slice_bounds-fill-end-2 c = omega (arith, length-take-le mark_bytes c.args.seen.now (omega arith))
 
 pub returns : goal.returns
-returns c = search cleared_all
+returns c = blank_filled _ _ c.requires (c.fill.ensures.after (λ h h'. h'))

@@ -12,16 +12,16 @@ pub check_entry-returns-then-fits : goal.check_entry-returns-then-fits
 check_entry-returns-then-fits t c = search entry_told
 
 pub check_entry-returns-else-fits : goal.check_entry-returns-else-fits
-check_entry-returns-else-fits t c = search entry_unfit
+check_entry-returns-else-fits t c = rw c.if-fits.false (search entry_unfit)
 
-pub check_entry-returns-else-first : goal.check_entry-returns-else-first
-check_entry-returns-else-first t c = search entry_met
+pub check_entry-returns-then-not-mark : goal.check_entry-returns-then-not-mark
+check_entry-returns-then-not-mark t c = search entry_met
 
 pub check_node-loop-k-preserved : goal.check_node-loop-k-preserved
 check_node-loop-k-preserved t c = search left_next
 
-pub check_node-returns-in-loop-k : goal.check_node-returns-in-loop-k
-check_node-returns-in-loop-k t c = search left_no
+pub check_node-returns-then-not-check_entry : goal.check_node-returns-then-not-check_entry
+check_node-returns-then-not-check_entry t c = search left_no
 
 pub check_node-returns : goal.check_node-returns
 check_node-returns t c = search left_none

@@ -7,8 +7,8 @@ loop-k-init c = search left_all
 pub loop-k-preserved : goal.loop-k-preserved
 loop-k-preserved c = search left_next
 
-pub returns-in-loop-k : goal.returns-in-loop-k
-returns-in-loop-k c = search left_no
+pub returns-then-not-check_leaf : goal.returns-then-not-check_leaf
+returns-then-not-check_leaf c = search left_no
 
 pub returns : goal.returns
 returns c = search left_none
