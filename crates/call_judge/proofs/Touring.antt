@@ -9,7 +9,6 @@ use Prim.Native.Nat.{ℕ, zero, suc, ◌-◌, ◌≤◌, ◌<◌}
 use native.Mathlib.Omega.{arith}
 use lib.ListN.{length, drop}
 use lib.Dec.{eqb}
-use borrow.Author.Tests.{eq-eqb, ne_eqb, eqb-true}
 use Rattle.grid.specs.declared.Position.{Position}
 use Rattle.grid.specs.declared.Site.{Site}
 use Rattle.grid.specs.declared.Leg.{Leg}
@@ -20,8 +19,8 @@ use Rattle.split.specs.SplitList.{Entry}
 use Rattle.split.specs.SplitOf.{split_of}
 use Rattle.split.proofs.Exists.{split_is}
 use Rattle.split.proofs.Dealing.{no_site_lem}
-use Rattle.list_row.specs.Places.{site_at, HasSite}
-use Rattle.list_row.specs.Vertices.{place_at, Held, entries_in}
+use Rattle.list_row.specs.Places.{site_at}
+use Rattle.list_row.specs.Vertices.{place_at, entries_in}
 use Rattle.list_row.specs.Entries.{row_entry, entries_from}
 use Rattle.list_row.proofs.Entries.{entries_one, entries_length}
 use Rattle.book.specs.declared.Cause.TheVariants.{OffGrid, NoSite, NoTour}
@@ -90,10 +89,6 @@ module _ (l : Leg) (t r : List ℕ) where
 
   last_in_lem : (k : ℕ) → last_number None (entries_in l t r (suc k)) ≡ Some (site_at t (place_at r k)).number
   last_in_lem k = ap (last_number None) (entries_one l t r k) ∙ last_behind None (entries_in l t r k) (row_entry l t r k)
-
--- a row has its last place
-pub last_place : (l : Leg) (t r : List ℕ) (k i : ℕ) → Held l t r k → 0 < k → i ≡ k - 1 → HasSite t (place_at r i)
-last_place l t r k i h g e = h.sites i (omega arith)
 
 -- ---- 43: the leg and its list are found
 

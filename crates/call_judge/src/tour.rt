@@ -12,6 +12,7 @@ ghost use Rattle.call_judge.specs.Verdict.{Decided, Settled, passed_by};
 use crate::Verdict;
 use book::{Cause, Tour};
 use grid::{Leg, Position};
+use list_row::Row;
 
 // A tour begins: position.
 pub fn begin(t: &[u8], p: Position) -> Result<Verdict, Cause>
@@ -30,20 +31,17 @@ fn passed(first: u16, last: Option<u16>) -> u16
     u16::from(last == Some(first))
 }
 
-// The verdict on the leg from the tour's last corner to p, whose list is in the first k of the row.
-fn shown(t: &[u8], work: &[u8], tour: Tour, p: Position, k: usize) -> Result<Verdict, Cause>
-    requires sound { Sound t.now × (tour_in t.now ≡ Some tour) × OnGrid p }
-    requires lists_table { ListsTable (leg_to tour p) t.now work.now k × (0 < k) }
-    ensures { Decided result (Command.Corner p) t.now work.now }
+// The verdict on the leg of a row, from the corner of a tour that remembers this site.
+fn shown(row: Row, last: Option<u16>) -> Result<Verdict, Cause>
+    requires sound { Sound row.t.now × (tour_in row.t.now ≡ Some (record { corner = row.leg.s; last = last }))
+        × OnGrid row.leg.e }
+    requires lists_table { ListsTable row.leg row.t.now row.places.now row.k × (0 < row.k) }
+    ensures { let r = row.entry in Decided result (Command.Corner r.leg.e) r.t.now r.places.now }
 {
-    let leg = Leg {
-        s: tour.corner,
-        e: p,
-    };
-    let first = list_row::number_in(t, work, 0);
-    let ending = list_row::number_in(t, work, k - 1);
-    let j = passed(first, tour.last);
-    Ok(Verdict::Follow(leg, j, ending, k))
+    let first = row.number(0);
+    let ending = row.number(row.k - 1);
+    let j = passed(first, last);
+    Ok(Verdict::Follow(row.leg, j, ending, row.k))
 }
 
 // The next leg of this tour: position, site.
@@ -61,7 +59,13 @@ fn onward(t: &[u8], work: &mut [u8], tour: Tour, p: Position) -> Result<Verdict,
             e: p,
         };
         let k = table_search::search(t, leg, work);
-        return shown(t, work, tour, p, k);
+        let row = Row {
+            t,
+            places: work,
+            leg,
+            k,
+        };
+        return shown(row, tour.last);
     }
     Err(Cause::OffGrid)
 }

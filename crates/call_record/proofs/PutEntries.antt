@@ -47,18 +47,18 @@ module _ {l : Leg} {t r : List ℕ} {j k : ℕ} {b₀ : List ℕ} {p i : ℕ} {b
   pub putting_all : k ≤ i → b ≡ write b₀ p (list_bytes (entries_from l t r j k))
   putting_all h = let e : i ≡ k = omega (arith, g.within) in subst (λ (n : ℕ). b ≡ write b₀ p (list_bytes (entries_from l t r j n))) e g.wrote
 
--- two more
-pub putting_two : {l : Leg} {t r : List ℕ} {j k : ℕ} {b₀ : List ℕ} {p i : ℕ} {b b' : List ℕ} → Putting l t r j k b₀ p i b → i + 1 < k
-    → b' ≡ write (write b (p + 10 * (i - j)) (entry_bytes (row_entry l t r i))) (p + 10 * (i - j) + 10) (entry_bytes (row_entry l t r (i + 1)))
-    → Putting l t r j k b₀ p (i + 2) b'
-putting_two {l = l} {t = t} {r = r} {j = j} {k = k} {b₀ = b₀} {p = p} {i = i} {b = b} {b' = b'} g h e =
-    let f : p + 10 * (i - j) + 10 ≡ p + 10 * (i + 1 - j) = omega (arith, g.least) in
-    let f₂ : i + 1 + 1 ≡ i + 2 = omega arith in
-    let one : Putting l t r j k b₀ p (i + 1) (write b (p + 10 * (i - j)) (entry_bytes (row_entry l t r i))) = putting_one g (omega arith) refl in
-    subst (λ (n : ℕ). Putting l t r j k b₀ p n b') f₂
-    (putting_one one h (e ∙ ap (λ (n : ℕ). write (write b (p + 10 * (i - j)) (entry_bytes (row_entry l t r i))) n (entry_bytes (row_entry l t r (i + 1)))) f))
+-- two more, at the byte q
+pub putting_two : {l : Leg} {t r : List ℕ} {j k : ℕ} {b₀ : List ℕ} {p i q n : ℕ} {b b' : List ℕ} → Putting l t r j k b₀ p i b → i + 1 < k → q ≡ p + 10 * (i - j) → n ≡ i + 2
+    → b' ≡ write (write b q (entry_bytes (row_entry l t r i))) (q + 10) (entry_bytes (row_entry l t r (i + 1)))
+    → Putting l t r j k b₀ p n b'
+putting_two {l = l} {t = t} {r = r} {j = j} {k = k} {b₀ = b₀} {p = p} {i = i} {q = q} {n = n} {b = b} {b' = b'} g h at next e =
+    let f : q + 10 ≡ p + 10 * (i + 1 - j) = omega (arith, g.least) in
+    let f₂ : i + 1 + 1 ≡ n = omega arith in
+    let one : Putting l t r j k b₀ p (i + 1) (write b q (entry_bytes (row_entry l t r i))) = putting_one g (omega arith) (ap (λ (x : ℕ). write b x (entry_bytes (row_entry l t r i))) at) in
+    subst (λ (x : ℕ). Putting l t r j k b₀ p x b') f₂
+    (putting_one one h (e ∙ ap (λ (x : ℕ). write (write b q (entry_bytes (row_entry l t r i))) x (entry_bytes (row_entry l t r (i + 1)))) f))
 
--- the last of an odd number
-pub putting_last : {l : Leg} {t r : List ℕ} {j k : ℕ} {b₀ : List ℕ} {p i : ℕ} {b b' : List ℕ} → Putting l t r j k b₀ p i b → i < k → k ≤ i + 1
-    → b' ≡ write b (p + 10 * (i - j)) (entry_bytes (row_entry l t r i)) → b' ≡ write b₀ p (list_bytes (entries_from l t r j k))
-putting_last g h m e = putting_all (putting_one g h e) m
+-- the last of an odd number, that of the vertex at n
+pub putting_last : {l : Leg} {t r : List ℕ} {j k : ℕ} {b₀ : List ℕ} {p i q n : ℕ} {b b' : List ℕ} → Putting l t r j k b₀ p i b → i < k → k ≤ i + 1 → q ≡ p + 10 * (i - j) → n ≡ i
+    → b' ≡ write b q (entry_bytes (row_entry l t r n)) → b' ≡ write b₀ p (list_bytes (entries_from l t r j k))
+putting_last {l} {t} {r} {b = b} g h m at last e = putting_all (putting_one g h (e ∙ (λ x. write b (at x) (entry_bytes (row_entry l t r (last x)))))) m

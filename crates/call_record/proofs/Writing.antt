@@ -20,8 +20,11 @@ put_word_is b b' i x h e =
     e ∙ ap (λ (y : ℕ). set (set b i (x % 256)) (i + 1) y) g
 
 pub put_long_is : (b : List ℕ) (i x p q r s : ℕ) → p ≡ x % 256 → q ≡ x / 256 % 256 → r ≡ x / 65536 % 256 → s ≡ x / 16777216 % 256
-    → set (set (set (set b i p) (i + 1) q) (i + 1 + 1) r) (i + 1 + 1 + 1) s ≡ write b i (bytes4 x)
-put_long_is b i x p q r s e f g h = λ j. set (set (set (set b i (e j)) (i + 1) (f j)) (i + 1 + 1) (g j)) (i + 1 + 1 + 1) (h j)
+    → set (set (set (set b i p) (i + 1) q) (i + 2) r) (i + 3) s ≡ write b i (bytes4 x)
+put_long_is b i x p q r s e f g h =
+    let third : i + 2 ≡ i + 1 + 1 = omega arith in
+    let fourth : i + 3 ≡ i + 1 + 1 + 1 = omega arith in
+    λ j. set (set (set (set b i (e j)) (i + 1) (f j)) (third j) (g j)) (fourth j) (h j)
 
 -- The return of `put_refusal`.
 pub refusal_is : (x : Cause) (b : List ℕ) (i n : ℕ) → n ≡ cause_number x → set (set b i 0x21) (i + 1) n ≡ write b i (record_of (refused x))

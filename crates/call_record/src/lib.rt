@@ -101,24 +101,16 @@ fn start_of(row: Row, i: usize) -> Fraction
     grid::factor::lowest_terms(q.num, q.den)
 }
 
-fn low(x: u64) -> u8
-    ensures { result ≡ x % 256 }
-{
-    (x % 256) as u8
-}
-
 // Writes x in 32 bits.
 fn put_long(b: &mut [u8], at: usize, x: u64)
     requires { at + 4 ≤ length b.old }
     ensures { b.new ≡ write b.old at (bytes4 x) }
 {
-    b[at] = low(x);
-    let i = at + 1;
-    b[i] = low(x / 256);
-    let j = i + 1;
-    b[j] = low(x / 65536);
-    let k = j + 1;
-    b[k] = low(x / 16777216);
+    let [first, second, third, fourth, ..] = x.to_le_bytes();
+    b[at] = first;
+    b[at + 1] = second;
+    b[at + 2] = third;
+    b[at + 3] = fourth;
 }
 
 // Writes a site's number and its start.

@@ -49,9 +49,9 @@ module _ (l : Leg) (t r : List ℕ) (k j q : ℕ) (u : Vertex) (d : Dropped l t 
   pub place_hidden : b ≡ true → push (point_at l t q) (stack l t r k) ≡ stack l t r j
   place_hidden e = d.same ∙ hides_stack l t r j pos (point_at l t q) (rw e at told)
 
-  pub place_under : b ≡ false → (f : Bool) → f ≡ true → Says f (Under (point_at l t q) (stack l t r j))
-      → push (point_at l t q) (stack l t r k) ≡ point_at l t q ∷ stack l t r j
-  place_under e f ef hf = d.same ∙ stands_stack l t r j pos (point_at l t q) (rw e at told) (rw ef at hf)
+  pub place_under : (n : ℕ) → n ≡ j → b ≡ false → (f : Bool) → f ≡ true → Says f (Under (point_at l t q) (stack l t r j))
+      → push (point_at l t q) (stack l t r k) ≡ point_at l t q ∷ stack l t r n
+  place_under n en e f ef hf = rw en (d.same ∙ stands_stack l t r j pos (point_at l t q) (rw e at told) (rw ef at hf))
 
   pub place_next : b ≡ false → (f : Bool) → f ≡ false → Says f (Under (point_at l t q) (stack l t r j)) → Dropped l t r k (point_at l t q) (j - 1)
   place_next e f ef hf =

@@ -8,7 +8,7 @@ ghost use Rattle.grid.specs.Says.{Says};
 ghost use Rattle.split.specs.SplitList.{rank};
 ghost use Rattle.list_row.specs.Places.{site_at, HasSite};
 ghost use Rattle.list_row.specs.Vertices.{IsVertex, place_at, put_place, Held, Cut, CutBetween};
-ghost use Rattle.list_row.specs.Gaps.{Stands, About};
+ghost use Rattle.list_row.specs.Gaps.{Stands, About, Cuts};
 ghost use Rattle.list_row.specs.Alike.{held_alike};
 
 use grid::{Leg, Position, Site};
@@ -187,12 +187,14 @@ impl<'a> Row<'a> {
         }
     }
 
-    // The cut at a.
-    pub fn cut(self, a: u32) -> Gap
-        requires { 0 < self.k }
-        ensures { let r = self.entry in About r.leg r.t.now r.places.now r.k a result }
+    // The cut at a, by bisection: of it nothing is known. An empty row has no vertex about it.
+    pub fn cut(self, a: u32) -> Option<Gap>
+        ensures { let r = self.entry in Cuts r.leg r.t.now r.places.now r.k a result }
     {
-        self.bisected(a, 0, self.k)
+        if self.k == 0 {
+            return None;
+        }
+        Some(self.bisected(a, 0, self.k))
     }
 
     // The cut at a: at least n, before which u stands, and rising one by one.
@@ -255,24 +257,26 @@ impl<'a> Row<'a> {
 
     // The cut at a, which is about `near`: steps that are few and can be foreseen are quicker than a bisection. The two
     // vertices about the guess are read together, since neither waits for the other.
-    pub fn cut_near(self, a: u32, near: usize) -> Gap
-        requires { 0 < self.k }
-        ensures { let r = self.entry in About r.leg r.t.now r.places.now r.k a result }
+    pub fn cut_near(self, a: u32, near: usize) -> Option<Gap>
+        ensures { let r = self.entry in Cuts r.leg r.t.now r.places.now r.k a result }
     {
+        if self.k == 0 {
+            return None;
+        }
         let i = near.min(self.k - 1);
         let j = i.saturating_sub(1);
         let v = self.vertex(i);
         let u = self.vertex(j);
         if v.a <= a {
-            return self.climb(a, i + 1, v);
+            return Some(self.climb(a, i + 1, v));
         }
         if u.a <= a {
-            return Gap {
+            return Some(Gap {
                 n: i,
                 left: u,
                 right: v,
-            };
+            });
         }
-        self.fall(a, j, u)
+        Some(self.fall(a, j, u))
     }
 }

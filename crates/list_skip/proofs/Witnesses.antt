@@ -8,8 +8,6 @@ use Rattle.std.specs.Prelude.{Option, None, Some}
 use Prim.Native.Nat.{ℕ, ◌+◌, ◌*◌, ◌^◌, ◌≤◌, ◌<◌}
 use native.Mathlib.Nat.{mul-le-mul_left}
 use native.Mathlib.Omega.{arith}
-use lib.Dec.{ltb}
-use borrow.Author.Tests.{ltb-true}
 use Rattle.grid.specs.declared.Corner.{Corner}
 use Rattle.grid.specs.declared.Leg.{Leg}
 use Rattle.grid.specs.Says.{If}
@@ -18,22 +16,19 @@ use Rattle.split.proofs.Skipping.{witness_shuts}
 use Rattle.list_row.specs.declared.Vertex.{Vertex}
 use Rattle.list_row.specs.declared.Gap.{Gap}
 use Rattle.list_row.specs.Vertices.{vertex_in, stack, Cut}
-use Rattle.list_row.specs.Gaps.{Stands, About}
+use Rattle.list_row.specs.Gaps.{Stands, About, Cuts}
 use Rattle.list_row.proofs.Stacks.{in_stack}
 use Rattle.list_skip.specs.declared.Edge.{Edge}
 use Rattle.list_skip.specs.declared.Seen.{Seen}
-use Rattle.list_skip.specs.Skipping.{SmallCorner, EdgeShuts, Knows, KnowsNothing, edge_of, SeenNothing, CutOf, SeenAbout, CutIn, Looked}
+use Rattle.list_skip.specs.Skipping.{SmallCorner, EdgeShuts, Knows, KnowsNothing, edge_of, CutOf, SeenAbout, SmallGap, SeenNothing, SeenAt, CutIn, Looked}
 
 pub if_true : {P : Type 0} (b : Bool) → b ≡ true → If b P → P
 if_true b e h = rw e at h
 
--- a comparison that is the answer
-pub if_less : {P : Type 0} (m n : ℕ) → (m < n → P) → If (ltb m n) P
-if_less {P} m n f = by (ltb m n) refl
-  where
-    by : (b : Bool) → ltb m n ≡ b → If b P
-    by true e = f (ltb-true m n e)
-    by false e = tt
+-- what a true answer means, the answer means
+pub if_so : {P : Type 0} (b : Bool) → (b ≡ true → P) → If b P
+if_so true f = f refl
+if_so false f = tt
 
 -- TWO VERTICES OF THE ROW KNOW WHAT THE LIST SHUTS OUT
 module _ {l : Leg} {t r : List ℕ} {n : ℕ} where
@@ -63,23 +58,32 @@ module _ {l : Leg} {t r : List ℕ} {n : ℕ} where
       by (inl f) = witness su su f
       by (inr f) = witness su sv f
 
--- the returns of `covers` and `look`
-pub looked : {l : Leg} {t r : List ℕ} {n : ℕ} {k : Corner} {g : Gap} {s : Seen} → SmallCorner k → About l t r n k.a g → SeenAbout g k s → Looked l t r n k s
-looked {l} {t} {r} {n} {k} {g} {s} h b w =
-    let kn : Knows s.edge (stack l t r n) = subst⁻¹ (λ (e : Edge). Knows e (stack l t r n)) w.edge (edge_knows b.left b.right) in
-    record { cut = told s.cut w.cut kn; knows = kn }
-  where
-    told : (o : Option ℕ) → CutOf g s.edge k o → Knows s.edge (stack l t r n) → CutIn l t r n k o
-    told (Some m) e kn = subst⁻¹ (λ (x : ℕ). Cut l t r n k.a x) e b.cut
-    told None f kn = kn.shuts k h f
+-- what `tell` asks
+pub gap_small : (l : Leg) (t r : List ℕ) (n a : ℕ) (o : Option Gap) → Cuts l t r n a o → SmallGap o
+gap_small l t r n a (Some g) b = (b.left.is.small, b.right.is.small)
+gap_small l t r n a None z = tt
 
--- of an empty row
-pub looked_none : {l : Leg} {t r : List ℕ} {n : ℕ} {k : Corner} {s : Seen} → n ≡ 0 → SeenNothing s → Looked l t r n k s
-looked_none {l} {t} {r} {n} {k} {s} z w =
-    record {
-      cut = subst⁻¹ (CutIn l t r n k) w.cut (record { within = omega arith; left = λ h. absurd (omega arith); right = λ i h j. absurd (omega arith) });
-      knows = w.edge (stack l t r n);
-    }
+module _ {l : Leg} {t r : List ℕ} {n : ℕ} {k : Corner} {s : Seen} where
+  seen_gap : {g : Gap} → SmallCorner k → About l t r n k.a g → SeenAbout g k s → Looked l t r n k s
+  seen_gap {g} h b w =
+      let kn : Knows s.edge (stack l t r n) = subst⁻¹ (λ (e : Edge). Knows e (stack l t r n)) w.edge (edge_knows b.left b.right) in
+      record { cut = told s.cut w.cut kn; knows = kn }
+    where
+      told : (o : Option ℕ) → CutOf g s.edge k o → Knows s.edge (stack l t r n) → CutIn l t r n k o
+      told (Some m) e kn = subst⁻¹ (λ (x : ℕ). Cut l t r n k.a x) e b.cut
+      told None f kn = kn.shuts k h f
+
+  seen_none : n ≡ 0 → SeenNothing s → Looked l t r n k s
+  seen_none z w =
+      record {
+        cut = subst⁻¹ (CutIn l t r n k) w.cut (record { within = omega arith; left = λ h. absurd (omega arith); right = λ i h j. absurd (omega arith) });
+        knows = w.edge (stack l t r n);
+      }
+
+  -- the return of `covers`
+  pub looked : (o : Option Gap) → SmallCorner k → Cuts l t r n k.a o → SeenAt o k s → Looked l t r n k s
+  looked (Some g) h b w = seen_gap h b w
+  looked None h z w = seen_none z w
 
 -- the returns of `shuts`
 pub by_left : (e : Edge) (a c : ℕ) (b : Bool) → b ≡ true → If b (Shut e.left e.left a c) → EdgeShuts e a c

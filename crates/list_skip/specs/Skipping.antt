@@ -14,7 +14,7 @@ use Rattle.split.specs.Skip.{Shut, ShutOut}
 use Rattle.list_row.specs.declared.Vertex.{Vertex}
 use Rattle.list_row.specs.declared.Gap.{Gap}
 use Rattle.list_row.specs.Places.{site_at}
-use Rattle.list_row.specs.Vertices.{point_at, row_bytes, stack, Held, Lists, Cut}
+use Rattle.list_row.specs.Vertices.{Small, point_at, row_bytes, stack, Held, Lists, Cut}
 use Rattle.list_skip.specs.declared.Edge.{Edge}
 use Rattle.list_skip.specs.declared.Seen.{Seen}
 
@@ -45,11 +45,6 @@ KnowsNothing e = (l : List Point) → Knows e l
 abbrev pub edge_of : Vertex → Vertex → Edge
 edge_of u v = record { left = record { a = u.a; c = u.c }; right = record { a = v.a; c = v.c } }
 
--- the cut of an empty row, and no knowledge
-pub record SeenNothing (s : Seen) : Type 0 where
-  pub cut : s.cut ≡ Some 0
-  pub edge : KnowsNothing s.edge
-
 -- the cut of g, or nothing, only if the edge e shuts the corner k out
 abbrev pub CutOf : Gap → Edge → Corner → Option ℕ → Type 0
 CutOf g e k (Some n) = n ≡ g.n
@@ -59,6 +54,21 @@ CutOf g e k None = EdgeShuts e k.a k.c
 pub record SeenAbout (g : Gap) (k : Corner) (s : Seen) : Type 0 where
   pub edge : s.edge ≡ edge_of g.left g.right
   pub cut : CutOf g s.edge k s.cut
+
+-- vertices whose squared distances 31 bits hold
+abbrev pub SmallGap : Option Gap → Type 0
+SmallGap (Some g) = Small g.left × Small g.right
+SmallGap None = Unit {0}
+
+-- the cut of an empty row, and an edge that shuts nothing out
+pub record SeenNothing (s : Seen) : Type 0 where
+  pub cut : s.cut ≡ Some 0
+  pub edge : KnowsNothing s.edge
+
+-- what s says of the corner k is told by two vertices, or by none
+abbrev pub SeenAt : Option Gap → Corner → Seen → Type 0
+SeenAt (Some g) k s = SeenAbout g k s
+SeenAt None k s = SeenNothing s
 
 -- the cut of the corner k in the first n of the row r, or nothing, only if the list shuts it out
 abbrev pub CutIn : Leg → List ℕ → List ℕ → ℕ → Corner → Option ℕ → Type 0

@@ -9,9 +9,9 @@ ghost use Rattle.grid.specs.Position.{LegOnGrid};
 ghost use Rattle.grid.specs.Says.{If};
 ghost use Rattle.split.specs.Skip.{Shut};
 ghost use Rattle.list_row.specs.Places.{HasSite};
-ghost use Rattle.list_row.specs.Vertices.{Small, IsVertex, row_bytes, Held, Cut};
+ghost use Rattle.list_row.specs.Vertices.{IsVertex, row_bytes, Held, Cut};
 ghost use Rattle.list_skip.specs.Skipping.{SmallCorner, SmallEdge, EdgeShuts, KnowsNothing};
-ghost use Rattle.list_skip.specs.Skipping.{SeenNothing, SeenAbout, Looked, Space, Dealt};
+ghost use Rattle.list_skip.specs.Skipping.{SmallGap, SeenAt, Looked, Space, Dealt};
 
 use grid::{Corner, Leg};
 use list_row::{Gap, Row, Vertex};
@@ -99,21 +99,17 @@ pub struct Seen {
     pub edge: Edge,
 }
 
-// What an empty row tells.
-fn unseen() -> Seen
-    ensures { SeenNothing result }
+// What the vertices about the cut of a corner tell; an empty row has none, and knows nothing.
+fn tell(gap: Option<Gap>, corner: Corner) -> Seen
+    requires { SmallGap gap × SmallCorner corner }
+    ensures { SeenAt gap corner result }
 {
-    Seen {
-        cut: Some(0),
-        edge: no_edge(),
-    }
-}
-
-// What the vertices about the cut of a corner tell.
-fn tell(gap: Gap, corner: Corner) -> Seen
-    requires { Small gap.left × Small gap.right × SmallCorner corner }
-    ensures { SeenAbout gap corner result }
-{
+    let Some(gap) = gap else {
+        return Seen {
+            cut: Some(0),
+            edge: no_edge(),
+        };
+    };
     let edge = Edge {
         left: Corner {
             a: gap.left.a,
@@ -137,11 +133,7 @@ pub fn covers(row: Row, corner: Corner, near: usize) -> Seen
     requires { SmallCorner corner }
     ensures { let r = row.entry in Looked r.leg r.t.now r.places.now r.k corner result }
 {
-    if row.k == 0 {
-        return unseen();
-    }
-    let gap = row.cut_near(corner.a, near);
-    tell(gap, corner)
+    tell(row.cut_near(corner.a, near), corner)
 }
 
 // Deals with the site x, of which n of the list are not right: the row that begins the work buffer becomes the list
@@ -159,20 +151,8 @@ pub fn deal_vertex(t: &[u8], leg: Leg, x: Vertex, work: &mut [u8], k: usize, n: 
     list_insert::insert(t, work, leg, k, n, x)
 }
 
-// Looks at the corner by bisection: of its cut nothing is known.
-fn look(row: Row, corner: Corner) -> Seen
-    requires { SmallCorner corner }
-    ensures { let r = row.entry in Looked r.leg r.t.now r.places.now r.k corner result }
-{
-    if row.k == 0 {
-        return unseen();
-    }
-    let gap = row.cut(corner.a);
-    tell(gap, corner)
-}
-
-// Deals with the site at p, skipping it or inserting it. Not by `covers`: with one caller that one is compiled into
-// the search.
+// Deals with the site at p, skipping it or inserting it. Not by `covers`, which looks about a guess: with one caller
+// that one is compiled into the search.
 pub fn deal(t: &[u8], leg: Leg, p: usize, work: &mut [u8], k: usize) -> usize
     requires held { Held leg t.now work.old k × LegOnGrid leg × HasSite t.now p }
     requires space { Space leg t.now work.old k p × (row_bytes ≤ length work.old) }
@@ -185,8 +165,8 @@ pub fn deal(t: &[u8], leg: Leg, p: usize, work: &mut [u8], k: usize) -> usize
         leg,
         k,
     };
-    let seen = look(row, Corner { a: x.a, c: x.c });
-    let Some(cut) = seen.cut else {
+    let corner = Corner { a: x.a, c: x.c };
+    let Some(cut) = tell(row.cut(x.a), corner).cut else {
         return k;
     };
     deal_vertex(t, leg, x, work, k, cut)

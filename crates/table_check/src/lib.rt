@@ -5,7 +5,7 @@
 ghost use Rattle.std.specs.Prelude.{◌≡◌, ◌≤◌, length};
 ghost use Rattle.limits.specs.Limits.{table_bytes};
 ghost use Rattle.grid.specs.Says.{Says};
-ghost use Rattle.list_row.specs.Vertices.{row_bytes, Held, entries_in};
+ghost use Rattle.list_row.specs.Vertices.{row_bytes, entries_in};
 ghost use Rattle.book.specs.Proper.{LastHeld, TourOk};
 ghost use Rattle.table_header.specs.Header.{tour_in};
 ghost use Rattle.table_sites.specs.Lines.{lines_in, Array};
@@ -13,26 +13,23 @@ ghost use Rattle.table_standing.specs.Standing.{standing_in, numbers_of};
 ghost use Rattle.tree_check.specs.Marks.{seen_bytes};
 ghost use Rattle.table_rules.specs.Table.{Whole, StandingOk};
 
-use grid::Leg;
+use list_row::Row;
 
-// Whether the stored standing list has the numbers of the list in the first k of the row.
-fn list_matches(t: &[u8], work: &[u8], leg: Leg, k: usize) -> bool
-    requires { (length t.now ≡ table_bytes) × Held leg t.now work.now k }
-    ensures { Says result
-        (standing_in t.now ≡ numbers_of (entries_in leg t.now work.now k)) }
+// Whether the stored standing list has the numbers of the list in the row.
+fn list_matches(row: Row) -> bool
+    requires { length row.t.now ≡ table_bytes }
+    ensures { let r = row.entry in Says result
+        (standing_in r.t.now ≡ numbers_of (entries_in r.leg r.t.now r.places.now r.k)) }
 {
-    let n = table_header::length(t);
-    if n != k {
+    let n = table_header::length(row.t);
+    if n != row.k {
         return false;
     }
-    let mut i = 0;
-    while i < k {
-        let number = list_row::number_in(t, work, i);
-        let stored = table_standing::number(t, i);
-        if number != stored {
+    for i in 0..row.k {
+        let stored = table_standing::number(row.t, i);
+        if row.number(i) != stored {
             return false;
         }
-        i += 1;
     }
     true
 }
@@ -47,7 +44,12 @@ pub fn standing_ok(t: &[u8], work: &mut [u8]) -> bool
         Some(leg) => {
             if grid::coordinate::leg_on_grid(leg) {
                 let k = table_search::search(t, leg, work);
-                return list_matches(t, work, leg, k);
+                return list_matches(Row {
+                    t,
+                    places: work,
+                    leg,
+                    k,
+                });
             }
             false
         }

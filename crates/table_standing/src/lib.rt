@@ -24,11 +24,9 @@ fn number_row(t: &[u8], work: &mut [u8], leg: Leg, k: usize)
     requires { Held leg t.now work.old k }
     ensures { NumberRow t.now work.old k work.new }
 {
-    let mut i = 0;
-    while i < k {
+    for i in 0..k {
         let n = list_row::number_in(t, work, i);
         words::put_word(work, 2 * i, n);
-        i += 1;
     }
 }
 

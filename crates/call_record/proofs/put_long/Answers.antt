@@ -1,16 +1,6 @@
-use native.Mathlib.Omega.{arith}
-use lib.ListN.{length-set}
+use mathlib.Core.Path.{refl}
 use Rattle.call_record.proofs.Writing.{put_long_is}
 use Rattle.call_record.proofs.put_long.Goals as goal
 
-pub bounds-b-i : goal.bounds-b-i
-bounds-b-i c = simp length-set (omega arith)
-
-pub bounds-b-j : goal.bounds-b-j
-bounds-b-j c = simp length-set (omega arith)
-
-pub bounds-b-k : goal.bounds-b-k
-bounds-b-k c = simp length-set (omega arith)
-
 pub returns : goal.returns
-returns c = search put_long_is
+returns c = rw c.to_le_bytes.ensures (put_long_is c.args.b.now c.args.at c.args.x _ _ _ _ refl refl refl refl)

@@ -24,7 +24,7 @@ pub returns-then-stands : goal.returns-then-stands
 returns-then-stands c =
     let e : c.loop-i.i - 1 + 1 ≡ c.loop-i.i = omega arith in
     let s = rw e at c.stands.ensures in
-    rw e (omega arith, search (rules, place_under))
+    (omega arith, search (rules, place_under))
 
 pub loop-i-preserved : goal.loop-i-preserved
 loop-i-preserved c =

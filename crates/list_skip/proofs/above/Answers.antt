@@ -1,12 +1,13 @@
-use borrow.Author.Rules.{rules}
 use native.Mathlib.Omega.{arith}
-use Prim.Native.Nat.{◌<◌}
+use borrow.Author.Tests.{ltb-true, leb-true}
 use Rattle.split.proofs.Skipping.{shut_edge}
-use Rattle.list_skip.proofs.Witnesses.{if_less}
+use Rattle.list_skip.proofs.Witnesses.{if_so}
 use Rattle.list_skip.proofs.above.Goals as goal
 
 pub weigh-here-requires : goal.weigh-here-requires
 weigh-here-requires c = omega (arith, c.requires)
 
 pub returns : goal.returns
-returns c = if_less c.weigh-edge.result c.weigh-here.result (λ (h : c.weigh-edge.result < c.weigh-here.result). search (rules, shut_edge))
+returns c =
+    if_so _ (λ e. shut_edge c.args.u c.args.v c.args.corner.a c.args.corner.c _ _ (omega arith) (omega arith) (omega arith) (omega arith)
+    c.weigh-edge.ensures c.weigh-here.ensures (omega (arith, ltb-true, leb-true)))

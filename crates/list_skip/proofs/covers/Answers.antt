@@ -1,9 +1,8 @@
-use Rattle.list_skip.proofs.Witnesses.{looked, looked_none}
-use borrow.Author.Rules.{rules}
+use Rattle.list_skip.proofs.Witnesses.{gap_small, looked}
 use Rattle.list_skip.proofs.covers.Goals as goal
 
-pub returns-then-row-eq0 : goal.returns-then-row-eq0
-returns-then-row-eq0 c = search (rules, looked_none)
+pub tell-requires : goal.tell-requires
+tell-requires c = (gap_small _ _ _ _ _ _ c.cut_near.ensures, c.requires)
 
 pub returns : goal.returns
-returns c = search (rules, looked)
+returns c = looked c.cut_near.result c.requires c.cut_near.ensures c.tell.ensures

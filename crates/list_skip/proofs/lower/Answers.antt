@@ -1,10 +1,9 @@
-use borrow.Author.Rules.{rules}
-use Prim.Native.Nat.{◌+◌, ◌<◌}
+use native.Mathlib.Omega.{arith}
+use borrow.Author.Tests.{ltb-true, leb-true}
 use Rattle.split.proofs.Skipping.{shut_one}
-use Rattle.list_skip.proofs.Witnesses.{if_less}
+use Rattle.list_skip.proofs.Witnesses.{if_so}
 use Rattle.list_skip.proofs.lower.Goals as goal
 
 pub returns : goal.returns
 returns c =
-    if_less (c.args.v.a + c.args.v.c) (c.args.corner.a + c.args.corner.c)
-    (λ (h : c.args.v.a + c.args.v.c < c.args.corner.a + c.args.corner.c). search (rules, shut_one))
+    if_so _ (λ e. shut_one c.args.v c.args.corner.a c.args.corner.c (omega arith) (omega arith) (omega (arith, ltb-true, leb-true)))

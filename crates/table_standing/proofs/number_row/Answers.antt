@@ -1,6 +1,5 @@
 use borrow.Author.Rules.{rules}
 use native.Mathlib.Omega.{arith}
-use Prim.Native.Nat.{◌-◌}
 use Rattle.table_standing.proofs.Numbers.{numbering_none, numbering_one, numbering_all, site_there}
 use Rattle.table_standing.proofs.number_row.Goals as goal
 

@@ -8,6 +8,9 @@ returns-then-n-eq0 c = search (rules, onward_none)
 pub search-k-requires : goal.search-k-requires
 search-k-requires c = (search rules, search (rules, onward_leg), search rules)
 
+pub invariant_of-row : goal.invariant_of-row
+invariant_of-row c = record { held = search rules; on_grid = search (rules, onward_leg) }
+
 pub shown-requires : goal.shown-requires
 shown-requires c = record { sound = (search rules, search rules, search (rules, onward_grid)); lists_table = (search rules, search (rules, onward_some)) }
 

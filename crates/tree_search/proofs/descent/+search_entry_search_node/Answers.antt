@@ -65,8 +65,7 @@ search_node-measure-i-requires t c =
 
 pub search_node-loop-init : goal.search_node-loop-init
 search_node-loop-init t c =
-    let e : c.count-all.result - 0 ≡ c.count-all.result = omega arith in
-    rw e (left_all _ _ c.measure-i.ensures.first c.count-all.ensures.0 c.requires.ahead.0 c.requires.ahead.1)
+    left_all _ _ c.measure-i.ensures.first (omega (arith, c.count-all.ensures.0)) c.requires.ahead.0 c.requires.ahead.1
 
 pub search_node-bounds-corners-i : goal.search_node-bounds-corners-i
 search_node-bounds-corners-i t c = below_eight _ _ _ c.loop.invariant.here
