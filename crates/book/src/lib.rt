@@ -40,7 +40,8 @@ pub struct Tour {
 }
 
 // What stands at a byte of the commands: their end, no command, a command that is cut short, or a whole one and where
-// the next begins.
+// the next begins. Four cases of one enum: the end of the commands is no error, so a Result would need a second type for
+// the other three.
 #[derive(Clone, Copy)]
 pub enum Parsed {
     End,
@@ -100,33 +101,37 @@ impl BatchResult {
 }
 
 // A cause's number.
-pub fn cause_number(c: Cause) -> u8
-    ensures { result ≡ cause_number c }
-{
-    match c {
-        Cause::NumberZero => 1,
-        Cause::OffGrid => 2,
-        Cause::Held => 3,
-        Cause::NotHeld => 4,
-        Cause::Full => 5,
-        Cause::NoSite => 6,
-        Cause::NoLeg => 7,
-        Cause::NoTour => 8,
-        Cause::NotFinite => 11,
+impl From<Cause> for u8 {
+    ghost from_gives = { λ cause number. number ≡ cause_number cause };
+
+    fn from(cause: Cause) -> u8 {
+        match cause {
+            Cause::NumberZero => 1,
+            Cause::OffGrid => 2,
+            Cause::Held => 3,
+            Cause::NotHeld => 4,
+            Cause::Full => 5,
+            Cause::NoSite => 6,
+            Cause::NoLeg => 7,
+            Cause::NoTour => 8,
+            Cause::NotFinite => 11,
+        }
     }
 }
 
 // A reason's number.
-pub fn reason_number(r: Reason) -> u32
-    ensures { result ≡ reason_number r }
-{
-    match r {
-        Reason::AllUsed => 0,
-        Reason::WrongLength => 64,
-        Reason::Broken => 65,
-        Reason::UnknownCommand => 66,
-        Reason::CutShort => 67,
-        Reason::NoRoom => 68,
-        Reason::BrokenStanding => 69,
+impl From<Reason> for u32 {
+    ghost from_gives = { λ reason number. number ≡ reason_number reason };
+
+    fn from(reason: Reason) -> u32 {
+        match reason {
+            Reason::AllUsed => 0,
+            Reason::WrongLength => 64,
+            Reason::Broken => 65,
+            Reason::UnknownCommand => 66,
+            Reason::CutShort => 67,
+            Reason::NoRoom => 68,
+            Reason::BrokenStanding => 69,
+        }
     }
 }

@@ -1,63 +1,83 @@
 // Reads the command that stands at a byte of the commands. Document 01, "Buffers and batches": the table of commands.
 #![tactic(auto)]
 
-ghost use Rattle.std.specs.Prelude.{◌≡◌, ◌+◌, ◌≤◌, length};
-ghost use Rattle.book.specs.Command.{operand_bytes, position_at, leg_at, form_of, parse_at};
-ghost use Rattle.call_parse.specs.Operands.{mark_of, Reads, Makes};
+ghost use Rattle.std.specs.Prelude.{◌≡◌, ◌+◌, ◌≤◌, length, option_map};
+ghost use Rattle.book.specs.Command.{operand_bytes, position_at, leg_at, made_at, form_of, parse_at};
+ghost use Rattle.call_parse.specs.Rows.{row_of};
 
 use book::{Command, Parsed, Shape};
 use grid::{Leg, Position};
-use readings::{Location, Reading};
+use readings::Location::{InMetres, InSteps};
+use readings::reading_at;
+use words::word;
 
-// What a byte says: it is no command's, or it is that of one with operands of this shape.
+// The forms of command, a row of the table each. The last two have receiver readings.
 #[derive(Clone, Copy)]
-enum Mark {
-    Unknown,
-    Takes(Shape),
+enum Form {
+    Add,
+    Remove,
+    Move,
+    List,
+    Stand,
+    Print,
+    Begin,
+    Corner,
+    AddSurveyed,
+    MoveSurveyed,
 }
 
-// The operands of a command: number, position, leg and receiver readings. Those that its shape does not have are 0.
-#[derive(Clone, Copy)]
-struct Operands(u16, Position, Leg, Reading);
-
-// The table of commands: the operands of each.
-fn mark_of(byte: u8) -> Mark
-    ensures { result ≡ mark_of (form_of byte) }
+// The table of commands: the form of a command byte.
+#[tactic(auto, using(crate::proofs::Finding::unlisted), unfolding(book::specs::Command::form_of))]
+fn form_of(byte: u8) -> Option<Form>
+    ensures { option_map row_of result ≡ form_of byte }
 {
     match byte {
-        0x41 => Mark::Takes(Shape::NumberPosition),
-        0x44 => Mark::Takes(Shape::Number),
-        0x4D => Mark::Takes(Shape::NumberPosition),
-        0x4C => Mark::Takes(Shape::TwoPositions),
-        0x53 => Mark::Takes(Shape::TwoPositions),
-        0x50 => Mark::Takes(Shape::Nothing),
-        0x42 => Mark::Takes(Shape::OnePosition),
-        0x43 => Mark::Takes(Shape::OnePosition),
-        0x61 => Mark::Takes(Shape::NumberReadings),
-        0x6D => Mark::Takes(Shape::NumberReadings),
-        _ => Mark::Unknown,
+        0x41 => Some(Form::Add),
+        0x44 => Some(Form::Remove),
+        0x4D => Some(Form::Move),
+        0x4C => Some(Form::List),
+        0x53 => Some(Form::Stand),
+        0x50 => Some(Form::Print),
+        0x42 => Some(Form::Begin),
+        0x43 => Some(Form::Corner),
+        0x61 => Some(Form::AddSurveyed),
+        0x6D => Some(Form::MoveSurveyed),
+        _ => None,
     }
 }
 
-// The table of commands: what each is, with its operands. The last arm is 6D, and what no caller asks.
-fn command(byte: u8, o: Operands) -> Command
-    ensures { Makes (form_of byte) o result }
-{
-    let number = o.0;
-    let position = o.1;
-    let leg = o.2;
-    let reading = o.3;
-    match byte {
-        0x41 => Command::Add(number, Location::InSteps(position)),
-        0x44 => Command::Remove(number),
-        0x4D => Command::Move(number, Location::InSteps(position)),
-        0x4C => Command::List(leg),
-        0x53 => Command::Stand(leg),
-        0x50 => Command::Print,
-        0x42 => Command::Begin(position),
-        0x43 => Command::Corner(position),
-        0x61 => Command::Add(number, Location::InMetres(reading)),
-        _ => Command::Move(number, Location::InMetres(reading)),
+impl Form {
+    // The table of commands: the operands of each.
+    fn shape(self) -> Shape
+        ensures { result ≡ (row_of self).shape }
+    {
+        match self {
+            Form::Add | Form::Move => Shape::NumberPosition,
+            Form::Remove => Shape::Number,
+            Form::List | Form::Stand => Shape::TwoPositions,
+            Form::Print => Shape::Nothing,
+            Form::Begin | Form::Corner => Shape::OnePosition,
+            Form::AddSurveyed | Form::MoveSurveyed => Shape::NumberReadings,
+        }
+    }
+
+    // The table of commands: what each is, with its operands at byte i.
+    fn command(self, s: &[u8], i: usize) -> Command
+        requires { i + operand_bytes (row_of self).shape ≤ length s.now }
+        ensures { result ≡ made_at (row_of self).shape (row_of self).maker s.now i }
+    {
+        match self {
+            Form::Add => Command::Add(word(s, i), InSteps(position_at(s, i + 2))),
+            Form::Remove => Command::Remove(word(s, i)),
+            Form::Move => Command::Move(word(s, i), InSteps(position_at(s, i + 2))),
+            Form::List => Command::List(leg_at(s, i)),
+            Form::Stand => Command::Stand(leg_at(s, i)),
+            Form::Print => Command::Print,
+            Form::Begin => Command::Begin(position_at(s, i)),
+            Form::Corner => Command::Corner(position_at(s, i)),
+            Form::AddSurveyed => Command::Add(word(s, i), InMetres(reading_at(s, i + 2))),
+            Form::MoveSurveyed => Command::Move(word(s, i), InMetres(reading_at(s, i + 2))),
+        }
     }
 }
 
@@ -80,12 +100,9 @@ fn position_at(s: &[u8], i: usize) -> Position
     requires { i + 4 ≤ length s.now }
     ensures { result ≡ position_at s.now i }
 {
-    let east = grid::coordinate::from_word(words::word(s, i));
-    let north = grid::coordinate::from_word(words::word(s, i + 2));
-    Position {
-        east: east,
-        north: north,
-    }
+    let east = grid::coordinate::from_word(word(s, i));
+    let north = grid::coordinate::from_word(word(s, i + 2));
+    Position { east, north }
 }
 
 // The leg at byte i.
@@ -98,65 +115,21 @@ fn leg_at(s: &[u8], i: usize) -> Leg
     Leg { s: from, e: to }
 }
 
-// The operands at byte i.
-fn operands_at(s: &[u8], i: usize, x: Shape) -> Operands
-    requires { i + operand_bytes x ≤ length s.now }
-    ensures { Reads x s.now i result }
-{
-    let corner = Position { east: 0, north: 0 };
-    let point = Leg {
-        s: corner,
-        e: corner,
-    };
-    let middle = Reading {
-        easting: 0.0,
-        northing: 0.0,
-    };
-    match x {
-        Shape::Nothing => Operands(0, corner, point, middle),
-        Shape::Number => {
-            let number = words::word(s, i);
-            Operands(number, corner, point, middle)
-        }
-        Shape::OnePosition => {
-            let position = position_at(s, i);
-            Operands(0, position, point, middle)
-        }
-        Shape::NumberPosition => {
-            let number = words::word(s, i);
-            let position = position_at(s, i + 2);
-            Operands(number, position, point, middle)
-        }
-        Shape::TwoPositions => {
-            let leg = leg_at(s, i);
-            Operands(0, corner, leg, middle)
-        }
-        Shape::NumberReadings => {
-            let number = words::word(s, i);
-            let reading = readings::reading_at(s, i + 2);
-            Operands(number, corner, point, reading)
-        }
-    }
-}
-
 // What stands at a byte.
+#[tactic(auto, using(crate::proofs::Finding::end_is, crate::proofs::Finding::unknown_is))]
 pub fn parse(s: &[u8], at: usize) -> Parsed
     ensures { result ≡ parse_at s.now at }
 {
     if s.len() <= at {
         return Parsed::End;
     }
-    let byte = s[at];
-    let mark = mark_of(byte);
-    let Mark::Takes(shape) = mark else {
+    let Some(form) = form_of(s[at]) else {
         return Parsed::Unknown;
     };
     let i = at + 1;
-    let size = size_of(shape);
+    let size = size_of(form.shape());
     if s.len() - i < size {
         return Parsed::Cut;
     }
-    let o = operands_at(s, i, shape);
-    let c = command(byte, o);
-    Parsed::Whole(c, i + size)
+    Parsed::Whole(form.command(s, i), i + size)
 }

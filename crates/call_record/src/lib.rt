@@ -55,7 +55,7 @@ pub fn put_refusal(cause: Cause, report: &mut [u8], at: usize)
     requires { at + record_size (refused cause) ≤ length report.old }
     ensures { report.new ≡ write report.old at (record_of (refused cause)) }
 {
-    let number = book::cause_number(cause);
+    let number = u8::from(cause);
     report[at] = REFUSAL_MARK;
     report[at + 1] = number;
 }

@@ -11,7 +11,7 @@ pub extern "C" fn stops_lay_out(table: &mut [u8]) -> u32
     ensures { LaidOut table.old result table.new }
 {
     let reason = service::lay_out(table);
-    book::reason_number(reason)
+    u32::from(reason)
 }
 
 // Carries out commands, gives the reason's number, and sets the command bytes used and the report bytes written.
@@ -33,5 +33,5 @@ pub extern "C" fn stops_batch(
     let reason = r.reason;
     *used = r.used;
     *written = r.written;
-    book::reason_number(reason)
+    u32::from(reason)
 }

@@ -224,7 +224,7 @@ fn serve_all(
 
 // Writes the end mark and the reason's byte. A run that broke off has none.
 fn end(rt: &(impl Print + Eprint), reason: Reason) {
-    let number = book::reason_number(reason);
+    let number = u32::from(reason);
     let mark = [END_MARK, number as u8];
     streams::write_all(rt, &mark);
 }
