@@ -73,7 +73,7 @@ fn insert_under(
     requires k_in_bounds { (k < length (entries table.old n)) × (f ≡ get_or (entries table.old n) k no_entry) }
     ensures { InsertedUnder result h n e table.old table.new }
 {
-    let c = f.reference as usize;
+    let c = usize::from(f.reference);
     match insert(table, h - 1, c, e) {
         None => {
             let g = boxes::grown(e, f);

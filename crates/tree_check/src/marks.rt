@@ -4,6 +4,8 @@ ghost use Rattle.grid.specs.Says.{Says};
 ghost use Rattle.tree_node.specs.Told.{Told};
 ghost use Rattle.tree_check.specs.Marks.{mark_bytes, seen_bytes, Blank, Full};
 
+use std::mem;
+
 // A byte for each node and for each record.
 pub const MARK_BYTES: usize = limits::MAX_NODES + limits::MAX_SITES;
 
@@ -20,11 +22,7 @@ pub fn mark(seen: &mut [u8], m: usize) -> bool
     requires { m < length seen.old }
     ensures { Told result (get_or seen.old m 0 ≡ 0) (seen.new ≡ set seen.old m 1) }
 {
-    if seen[m] == 0 {
-        seen[m] = 1;
-        return true;
-    }
-    false
+    mem::replace(&mut seen[m], 1) == 0
 }
 
 // Whether each of the first l marks is set. All are read: the least of many bytes takes less time than a branch for

@@ -30,7 +30,7 @@ fn fits(t: &[u8], e: NodeEntry) -> bool
     requires { (length t.now ≡ table_bytes) × (e.reference < max_nodes) }
     ensures { Says result (Fits t.now e) }
 {
-    let c = e.reference as usize;
+    let c = usize::from(e.reference);
     MIN_ENTRIES <= pool::count(t, c) && e == boxes::hull_of(t, c)
 }
 
@@ -55,7 +55,7 @@ fn check_entry(t: &[u8], h: usize, e: NodeEntry, seen: &mut [u8]) -> bool
     ensures { Told result (Pass t.now h (e ∷ []) seen.old)
         (Marked (met t.now h (e ∷ [])) seen.old seen.new) }
 {
-    let c = e.reference as usize;
+    let c = usize::from(e.reference);
     if MAX_NODES <= c {
         return false;
     }

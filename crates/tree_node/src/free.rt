@@ -14,7 +14,7 @@ pub fn free_count(table: &[u8]) -> usize
     requires { length table.now ≡ table_bytes }
     ensures { (result ≡ length (free table.now)) × (result ≤ max_nodes) }
 {
-    let stored = words::word(table, FREE_START) as usize;
+    let stored = usize::from(words::word(table, FREE_START));
     if stored <= MAX_NODES {
         return stored;
     }
@@ -34,7 +34,7 @@ pub fn id_at(table: &[u8], k: usize) -> usize
     requires { (length table.now ≡ table_bytes) × (k < max_nodes) }
     ensures { (result ≡ word_at table.now (stack_start + 2 * k)) × (result < 65536) }
 {
-    words::word(table, STACK_START + 2 * k) as usize
+    usize::from(words::word(table, STACK_START + 2 * k))
 }
 
 // Puts the id c on k others.

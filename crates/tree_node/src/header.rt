@@ -10,13 +10,13 @@ pub fn read_root(table: &[u8]) -> Option<Top>
     requires { length table.now ≡ table_bytes }
     ensures { result ≡ root_in table.now }
 {
-    let levels = words::word(table, TREE_START) as usize;
+    let levels = usize::from(words::word(table, TREE_START));
     if levels == 0 {
         return None;
     }
     Some(Top {
         height: levels - 1,
-        node: words::word(table, ROOT_START) as usize,
+        node: usize::from(words::word(table, ROOT_START)),
     })
 }
 

@@ -59,7 +59,7 @@ pub fn count(table: &[u8], n: usize) -> usize
     requires { (length table.now ≡ table_bytes) × (n < max_nodes) }
     ensures { (result ≡ length (entries table.now n)) × (result ≤ max_entries) }
 {
-    let stored = words::word(table, base_of(n)) as usize;
+    let stored = usize::from(words::word(table, base_of(n)));
     if stored <= MAX_ENTRIES {
         return stored;
     }

@@ -33,7 +33,7 @@ fn shrink(table: &mut [u8], r: Top) -> Option<Top>
     free::give(table, r.node);
     Some(Top {
         height: r.height - 1,
-        node: f.reference as usize,
+        node: usize::from(f.reference),
     })
 }
 

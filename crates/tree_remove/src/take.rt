@@ -67,11 +67,13 @@ fn take_from_leaf(table: &mut [u8], n: usize, k: usize, e: NodeEntry) -> bool
     ensures { Sought result 0 n e (drop k (entries table.old n)) table.old
         table.new }
 {
-    if let Some(i) = next_equal(table, n, k, e) {
-        pool::drop_entry(table, n, i);
-        return true;
+    match next_equal(table, n, k, e) {
+        None => false,
+        Some(i) => {
+            pool::drop_entry(table, n, i);
+            true
+        }
     }
-    false
 }
 
 // Takes the leaf entry e from under f, which is entry k of node n and stands at height h, above the leaves. Whether it
@@ -82,11 +84,11 @@ fn take_child(table: &mut [u8], h: usize, n: usize, k: usize, f: NodeEntry, e: N
         × (f ≡ get_or (entries table.old n) k no_entry) }
     ensures { Sought result h n e (f ∷ []) table.old table.new }
 {
-    if take(table, h - 1, f.reference as usize, 0, e) {
-        repair::repair(table, n, k, f);
-        return true;
+    if !take(table, h - 1, usize::from(f.reference), 0, e) {
+        return false;
     }
-    false
+    repair::repair(table, n, k, f);
+    true
 }
 
 // Takes the leaf entry e from under the entries from k on of node n, which stand at height h. Whether it was there.

@@ -18,7 +18,7 @@ fn join_nearest(table: &mut [u8], n: usize, c: usize)
     let j = near::nearest(table, n, c);
     let g = pool::entry_at(table, n, j);
     pool::drop_entry(table, n, j);
-    join::join(table, n, c, g.reference as usize);
+    join::join(table, n, c, usize::from(g.reference));
 }
 
 // Node n, which has lost its entry f, gets it back with the box that f's child has now, or joined with a sibling
@@ -29,7 +29,7 @@ fn restore(table: &mut [u8], n: usize, f: NodeEntry)
     ensures { Repaired n f.reference (entries table.old n) table.old
         table.new }
 {
-    let c = f.reference as usize;
+    let c = usize::from(f.reference);
     if pool::count(table, c) < MIN_ENTRIES {
         join_nearest(table, n, c);
     } else {

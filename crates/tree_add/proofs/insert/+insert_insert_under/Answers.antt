@@ -6,16 +6,23 @@ pub insert-returns-then-h-eq0 : goal.insert-returns-then-h-eq0
 insert-returns-then-h-eq0 t c = search inserted_leaf
 
 pub insert_under-insert-requires : goal.insert_under-insert-requires
-insert_under-insert-requires t c = (omega arith, (search down_ready, omega arith, search down_some))
+insert_under-insert-requires t c = (omega arith, (rw c.from-c.ensures (search down_ready), omega arith, rw c.from-c.ensures (search down_some)))
 
 pub insert_under-put-requires : goal.insert_under-put-requires
-insert_under-put-requires t c = (search up_len, search rules, search up_in)
+insert_under-put-requires t c =
+    let i = rw c.from-c.ensures at c.insert.ensures in
+    (search up_len, search rules, search up_in)
 
 pub insert_under-halve-requires : goal.insert_under-halve-requires
-insert_under-halve-requires t c = (search up_open, search rules, search up_in, search up_full, search up_free, search up_out, search up_not_free)
+insert_under-halve-requires t c =
+    let i = rw c.from-c.ensures at c.insert.ensures in
+    rw c.from-c.ensures (search up_open, search rules, search up_in, search up_full, search up_free, search up_out, search up_not_free)
 
 pub insert_under-returns-in-None : goal.insert_under-returns-in-None
-insert_under-returns-in-None t c = search up_kept
+insert_under-returns-in-None t c = let i = rw c.from-c.ensures at c.insert.ensures in search up_kept
 
 pub insert_under-returns-in-Some : goal.insert_under-returns-in-Some
-insert_under-returns-in-Some t c = search up_over
+insert_under-returns-in-Some t c =
+    let i = rw c.from-c.ensures at c.insert.ensures in
+    let h = rw c.from-c.ensures at c.halve.ensures in
+    search up_over

@@ -16,4 +16,5 @@ entry_at-f-requires c = search (rules, shrink_some)
 
 pub returns : goal.returns
 returns c =
-    shrink_child _ _ _ c.requires.0 _ _ _ c.count-m.ensures.0 c.requires.1 c.if-r-eq0.false (omega arith) c.entry_at-f.ensures c.give-2.ensures
+    rw c.from.ensures
+    (shrink_child _ _ _ c.requires.0 _ _ _ c.count-m.ensures.0 c.requires.1 c.if-r-eq0.false (omega arith) c.entry_at-f.ensures c.give-2.ensures)

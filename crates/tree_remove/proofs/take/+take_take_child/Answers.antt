@@ -37,13 +37,15 @@ take-returns-else-take_child t c =
     take_on _ _ _ _ _ c.requires.0 _ c.next_holding.ensures _ c.in-Some.is _ c.entry_at-f.ensures _ _ c.if-take_child.false c.take_child.ensures _ _ c.take.ensures
 
 pub take_child-take-requires : goal.take_child-take-requires
-take_child-take-requires t c = (omega arith, (search child_down, search rules))
+take_child-take-requires t c = (omega arith, (rw c.from.ensures (search child_down), search rules))
 
 pub take_child-repair-requires : goal.take_child-repair-requires
-take_child-repair-requires t c = (search child_loose, search child_in, search child_two)
-
-pub take_child-returns-then-take : goal.take_child-returns-then-take
-take_child-returns-then-take t c = search child_gone
+take_child-repair-requires t c =
+    let s = rw c.from.ensures at c.take.ensures in
+    (search child_loose, search child_in, search child_two)
 
 pub take_child-returns : goal.take_child-returns
-take_child-returns t c = search child_none
+take_child-returns t c = let s = rw c.from.ensures at c.take.ensures in search child_gone
+
+pub take_child-returns-then-not-take : goal.take_child-returns-then-not-take
+take_child-returns-then-not-take t c = let s = rw c.from.ensures at c.take.ensures in search child_none

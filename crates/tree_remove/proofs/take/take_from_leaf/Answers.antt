@@ -8,5 +8,5 @@ drop_entry-requires c = (search rules, search rules, leaf_in _ _ _ _ c.requires.
 pub returns-in-Some : goal.returns-in-Some
 returns-in-Some c = leaf_gone _ _ _ _ c.requires.0 _ c.next_equal.ensures _ _ c.in-Some.is c.drop_entry.ensures
 
-pub returns : goal.returns
-returns c = leaf_none _ _ _ _ c.requires.0 _ c.next_equal.ensures c.in_default.is
+pub returns-in-None : goal.returns-in-None
+returns-in-None c = leaf_none _ _ _ _ c.requires.0 _ c.next_equal.ensures c.in-None.is
