@@ -15,15 +15,6 @@ use Rattle.table_header.specs.Layout.{layout_start, layout_number}
 use Rattle.tree_node.specs.Layout.{free_start, stack_start}
 use Rattle.table_empty.specs.EmptyTable.{zeros, stacked, numbered, empty_table}
 
--- i bytes of d are set to 0
-pub clear_next : (d b : List ℕ) (i : ℕ) → b ≡ zeros i ++ drop i d → i < length b → length b ≡ length d → set b i 0 ≡ zeros (i + 1) ++ drop (i + 1) d
-clear_next d b i e l h = rw e (fill_more i 0 d (omega arith))
-
-pub clear_all : (d b : List ℕ) (i : ℕ) → b ≡ zeros i ++ drop i d → length b ≤ i → i ≤ length d → length b ≡ length d → b ≡ zeros (length d)
-clear_all d b i e l m h =
-    let f : i ≡ length d = omega arith in
-    e ∙ rw (f, drop-length, append-nil) refl
-
 pub stacked_length : (k : ℕ) (b : List ℕ) → length (stacked k b) ≡ length b
 unfolding stacked
 stacked_length zero b = refl

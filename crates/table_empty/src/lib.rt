@@ -9,11 +9,7 @@ ghost use Rattle.table_empty.specs.EmptyTable.{zeros, stacked, empty_table};
 pub fn clear(b: &mut [u8])
     ensures { b.new ≡ zeros (length b.old) }
 {
-    let mut i = 0;
-    while i < b.len() {
-        b[i] = 0;
-        i += 1;
-    }
+    b.fill(0);
 }
 
 // Puts every node of the pool on the stack of free nodes.
@@ -21,10 +17,8 @@ fn stack_all(t: &mut [u8])
     requires { length t.old ≡ table_bytes }
     ensures { t.new ≡ stacked max_nodes t.old }
 {
-    let mut k = 0;
-    while k < limits::MAX_NODES {
+    for k in 0..limits::MAX_NODES {
         tree_node::free::put_id(t, k, k);
-        k += 1;
     }
 }
 

@@ -1,4 +1,4 @@
--- The test of zero bytes, and of the header.
+-- The test of zero bytes.
 -- Assumes nothing.
 use mathlib.Core.Path.{◌≡◌, refl, sym, ◌∙◌}
 use mathlib.Core.Bool.{Bool, true, false}
@@ -11,9 +11,8 @@ use lib.Dec.{eqb}
 use borrow.Author.Tests.{eqb-true, eqb-false}
 use Rattle.words.specs.Words.{word_at}
 use Rattle.grid.specs.Says.{Says}
-use Rattle.grid.proofs.Says.{says_yes, says_no, says_map}
-use Rattle.table_header.specs.Layout.{flag_start, leg_start, length_start, layout_start, layout_number, tour_start, corner_start, tour_end, kept_start, kept_end}
-use Rattle.table_header.specs.Header.{ZeroFrom, FlagOk, HeaderOk}
+use Rattle.grid.proofs.Says.{says_map}
+use Rattle.table_header.specs.Header.{ZeroFrom, FlagOk}
 
 -- the bytes from lo up to i are 0
 pub record Zeroing (b : List ℕ) (lo hi i : ℕ) : Type 0 where
@@ -72,17 +71,3 @@ module _ (b : List ℕ) (i lo hi f : ℕ) (e : f ≡ word_at b i) where
       go : (t : Bool) → eqb f 1 ≡ t → Says t (FlagOk b i lo hi)
       go true k = let one = eqb-true f 1 k in record { flag = omega arith; unset = λ y. absurd (nz (e ∙ y)) }
       go false k = λ g. eqb-false f 1 k (let h = g.flag in omega arith)
-
--- ---- the header
-
-module _ (b : List ℕ) (q : Bool) (s : Says q (FlagOk b flag_start leg_start length_start)) where
-  pub leg_left : q ≡ false → ¬ HeaderOk b
-  leg_left x h = says_no q s x h.leg
-
-  module _ (y : q ≡ true) (p : Bool) (u : Says p (FlagOk b tour_start corner_start tour_end)) where
-    pub tour_left : p ≡ false → ¬ HeaderOk b
-    tour_left x h = says_no p u x h.tour
-
-    pub header_says : (n : ℕ) (r : Bool) → n ≡ word_at b layout_start → n ≡ layout_number → p ≡ true → Says r (ZeroFrom b kept_start kept_end) → Says r (HeaderOk b)
-    header_says n r a m z k =
-        says_map r (λ x. record { layout = sym a ∙ m; leg = says_yes q s y; tour = says_yes p u z; kept = x }) (λ h. h.kept) k

@@ -127,22 +127,20 @@ pub fn put_layout(t: &mut [u8])
 
 // Whether every byte from lo up to hi is 0.
 fn zero_from(t: &[u8], lo: usize, hi: usize) -> bool
-    requires { hi ≤ length t.now }
+    requires { (lo ≤ hi) × (hi ≤ length t.now) }
     ensures { Says result (ZeroFrom t.now lo hi) }
 {
-    let mut i = lo;
-    while i < hi {
+    for i in lo..hi {
         if t[i] != 0 {
             return false;
         }
-        i += 1;
     }
     true
 }
 
 // Whether the flag at byte i is 0 or 1, and where it is 0, every byte from lo up to hi is 0.
 fn flag_ok(t: &[u8], i: usize, lo: usize, hi: usize) -> bool
-    requires { (i + 2 ≤ length t.now) × (hi ≤ length t.now) }
+    requires { (i + 2 ≤ length t.now) × (lo ≤ hi) × (hi ≤ length t.now) }
     ensures { Says result (FlagOk t.now i lo hi) }
 {
     let flag = words::word(t, i);
@@ -157,16 +155,10 @@ pub fn header_ok(t: &[u8]) -> bool
     requires { length t.now ≡ table_bytes }
     ensures { Says result (HeaderOk t.now) }
 {
-    let layout = words::word(t, LAYOUT_START);
-    if layout != LAYOUT_NUMBER {
-        return false;
-    }
-    if flag_ok(t, FLAG_START, LEG_START, LENGTH_START) {
-        if flag_ok(t, TOUR_START, CORNER_START, TOUR_END) {
-            return zero_from(t, KEPT_START, KEPT_END);
-        }
-    }
-    false
+    words::word(t, LAYOUT_START) == LAYOUT_NUMBER
+        && flag_ok(t, FLAG_START, LEG_START, LENGTH_START)
+        && flag_ok(t, TOUR_START, CORNER_START, TOUR_END)
+        && zero_from(t, KEPT_START, KEPT_END)
 }
 
 // The number of a site, or none where it is 0: site numbers begin at 1.

@@ -44,11 +44,8 @@ pub fn line(t: &[u8], k: usize) -> Site
     let east = words::word(t, i + EAST_OFFSET);
     let north = words::word(t, i + NORTH_OFFSET);
     Site {
-        number: number,
-        position: Position {
-            east: east,
-            north: north,
-        },
+        number,
+        position: Position { east, north },
     }
 }
 
@@ -66,25 +63,7 @@ fn guess(k: usize, n: u16) -> usize
     requires { 0 < k }
     ensures { result < k }
 {
-    let past = n as usize;
-    if k < past {
-        return k - 1;
-    }
-    if past == 0 {
-        return 0;
-    }
-    past - 1
-}
-
-// The first record at which a number may stand that is less by `gap` than that of record k: numbers rise by one at
-// least.
-fn lowest(k: usize, gap: usize) -> usize
-    ensures { result ≡ k - gap }
-{
-    if k < gap {
-        return 0;
-    }
-    k - gap
+    usize::from(n).saturating_sub(1).min(k - 1)
 }
 
 // Where number n stands, by bisection of the records from `from` up to `to`.
@@ -115,16 +94,8 @@ fn share(n: u16, m: u16, lo: usize, hi: usize) -> usize
     requires { (n < m) × (lo < hi) × (hi ≤ max_sites) }
     ensures { (lo ≤ result) × (result < hi) }
 {
-    let all = hi + 1;
-    let past = n as usize * all / m as usize;
-    if past <= lo {
-        return lo;
-    }
-    // Never, since n < m: it spares a proof.
-    if hi < past {
-        return hi - 1;
-    }
-    past - 1
+    let past = usize::from(n) * (hi + 1) / usize::from(m);
+    past.saturating_sub(1).max(lo).min(hi - 1)
 }
 
 // Where number n stands, of the records from `from` up to `to`: a look at the first, and on in steps that double.
@@ -209,18 +180,9 @@ pub fn find(t: &[u8], n: u16) -> Result<usize, usize>
     if first < n {
         return bisect(t, n, at + 1, k);
     }
-    let gap = (first - n) as usize;
-    let from = lowest(at, gap);
+    // Numbers rise by one at least, so that n stands at no lower record.
+    let from = at.saturating_sub(usize::from(first - n));
     find_spread(t, n, from, at, first)
-}
-
-// The record after k, or k where it is the last of c.
-fn next(k: usize, c: usize) -> usize
-    requires { k < c }
-    ensures { (k ≤ result) × (result < c) }
-{
-    let j = k + 1;
-    if j < c { j } else { k }
 }
 
 // Record j where `there` says so, else record k. A choice of values: it falls either way as often, so that a branch
@@ -239,7 +201,7 @@ pub fn find_near(t: &[u8], n: u16, k: usize) -> Result<usize, usize>
 {
     let c = table_header::count(t);
     if k < c {
-        let j = next(k, c);
+        let j = (k + 1).min(c - 1);
         let at = either(number(t, j) == n, j, k);
         let m = number(t, at);
         if m == n {

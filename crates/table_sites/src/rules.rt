@@ -16,19 +16,7 @@ fn record_ok(t: &[u8], i: usize, low: u16) -> bool
     let east = words::word(t, i + EAST_OFFSET);
     let north = words::word(t, i + NORTH_OFFSET);
     let spare = words::word(t, i + SPARE_OFFSET);
-    if number <= low {
-        return false;
-    }
-    if limits::GRID_WIDTH < east {
-        return false;
-    }
-    if limits::GRID_WIDTH < north {
-        return false;
-    }
-    if spare != 0 {
-        return false;
-    }
-    true
+    low < number && east <= limits::GRID_WIDTH && north <= limits::GRID_WIDTH && spare == 0
 }
 
 // Whether the site array keeps the rules on sites.
@@ -40,15 +28,13 @@ pub fn check(t: &[u8]) -> bool
     if limits::MAX_SITES < n {
         return false;
     }
-    let mut low: u16 = 0;
-    let mut k = 0;
-    while k < n {
+    let mut low = 0;
+    for k in 0..n {
         let i = SITE_START + SITE_BYTES * k;
         if !record_ok(t, i, low) {
             return false;
         }
         low = words::word(t, i);
-        k += 1;
     }
     true
 }
