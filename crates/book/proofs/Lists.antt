@@ -85,12 +85,6 @@ module _ (b : Book) (ok : Proper b) where
   split_list : (l : Leg) → IsSplitList l (sites_of b) (split_of l (sites_of b))
   split_list l = split_is l (sites_of b) (proper_numbered b ok)
 
-  -- the first entry's site has a number from 1 on
-  pub first_held : (l : Leg) (e : Entry) (es : List Entry) → split_of l (sites_of b) ≡ e ∷ es → 1 ≤ e.site.number
-  first_held l e es h =
-      let r = subst (λ (x : List Entry). IsSplitList l (sites_of b) x) h (split_list l) in
-      (ok.numbers e.site (listed_held l (sites_of b) (e ∷ es) r.rules e (Memᴰ.head refl))).least
-
   -- A LISTED ANSWER is what the command shows of document 01's split list of its leg over the book's sites
   pub answer_list : (c : Command) (es : List Entry) → answer b c ≡ listed es → BookList b c es
   answer_list (Add n l) es h = absurd (done_not_listed es (accepted_listed b (Add n l) es h))

@@ -292,12 +292,20 @@ module _ (b : List ℕ) (l : Leg) (e : leg_in b ≡ Some l) where
   pub stored_done : (w : List ℕ) (m k : ℕ) → Sound b → m ≡ count_in b → m ≢ 0 → ListsTable l b w k → Decided (Ok (Verdict.Show l k)) Print b w
   stored_done w m k t c z f = shown b w Print l k (subst LegOk e t.standing.leg) f (answer_print_done (book_of b) l e (λ x. z (c ∙ sym (lines_length b) ∙ x))) refl
 
-module _ (b : List ℕ) (s : Option Leg) (q : s ≡ leg_in b) where
-  pub print_unset : (w : List ℕ) → s ≡ None → Decided (Err NoLeg) Print b w
-  print_unset w u = refusal b Print NoLeg (answer_print_legless (book_of b) (sym q ∙ u)) w
+module _ (b : List ℕ) (o : Option Leg) (q : o ≡ leg_in b) (r : Result Leg Cause) (or : r ≡ ok_or o NoLeg) where
+  pub print_unset : (w : List ℕ) (x : Cause) → r ≡ Err x → Decided (Err x) Print b w
+  print_unset w x e = go o q (sym or ∙ e)
+    where
+      go : (o : Option Leg) → o ≡ leg_in b → ok_or o NoLeg ≡ Err x → Decided (Err x) Print b w
+      go None q h = let y : NoLeg ≡ x = cc in subst (λ (c : Cause). Decided (Err c) Print b w) y (refusal b Print NoLeg (answer_print_legless (book_of b) (sym q)) w)
+      go (Some k) q h = absurd (let y : ◌≡◌ {A = ℕ} 0 1 = cc in omega arith)
 
-  pub print_along : (l : Leg) → s ≡ Some l → leg_in b ≡ Some l
-  print_along l u = sym q ∙ u
+  pub print_along : (l : Leg) → r ≡ Ok l → leg_in b ≡ Some l
+  print_along l e = go o q (sym or ∙ e)
+    where
+      go : (o : Option Leg) → o ≡ leg_in b → ok_or o NoLeg ≡ Ok l → leg_in b ≡ Some l
+      go None q h = absurd (let y : ◌≡◌ {A = ℕ} 0 1 = cc in omega arith)
+      go (Some k) q h = cc
 
 -- ---- all commands
 

@@ -4,7 +4,7 @@ use mathlib.Core.Path.{◌≡◌, refl, sym, ap, subst, ◌∙◌}
 use mathlib.Core.Logic.{◌≢◌}
 use mathlib.Core.Bool.{Bool, true, false, cond}
 use mathlib.Core.List.{List, [], ◌∷◌, ◌++◌}
-use Rattle.std.specs.Prelude.{Option, None, Some, Ok, Err}
+use Rattle.std.specs.Prelude.{Option, None, Some, Result, Ok, Err, ok_or}
 use Prim.Native.Nat.{ℕ, zero, suc, ◌-◌, ◌≤◌, ◌<◌}
 use native.Mathlib.Omega.{arith}
 use lib.ListN.{length, drop}
@@ -23,6 +23,7 @@ use Rattle.list_row.specs.Places.{site_at}
 use Rattle.list_row.specs.Vertices.{place_at, entries_in}
 use Rattle.list_row.specs.Entries.{row_entry, entries_from}
 use Rattle.list_row.proofs.Entries.{entries_one, entries_length}
+use Rattle.book.specs.declared.Cause.{Cause}
 use Rattle.book.specs.declared.Cause.TheVariants.{OffGrid, NoSite, NoTour}
 use Rattle.book.specs.declared.Command.TheVariants.{Begin, Corner}
 use Rattle.book.specs.declared.Tour.{Tour}
@@ -169,9 +170,17 @@ onward_some b w l m k f s c z = by k refl
 
 -- ---- 43: tour
 
-module _ (b : List ℕ) (p : Position) (r : Option Tour) (q : r ≡ tour_in b) where
-  pub corner_idle : (w : List ℕ) → r ≡ None → Decided (Err NoTour) (Corner p) b w
-  corner_idle w u = refusal b (Corner p) NoTour (answer_corner_tourless (book_of b) p (sym q ∙ u)) w
+module _ (b : List ℕ) (p : Position) (o : Option Tour) (q : o ≡ tour_in b) (r : Result Tour Cause) (or : r ≡ ok_or o NoTour) where
+  pub corner_idle : (w : List ℕ) (x : Cause) → r ≡ Err x → Decided (Err x) (Corner p) b w
+  corner_idle w x e = go o q (sym or ∙ e)
+    where
+      go : (o : Option Tour) → o ≡ tour_in b → ok_or o NoTour ≡ Err x → Decided (Err x) (Corner p) b w
+      go None q h = let y : NoTour ≡ x = cc in subst (λ (c : Cause). Decided (Err c) (Corner p) b w) y (refusal b (Corner p) NoTour (answer_corner_tourless (book_of b) p (sym q)) w)
+      go (Some k) q h = absurd (let y : ◌≡◌ {A = ℕ} 0 1 = cc in omega arith)
 
-  pub corner_runs : (tour : Tour) → r ≡ Some tour → tour_in b ≡ Some tour
-  corner_runs tour u = sym q ∙ u
+  pub corner_runs : (tour : Tour) → r ≡ Ok tour → tour_in b ≡ Some tour
+  corner_runs tour e = go o q (sym or ∙ e)
+    where
+      go : (o : Option Tour) → o ≡ tour_in b → ok_or o NoTour ≡ Ok tour → tour_in b ≡ Some tour
+      go None q h = absurd (let y : ◌≡◌ {A = ℕ} 0 1 = cc in omega arith)
+      go (Some k) q h = cc

@@ -15,7 +15,8 @@ use book::{Cause, Command};
 use grid::{Leg, Position, Site};
 
 // What the record of a command says: accepted, refused for a cause, or answered by a list, that of the leg in the row
-// that begins the work buffer, from one entry up to another.
+// that begins the work buffer, from one entry up to another. These are the definitions' three replies (`Reply`), each a
+// record of its own, so that a `Result` would be no plainer.
 #[derive(Clone, Copy)]
 pub enum Answer {
     Done,
@@ -49,7 +50,7 @@ pub fn reply(judged: Result<Verdict, Cause>) -> Answer
         Ok(Verdict::Place(_, _)) => Answer::Done,
         Ok(Verdict::Stand(_)) => Answer::Done,
         Ok(Verdict::Begin(_)) => Answer::Done,
-        Ok(Verdict::Follow(leg, j, _, k)) => Answer::Listed(leg, j as usize, k),
+        Ok(Verdict::Follow(leg, j, _, k)) => Answer::Listed(leg, usize::from(j), k),
     }
 }
 

@@ -1,8 +1,7 @@
 // The commands with a leg: its list, the standing leg, the standing list.
-ghost use Rattle.std.specs.Prelude.{◌≡◌, ◌≤◌, length, Some};
+ghost use Rattle.std.specs.Prelude.{◌≤◌, length};
 ghost use Rattle.book.specs.declared.Command.{Command};
 ghost use Rattle.list_row.specs.Vertices.{row_bytes};
-ghost use Rattle.table_header.specs.Header.{leg_in};
 ghost use Rattle.table_rules.specs.Table.{Sound};
 ghost use Rattle.call_judge.specs.Verdict.{Decided, Settled};
 
@@ -16,8 +15,7 @@ pub fn list(t: &[u8], work: &mut [u8], leg: Leg) -> Result<Verdict, Cause>
     ensures { Decided result (Command.List leg) t.now work.new }
 {
     if grid::coordinate::leg_on_grid(leg) {
-        let n = table_header::count(t);
-        if n == 0 {
+        if table_header::count(t) == 0 {
             return Err(Cause::NoSite);
         }
         let k = table_search::search(t, leg, work);
@@ -36,26 +34,15 @@ pub fn stand(t: &[u8], leg: Leg) -> Result<Verdict, Cause>
     Err(Cause::OffGrid)
 }
 
-// The standing list of a leg: site.
-fn stored(t: &[u8], work: &mut [u8], leg: Leg) -> Result<Verdict, Cause>
-    requires { Sound t.now × (leg_in t.now ≡ Some leg) × (row_bytes ≤ length work.old) }
-    ensures { Decided result Command.Print t.now work.new }
-{
-    let n = table_header::count(t);
-    if n == 0 {
-        return Err(Cause::NoSite);
-    }
-    let k = table_list::load(t, work, leg);
-    Ok(Verdict::Show(leg, k))
-}
-
 // The standing list: leg, site.
 pub fn print(t: &[u8], work: &mut [u8]) -> Result<Verdict, Cause>
     requires { Sound t.now × (row_bytes ≤ length work.old) }
     ensures { Decided result Command.Print t.now work.new }
 {
-    match table_header::leg(t) {
-        None => Err(Cause::NoLeg),
-        Some(leg) => stored(t, work, leg),
+    let leg = table_header::leg(t).ok_or(Cause::NoLeg)?;
+    if table_header::count(t) == 0 {
+        return Err(Cause::NoSite);
     }
+    let k = table_list::load(t, work, leg);
+    Ok(Verdict::Show(leg, k))
 }

@@ -44,39 +44,28 @@ fn shown(row: Row, last: Option<u16>) -> Result<Verdict, Cause>
     Ok(Verdict::Follow(row.leg, j, ending, row.k))
 }
 
-// The next leg of this tour: position, site.
-fn onward(t: &[u8], work: &mut [u8], tour: Tour, p: Position) -> Result<Verdict, Cause>
-    requires { Sound t.now × (tour_in t.now ≡ Some tour) × (row_bytes ≤ length work.old) }
-    ensures { Decided result (Command.Corner p) t.now work.new }
-{
-    if grid::coordinate::on_grid(p) {
-        let n = table_header::count(t);
-        if n == 0 {
-            return Err(Cause::NoSite);
-        }
-        let leg = Leg {
-            s: tour.corner,
-            e: p,
-        };
-        let k = table_search::search(t, leg, work);
-        let row = Row {
-            t,
-            places: work,
-            leg,
-            k,
-        };
-        return shown(row, tour.last);
-    }
-    Err(Cause::OffGrid)
-}
-
 // The next leg of a tour: tour, position, site.
 pub fn corner(t: &[u8], work: &mut [u8], p: Position) -> Result<Verdict, Cause>
     requires { Sound t.now × (row_bytes ≤ length work.old) }
     ensures { Decided result (Command.Corner p) t.now work.new }
 {
-    match table_header::tour(t) {
-        None => Err(Cause::NoTour),
-        Some(tour) => onward(t, work, tour, p),
+    let tour = table_header::tour(t).ok_or(Cause::NoTour)?;
+    if !grid::coordinate::on_grid(p) {
+        return Err(Cause::OffGrid);
     }
+    if table_header::count(t) == 0 {
+        return Err(Cause::NoSite);
+    }
+    let leg = Leg {
+        s: tour.corner,
+        e: p,
+    };
+    let k = table_search::search(t, leg, work);
+    let row = Row {
+        t,
+        places: work,
+        leg,
+        k,
+    };
+    shown(row, tour.last)
 }

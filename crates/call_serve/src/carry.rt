@@ -16,9 +16,9 @@ pub fn carry(t: &mut [u8], work: &mut [u8], v: Result<Verdict, Cause>)
     match v {
         Err(_) => {}
         Ok(Verdict::Show(_, _)) => {}
-        Ok(Verdict::Insert(k, site)) => table_change::insert(t, work, k as usize, site),
-        Ok(Verdict::Delete(k, n)) => table_change::delete(t, work, k as usize, n),
-        Ok(Verdict::Place(k, site)) => table_change::place(t, work, k as usize, site),
+        Ok(Verdict::Insert(k, site)) => table_change::insert(t, work, usize::from(k), site),
+        Ok(Verdict::Delete(k, n)) => table_change::delete(t, work, usize::from(k), n),
+        Ok(Verdict::Place(k, site)) => table_change::place(t, work, usize::from(k), site),
         Ok(Verdict::Stand(leg)) => table_change::stand(t, work, leg),
         Ok(Verdict::Begin(p)) => table_change::begin(t, p),
         Ok(Verdict::Follow(leg, _, n, _)) => table_change::follow(t, leg, n),

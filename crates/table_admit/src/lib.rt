@@ -15,7 +15,9 @@ fn lengths_ok(table: &[u8], work: &[u8]) -> bool
     table.len() == limits::TABLE_BYTES && work.len() == limits::WORK_BYTES
 }
 
-// Takes the table and the work buffer, or says why not. The work buffer is left after 64 and all zero after 65 and 69; where
+// Takes the table and the work buffer, or says why not. The table is one lent slice, and its length is tested here and
+// nowhere else: all that is called behind this door takes it for granted (`length t.now ≡ table_bytes`).
+// The work buffer is left after 64 and all zero after 65 and 69; where
 // the table is taken it holds what the tests left.
 pub fn admit(table: &[u8], work: &mut [u8]) -> Result<(), Reason>
     ensures { AdmittedAs result table.now work.old work.new }

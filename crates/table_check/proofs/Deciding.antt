@@ -89,41 +89,7 @@ module _ (b : List ℕ) (o : Option ℕ) where
       go (Ok k) a = at_held a
       go (Err k) a = λ h. true≢false (sym h ∙ absent_held a)
 
--- "a stored corner off the grid"
-module _ (b : List ℕ) (r : Option Tour) (q : r ≡ tour_in b) where
-  pub idle_ok : r ≡ None → TourOk (tour_in b) (lines_in b)
-  idle_ok u = subst (λ (o : Option Tour). TourOk o (lines_in b)) (sym u ∙ q) tt
-
-  module _ (k : Tour) (u : r ≡ Some k) (t : Bool) (s : Says t (OnGrid k.corner)) where
-    tour_is : tour_in b ≡ Some k
-    tour_is = sym q ∙ u
-
-    pub corner_off : t ≡ false → ¬ TourOk (tour_in b) (lines_in b)
-    corner_off e h = says_no t s e (subst (λ (o : Option Tour). TourOk o (lines_in b)) tour_is h).on_grid
-
-    pub corner_says : (v : Bool) → t ≡ true → Says v (LastHeld k.last (lines_in b)) → Says v (TourOk (tour_in b) (lines_in b))
-    corner_says v e h =
-        says_map v
-        (λ x. subst⁻¹ (λ (o : Option Tour). TourOk o (lines_in b)) tour_is (record { on_grid = says_yes t s e; held = x }))
-        (λ x. (subst (λ (o : Option Tour). TourOk o (lines_in b)) tour_is x).held)
-        h
-
 -- ---- sites, header, tour and tree
 
-module _ (b : List ℕ) (len : length b ≡ table_bytes) where
-  pub sites_not : (q : Bool) → Says q (SitesOk b) → q ≡ false → ¬ Whole b
-  sites_not q s e w = says_no q s e w.sites
-
-  pub header_not : (q : Bool) → Says q (HeaderOk b) → q ≡ false → ¬ Whole b
-  header_not q s e w = says_no q s e w.header
-
-  pub sites_yes : (q : Bool) → Says q (SitesOk b) → q ≡ true → Array b
-  sites_yes q s e = sites_array len (says_yes q s e)
-
-  pub tour_not : (q : Bool) → Says q (TourOk (tour_in b) (lines_in b)) → q ≡ false → ¬ Whole b
-  tour_not q s e w = says_no q s e w.tour
-
-  pub whole_says : (q p o r : Bool) → Says q (SitesOk b) → q ≡ true → Says p (HeaderOk b) → p ≡ true → Says o (TourOk (tour_in b) (lines_in b)) → o ≡ true
-      → Says r (Tied b) → Says r (Whole b)
-  whole_says q p o r s e h f u g t =
-      says_map r (λ x. record { len = len; sites = says_yes q s e; header = says_yes p h f; tour = says_yes o u g; tree = x }) (λ w. w.tree) t
+pub sites_yes : (b : List ℕ) → length b ≡ table_bytes → (q : Bool) → Says q (SitesOk b) → q ≡ true → Array b
+sites_yes b len q s e = sites_array len (says_yes q s e)

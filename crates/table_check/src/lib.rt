@@ -83,12 +83,8 @@ pub fn whole_ok(t: &[u8], work: &mut [u8]) -> bool
     requires { (length t.now ≡ table_bytes) × (seen_bytes ≤ length work.old) }
     ensures { Says result (Whole t.now) }
 {
-    if table_sites::rules::check(t) {
-        if table_header::header_ok(t) {
-            if tour_ok(t) {
-                return tree_check::check(t, &mut work[..tree_check::SEEN_BYTES]);
-            }
-        }
-    }
-    false
+    table_sites::rules::check(t)
+        && table_header::header_ok(t)
+        && tour_ok(t)
+        && tree_check::check(t, &mut work[..tree_check::SEEN_BYTES])
 }

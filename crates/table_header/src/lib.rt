@@ -47,7 +47,7 @@ pub fn count(t: &[u8]) -> usize
     requires { length t.now ≡ table_bytes }
     ensures { (result ≡ count_in t.now) × (result < 65536) }
 {
-    words::word(t, COUNT_START) as usize
+    usize::from(words::word(t, COUNT_START))
 }
 
 // Stores the number of sites.
@@ -106,7 +106,7 @@ pub fn length(t: &[u8]) -> usize
     requires { length t.now ≡ table_bytes }
     ensures { (result ≡ length_in t.now) × (result < 65536) }
 {
-    words::word(t, LENGTH_START) as usize
+    usize::from(words::word(t, LENGTH_START))
 }
 
 // Stores it.

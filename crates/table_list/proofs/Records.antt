@@ -1,6 +1,6 @@
 -- A line's record as a place.
 -- Assumes nothing.
-use mathlib.Core.Path.{◌≡◌, sym, ap, subst, ◌∙◌}
+use mathlib.Core.Path.{◌≡◌, refl, sym, ap, subst, ◌∙◌}
 use mathlib.Core.Bool.{true, true≢false}
 use mathlib.Core.List.{List, Memᴰ}
 use Prim.Native.Nat.{ℕ, ◌*◌, ◌≤◌, ◌<◌}
@@ -12,9 +12,9 @@ use Rattle.list_row.specs.Places.{site_at_byte, site_at}
 use Rattle.book.specs.Book.{holds}
 use Rattle.table_header.specs.Header.{count_in}
 use Rattle.table_sites.specs.Layout.{record_start}
-use Rattle.table_sites.specs.Lines.{lines_in, no_site, StandsAt, StandsNowhere}
+use Rattle.table_sites.specs.Lines.{lines_in, no_site, StandsAt}
 use Rattle.table_sites.specs.Rules.{SitesOk}
-use Rattle.std.specs.Prelude.{Result, Ok, Err}
+use Rattle.std.specs.Prelude.{Result, Ok, Err, IsOk}
 use Rattle.table_sites.specs.Lines.{FoundAs}
 use Rattle.table_sites.proofs.Reading.{lines_length, line_at_lem}
 use Rattle.table_sites.proofs.Finding.{found_at, at_member, absent_held}
@@ -38,7 +38,7 @@ module _ (b : List ℕ) (n : ℕ) (len : length b ≡ table_bytes) (s : SitesOk 
         site = record { small = omega (arith, s.few); inside = omega (arith, s.few); on_grid = s.on_grid (site_at b p) m };
       }
 
-  pub never_absent : (r : Result ℕ ℕ) (k : ℕ) → r ≡ Err k → FoundAs r n (lines_in b) → holds n (lines_in b) ≡ true → PlaceOf b n 0
-  never_absent r k e f h =
-      let g : StandsNowhere k n (lines_in b) = subst (λ (x : Result ℕ ℕ). FoundAs x n (lines_in b)) e f in
-      absurd (true≢false (sym h ∙ absent_held g))
+  -- a number that is held is found
+  pub found_held : (r : Result ℕ ℕ) → FoundAs r n (lines_in b) → holds n (lines_in b) ≡ true → IsOk r
+  found_held (Ok k) f h = refl
+  found_held (Err k) f h = absurd (true≢false (sym h ∙ absent_held f))

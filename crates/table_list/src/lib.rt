@@ -33,11 +33,8 @@ pub fn place_of(t: &[u8], n: u16) -> usize
     requires { (length t.now ≡ table_bytes) × SitesOk t.now × (holds n (lines_in t.now) ≡ true) }
     ensures { PlaceOf t.now n result }
 {
-    let found = table_sites::find(t, n);
-    match found {
-        Ok(k) => place_at(t, n, k),
-        Err(_) => 0,
-    }
+    let k = table_sites::find(t, n).unwrap();
+    place_at(t, n, k)
 }
 
 // Writes the places of the stored numbers into the row that begins the work buffer.
@@ -47,12 +44,10 @@ pub fn places(t: &[u8], work: &mut [u8]) -> usize
     ensures { PlacesOf t.now work.old work.new result }
 {
     let k = table_header::length(t);
-    let mut i = 0;
-    while i < k {
+    for i in 0..k {
         let n = table_standing::number(t, i);
         let p = place_of(t, n);
         list_row::put_place(work, i, p);
-        i += 1;
     }
     k
 }
@@ -71,13 +66,10 @@ pub fn lists(t: &[u8], n: u16) -> bool
     ensures { Says result (Memᴰ n (standing_in t.now)) }
 {
     let k = table_header::length(t);
-    let mut i = 0;
-    while i < k {
-        let m = table_standing::number(t, i);
-        if m == n {
+    for i in 0..k {
+        if table_standing::number(t, i) == n {
             return true;
         }
-        i += 1;
     }
     false
 }
@@ -102,11 +94,5 @@ pub fn end_shuts(t: &[u8], leg: Leg, x: Vertex) -> bool
     ensures { If result (EntryShuts leg t.now x.a x.c) }
 {
     let k = table_header::length(t);
-    if k == 0 {
-        return false;
-    }
-    if entry_shuts(t, leg, k - 1, x) {
-        return true;
-    }
-    entry_shuts(t, leg, 0, x)
+    k > 0 && (entry_shuts(t, leg, k - 1, x) || entry_shuts(t, leg, 0, x))
 }

@@ -35,6 +35,7 @@ pub fn insert(t: &mut [u8], k: usize, site: Site)
 {
     let n = table_header::count(t);
     let to = SITE_START + SITE_BYTES * k;
+    // Proved to lose no bit, as below: a `try_from` would test what is known.
     let more = (n + 1) as u16;
     words::shift(t, to, to + SITE_BYTES, SITE_BYTES * (n - k));
     put_site(t, to, site);

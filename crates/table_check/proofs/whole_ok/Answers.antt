@@ -1,4 +1,4 @@
-use Rattle.table_check.proofs.Deciding.{sites_yes, sites_not, header_not, tour_not, whole_says}
+use Rattle.table_check.proofs.Deciding.{sites_yes}
 use lib.Seq.{length-take-le}
 use borrow.Author.Rules.{rules}
 use Rattle.table_check.proofs.whole_ok.Goals as goal
@@ -11,15 +11,3 @@ slice_bounds-check-end-then-tour_ok c = search (rules, length-take-le)
 
 pub check-requires-then-tour_ok : goal.check-requires-then-tour_ok
 check-requires-then-tour_ok c = (search (rules, sites_yes), search (rules, length-take-le))
-
-pub returns-then-tour_ok : goal.returns-then-tour_ok
-returns-then-tour_ok c = search (rules, whole_says)
-
-pub returns-else-tour_ok : goal.returns-else-tour_ok
-returns-else-tour_ok c = search (rules, tour_not)
-
-pub returns-else-header_ok : goal.returns-else-header_ok
-returns-else-header_ok c = search (rules, header_not)
-
-pub returns-else-check : goal.returns-else-check
-returns-else-check c = search (rules, sites_not)

@@ -6,8 +6,8 @@ use Rattle.table_list.proofs.lists.Goals as goal
 pub loop-i-init : goal.loop-i-init
 loop-i-init c = search (rules, unnamed_none)
 
-pub returns-then-m-n : goal.returns-then-m-n
-returns-then-m-n c = search (rules, named)
+pub returns-then-number-n : goal.returns-then-number-n
+returns-then-number-n c = search (rules, named)
 
 pub loop-i-preserved : goal.loop-i-preserved
 loop-i-preserved c = search (rules, unnamed_one)

@@ -2,8 +2,8 @@ use Rattle.call_judge.proofs.Deciding.{list_none, leg_yes, list_done, list_off}
 use borrow.Author.Rules.{rules}
 use Rattle.call_judge.proofs.list.list.Goals as goal
 
-pub returns-then-n-eq0 : goal.returns-then-n-eq0
-returns-then-n-eq0 c = search (rules, list_none)
+pub returns-then-count-eq0 : goal.returns-then-count-eq0
+returns-then-count-eq0 c = search (rules, list_none)
 
 pub search-k-requires : goal.search-k-requires
 search-k-requires c = (search rules, search (rules, leg_yes), search rules)
