@@ -83,13 +83,12 @@ pub fn is_finite(x: f32) -> bool
 }
 
 // Where two readings are, in steps, if both are finite.
+#[tactic(auto, using(crate::proofs::Answers::finite_told, crate::proofs::Answers::survey_first, crate::proofs::Answers::survey_second, crate::proofs::Answers::survey_both))]
 fn survey(r: Reading) -> Option<Position>
     ensures { result ≡ located_at (Location.InMetres r) }
 {
-    if is_finite(r.easting) {
-        if is_finite(r.northing) {
-            return Some(step(r));
-        }
+    if is_finite(r.easting) && is_finite(r.northing) {
+        return Some(step(r));
     }
     None
 }

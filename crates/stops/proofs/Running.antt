@@ -40,19 +40,19 @@ made_more : (t : List ℕ) (cs : List Call) (t₁ : List ℕ) (c : Call) (t' : L
 made_more t cs t₁ c t' none h = next h none
 made_more t (d ∷ cs) t₁ c t' (next {t₁ = t₂} m k) h = next m (made_more t₂ cs t₁ c t' k h)
 
--- where a run stands: from the input s₀, the report rep₀ and the table t₀ it came to s, rep and t, holds so many bytes and has so many turns
+-- where a run stands: from the input s₀, the report rep₀ and the table t₀ it came to s, rep and t in so many turns, and holds so many bytes
 pub record Running (s₀ rep₀ t₀ t w s rep : List ℕ) (held turns : ℕ) : Type 0 where
   pub calls : List Call
   pub fed : Fed (length s₀) (length rep₀) calls (take held s)
   pub made : Made t₀ calls t
-  pub counted : length calls + turns ≡ most_calls
+  pub counted : length calls ≡ turns
   pub sound : Sound t
   pub buffers : Buffers w s rep
   pub input : length s ≡ length s₀
   pub report : length rep ≡ length rep₀
   pub inside : held ≤ length s
 
-pub running_first : (t w s rep : List ℕ) → Sound t → Buffers w s rep → Running s rep t t w s rep 0 most_calls
+pub running_first : (t w s rep : List ℕ) → Sound t → Buffers w s rep → Running s rep t t w s rep 0 0
 running_first t w s rep h bs =
     record {
       calls = [];
@@ -67,8 +67,8 @@ running_first t w s rep h bs =
     }
 
 module _ (s₀ rep₀ t₀ t w s rep : List ℕ) (held turns : ℕ) (v : Running s₀ rep₀ t₀ t w s rep held turns) where
-  pub running_spent : turns ≤ 0 → Series (length s₀) (length rep₀) t₀ Spent t
-  running_spent z = record { calls = v.calls; are = spent v.fed (omega (arith, v.counted)); made = v.made }
+  pub running_spent : most_calls ≤ turns → turns ≤ most_calls → Series (length s₀) (length rep₀) t₀ Spent t
+  running_spent y z = record { calls = v.calls; are = spent v.fed (omega (arith, v.counted)); made = v.made }
 
   module _ (r : Next) (t' w' s' rep' : List ℕ) (u : Turned held t w s rep r t' w' s' rep') where
     abbrev call : Call
@@ -80,11 +80,11 @@ module _ (s₀ rep₀ t₀ t w s rep : List ℕ) (held turns : ℕ) (v : Running
     calls_made : Made t₀ (v.calls ++ (call ∷ [])) t'
     calls_made = made_more t₀ v.calls t call t' v.made u.made
 
-    pub running_next : (n : ℕ) → r ≡ More n → 0 < turns → length w' ≡ length w → length rep' ≡ length rep
-        → Running s₀ rep₀ t₀ t' w' s' rep' n (turns - 1)
-    running_next n e l lw lr = go u.taken u.proceeds
+    pub running_next : (n : ℕ) → r ≡ More n → length w' ≡ length w → length rep' ≡ length rep
+        → Running s₀ rep₀ t₀ t' w' s' rep' n (turns + 1)
+    running_next n e lw lr = go u.taken u.proceeds
       where
-        go : (q : Bool) → Proceeds (length s) u.result.reason (rest_of (return_of u.result) (take held s)) q r s' → Running s₀ rep₀ t₀ t' w' s' rep' n (turns - 1)
+        go : (q : Bool) → Proceeds (length s) u.result.reason (rest_of (return_of u.result) (take held s)) q r s' → Running s₀ rep₀ t₀ t' w' s' rep' n (turns + 1)
         go false g = absurd (let z : ◌≡◌ {A = ℕ} 0 1 = cc in omega arith)
         go true g =
             let f = subst (λ (x : Next). Follows (length s) u.result.reason (rest_of (return_of u.result) (take held s)) x s') e g in

@@ -18,7 +18,8 @@ use std::io::Read;
 // "ends with 2E and the reason byte"
 const END_MARK: u8 = 0x2E;
 
-// How a batch ended, how many bytes it left, and whether its report was taken.
+// How a batch ended, how many bytes it left, and whether its report was taken: the reason and the bytes count as well
+// where it was not.
 #[derive(Clone, Copy)]
 struct Batched {
     reason: Reason,
@@ -26,7 +27,8 @@ struct Batched {
     taken: bool,
 }
 
-// What a read behind the held bytes gave: so many are held now, the input is at its end, or the read failed.
+// What a read behind the held bytes gave: so many are held now, the input is at its end, or the read failed. An enum
+// names the three: a Result of an Option would say the same with two types.
 #[derive(Clone, Copy)]
 enum Got {
     Bytes(usize),
@@ -35,7 +37,8 @@ enum Got {
 }
 
 // What follows a batch: one more over so many bytes, or the end with its reason. Or the run breaks off: the input
-// cannot be read, the report was not taken, or the count of turns is spent.
+// cannot be read, the report was not taken, or the count of turns is spent. The ways to break off have no more in common
+// than that nothing is written behind them, so they are cases beside the others and no error type.
 #[derive(Clone, Copy)]
 enum Next {
     More(usize),
@@ -91,9 +94,9 @@ fn serve(
     let taken = streams::write_all(rt, &report[..written]);
     let left = keep(input, used, held);
     Batched {
-        reason: reason,
-        left: left,
-        taken: taken,
+        reason,
+        left,
+        taken,
     }
 }
 
@@ -180,7 +183,7 @@ fn turn(
     proceed(rt, reader, input, b)
 }
 
-// The turns, to the end. Nothing says that an input ends, so they are counted down, from a number that no run uses up.
+// The turns, to the end. Nothing says that an input ends, so they are counted, to a number that no run uses up.
 fn run(
     rt: &(impl Print + Eprint),
     reader: &mut impl Read,
@@ -194,14 +197,12 @@ fn run(
         result table.new }
 {
     let mut held = 0;
-    let mut turns = u64::MAX;
-    while turns > 0 {
+    for _ in 0..u64::MAX {
         let next = turn(rt, reader, table, work, input, held, report);
         match next {
             Next::More(n) => held = n,
             _ => return next,
         }
-        turns -= 1;
     }
     Next::Spent
 }

@@ -2,14 +2,14 @@ use borrow.Author.Rules.{rules}
 use Rattle.stops.proofs.Running.{running_first, running_spent, running_next, running_last}
 use Rattle.stops.proofs.run.Goals as goal
 
-pub loop-turns-init : goal.loop-turns-init
-loop-turns-init g c = search (rules, running_first)
+pub loop-init : goal.loop-init
+loop-init g c = search (rules, running_first)
 
 pub returns-in_default : goal.returns-in_default
 returns-in_default g c = search (rules, running_last, c.in_default.not-More)
 
-pub loop-turns-preserved : goal.loop-turns-preserved
-loop-turns-preserved g c = search (rules, running_next)
+pub loop-preserved : goal.loop-preserved
+loop-preserved g c = search (rules, running_next)
 
 pub returns : goal.returns
 returns g c = search (rules, running_spent)
