@@ -1,4 +1,4 @@
--- The loop of `orderly`: what is still to be tested says whether all is well. And the returns of `ready`.
+-- The loop of `orderly`: what is still to be tested says whether all is well.
 -- Assumes nothing.
 use mathlib.Core.Path.{◌≡◌, sym, subst}
 use mathlib.Core.Bool.{Bool, true, false}
@@ -63,17 +63,3 @@ module _ {t : List ℕ} {n last i : ℕ} (d : Tested t n last i) (h : i < n) {p 
 pub tested_all : {t : List ℕ} {n last i : ℕ} → Tested t n last i → n ≤ i → Orderly 0 (sites_from t 0 n)
 unfolding sites_from
 tested_all {t} {n} {last} {i} d h = let e : n - i ≡ 0 = omega arith in d.to (rw e tt)
-
--- The returns of `ready`.
-module _ (t : List ℕ) (n : ℕ) (l : Leg) (room : ℕ) (a : Bool) where
-  pub not_ready_s : Says a (OnGrid l.s) → a ≡ false → ¬ Buildable t n l room
-  not_ready_s ha e h = (rw e at ha) h.leg.s
-
-  pub not_ready_e : Says a (OnGrid l.e) → a ≡ false → ¬ Buildable t n l room
-  not_ready_e ha e h = (rw e at ha) h.leg.e
-
-  pub ready_is : Says a (OnGrid l.s) → a ≡ true → (b : Bool) → Says b (OnGrid l.e) → b ≡ true → n ≤ max_sites → 8 * n ≤ length t → row_bytes ≤ room
-      → (f : Bool) → Says f (Orderly 0 (sites_from t 0 n)) → Says f (Buildable t n l room)
-  ready_is ha ea b hb eb few inside work true o =
-      record { few = few; inside = inside; work = work; leg = record { s = rw ea at ha; e = rw eb at hb }; sites = o }
-  ready_is ha ea b hb eb few inside work false o = λ h. o h.sites

@@ -61,14 +61,3 @@ module _ (t r : List ℕ) (i p : ℕ) (e : p ≡ word_at r (2 * i)) where
   pub number_is : (n : ℕ) → n ≡ word_at t (2 * p) → n ≡ (site_at t (place_at r i)).number
   unfolding place_at site_at_byte
   number_is n f = subst (λ (q : ℕ). n ≡ word_at t (2 * q)) e f
-
--- What reading one of a row of k asks for.
-module _ (l : Leg) (t r : List ℕ) (k i : ℕ) (h : Held l t r k) (g : i < k) where
-  pub row_there : 2 * i + 2 ≤ length r
-  row_there = omega (arith, h.inside)
-
-  pub row_has : HasSite t (place_at r i)
-  row_has = h.sites i g
-
-  pub number_there : (2 * i + 2 ≤ length r) × HasSite t (place_at r i)
-  number_there = (row_there, row_has)

@@ -7,9 +7,6 @@ use Rattle.list_row.proofs.Entries.{from_length}
 use Rattle.call_record.proofs.Entries.{record_is}
 use Rattle.call_record.proofs.put_list.Goals as goal
 
-pub put_word-requires : goal.put_word-requires
-put_word-requires c = simp length-set (omega arith)
-
 pub put_entries-requires : goal.put_entries-requires
 put_entries-requires c =
     let w = simp length-set at c.put_word.auto.b in

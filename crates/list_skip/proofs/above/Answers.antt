@@ -4,9 +4,6 @@ use Rattle.split.proofs.Skipping.{shut_edge}
 use Rattle.list_skip.proofs.Witnesses.{if_so}
 use Rattle.list_skip.proofs.above.Goals as goal
 
-pub weigh-here-requires : goal.weigh-here-requires
-weigh-here-requires c = omega (arith, c.requires)
-
 pub returns : goal.returns
 returns c =
     if_so _ (λ e. shut_edge c.args.u c.args.v c.args.corner.a c.args.corner.c _ _ (omega arith) (omega arith) (omega arith) (omega arith)

@@ -4,12 +4,9 @@ use Prim.Native.Nat.{◌<◌}
 use native.Mathlib.Omega.{arith}
 use lib.ListN.{length}
 use Rattle.tree_node.specs.Node.{entries}
-use Rattle.tree_search.proofs.Corners.{measured_none, measured_next}
+use Rattle.tree_search.proofs.Corners.{measured_next}
 use Rattle.tree_search.proofs.boxes.measure.Goals as goal
 use Rattle.tree_search.proofs.boxes.measure.Goals.{then-far-least, else-far-least}
-
-pub loop-i-init : goal.loop-i-init
-loop-i-init c = (search measured_none, search rules, search rules)
 
 pub loop-i-preserved : goal.loop-i-preserved
 loop-i-preserved c =
