@@ -91,10 +91,10 @@ pub fn call_damaged() -> Damaged
     let leg = hit_leg(&mut table);
     let siteless = hit_siteless(&mut table);
     Damaged {
-        length: length,
-        flag: flag,
-        zeros: zeros,
-        leg: leg,
-        siteless: siteless,
+        length,
+        flag,
+        zeros,
+        leg,
+        siteless,
     }
 }

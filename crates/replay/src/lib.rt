@@ -59,10 +59,7 @@ fn small_call(table: &mut [u8], commands: &[u8]) -> Heard
 {
     let mut report = [0u8; 2];
     let result = call(table, commands, &mut report);
-    Heard {
-        result: result,
-        report: report,
-    }
+    Heard { result, report }
 }
 
 // The same with a work buffer of one byte.
@@ -73,10 +70,7 @@ fn short_call(table: &mut [u8], commands: &[u8]) -> Heard
     let mut work = [0u8; 1];
     let mut report = [0u8; 2];
     let result = service::batch(table, &mut work, commands, &mut report);
-    Heard {
-        result: result,
-        report: report,
-    }
+    Heard { result, report }
 }
 
 // Lays out a table and adds sites 1 and 2, once with too short a work buffer.
@@ -88,10 +82,7 @@ fn begin(table: &mut [u8]) -> Opening
     let add = [0x41u8, 1, 0, 2, 0, 3, 0, 0x41, 2, 0, 7, 0, 1, 0];
     let short = short_call(table, &add);
     let used = small_call(table, &add);
-    Opening {
-        short: short,
-        used: used,
-    }
+    Opening { short, used }
 }
 
 // Adds site 3, with an unknown command behind it; removes it, with a cut command behind that; asks for a leg
@@ -105,11 +96,7 @@ fn go_on(table: &mut [u8]) -> Closing
     let cut = small_call(table, &remove);
     let list = [0x4Cu8, 0, 0, 0, 0, 10, 0, 0, 0];
     let full = small_call(table, &list);
-    Closing {
-        unknown: unknown,
-        cut: cut,
-        full: full,
-    }
+    Closing { unknown, cut, full }
 }
 
 // Lays out a table and adds site 2, and in another batch site 1.
@@ -146,9 +133,9 @@ pub fn replay() -> Row
     refill(&mut fresh);
     let theirs = ask_ten(&mut fresh);
     Row {
-        opening: opening,
-        closing: closing,
-        ours: ours,
-        theirs: theirs,
+        opening,
+        closing,
+        ours,
+        theirs,
     }
 }

@@ -64,78 +64,42 @@ fn longer_call(table: &mut [u8], commands: &[u8]) -> Longer
 {
     let mut report = [0u8; 24];
     let result = call(table, commands, &mut report);
-    Longer {
-        result: result,
-        report: report,
-    }
+    Longer { result, report }
 }
 
-// Lays out a table, and adds site 1 at -150 m and negative zero; a print behind it finds no room.
-fn survey_first(table: &mut [u8]) -> Heard
+// Lays out a table, and makes the first call on it.
+fn begin(table: &mut [u8], commands: &[u8]) -> Heard
     requires { length table.old ≡ table_bytes }
-    ensures { Begun survey result table.new }
+    ensures { Begun commands.now result table.new }
 {
     service::lay_out(table);
-    let asked = [0x61u8, 1, 0, 0, 0, 22, 195, 0, 0, 0, 128, 0x50];
-    small_call(table, &asked)
+    small_call(table, commands)
 }
 
-// Moves site 1 to 150 m and 250 m. Adds site 3 at 1,200,050 m, with an unknown command behind it. Adds site 2 by steps
-// and asks for a leg, with a cut addition behind it.
-fn survey_on(table: &mut [u8]) -> Rest
-    ensures { GoneOn move_one add_beyond list_cut result table.old table.new }
+// Three calls more.
+fn go_on(table: &mut [u8], used: &[u8], unknown: &[u8], cut: &[u8]) -> Rest
+    ensures { GoneOn used.now unknown.now cut.now result table.old table.new }
 {
-    let move_one = [0x6Du8, 1, 0, 0, 0, 22, 67, 0, 0, 122, 67];
-    let used = small_call(table, &move_one);
-    let add_beyond = [0x61u8, 3, 0, 144, 125, 146, 73, 0, 0, 0, 0, 0xFF];
-    let unknown = small_call(table, &add_beyond);
-    let list_cut = [65u8, 2, 0, 7, 0, 1, 0, 76, 0, 0, 0, 0, 10, 0, 0, 0, 97];
-    let cut = longer_call(table, &list_cut);
-    Rest {
-        used: used,
-        unknown: unknown,
-        cut: cut,
-    }
+    let used = small_call(table, used);
+    let unknown = small_call(table, unknown);
+    let cut = longer_call(table, cut);
+    Rest { used, unknown, cut }
 }
 
-// The first call with the steps written out.
-fn step_first(table: &mut [u8]) -> Heard
-    requires { length table.old ≡ table_bytes }
-    ensures { Begun steps result table.new }
-{
-    service::lay_out(table);
-    let asked = [0x41u8, 1, 0, 0xFE, 0xFF, 0, 0, 0x50];
-    small_call(table, &asked)
-}
-
-// The others.
-fn step_on(table: &mut [u8]) -> Rest
-    ensures { GoneOn move_one_steps add_beyond_steps list_cut_steps result table.old table.new }
-{
-    let move_one = [0x4Du8, 1, 0, 2, 0, 3, 0];
-    let used = small_call(table, &move_one);
-    let add_beyond = [0x41u8, 3, 0, 0xFF, 0x7F, 0, 0, 0xFF];
-    let unknown = small_call(table, &add_beyond);
-    let list_cut = [65u8, 2, 0, 7, 0, 1, 0, 76, 0, 0, 0, 0, 10, 0, 0, 0, 65];
-    let cut = longer_call(table, &list_cut);
-    Rest {
-        used: used,
-        unknown: unknown,
-        cut: cut,
-    }
-}
-
-// The four calls with readings.
+// The four calls with readings. Adds site 1 at -150 m and negative zero; a print behind it finds no room. Moves site 1
+// to 150 m and 250 m. Adds site 3 at 1,200,050 m, with an unknown command behind it. Adds site 2 by steps and asks for
+// a leg, with a cut addition behind it.
 fn survey_all(table: &mut [u8]) -> Readings
     requires { length table.old ≡ table_bytes }
     ensures { Run survey move_one add_beyond list_cut result table.new }
 {
-    let full = survey_first(table);
-    let rest = survey_on(table);
-    Readings {
-        full: full,
-        rest: rest,
-    }
+    let survey = [0x61u8, 1, 0, 0, 0, 22, 195, 0, 0, 0, 128, 0x50];
+    let move_one = [0x6Du8, 1, 0, 0, 0, 22, 67, 0, 0, 122, 67];
+    let add_beyond = [0x61u8, 3, 0, 144, 125, 146, 73, 0, 0, 0, 0, 0xFF];
+    let list_cut = [65u8, 2, 0, 7, 0, 1, 0, 76, 0, 0, 0, 0, 10, 0, 0, 0, 97];
+    let full = begin(table, &survey);
+    let rest = go_on(table, &move_one, &add_beyond, &list_cut);
+    Readings { full, rest }
 }
 
 // The same four with the steps written out.
@@ -143,60 +107,44 @@ fn step_all(table: &mut [u8]) -> Readings
     requires { length table.old ≡ table_bytes }
     ensures { Run steps move_one_steps add_beyond_steps list_cut_steps result table.new }
 {
-    let full = step_first(table);
-    let rest = step_on(table);
-    Readings {
-        full: full,
-        rest: rest,
-    }
+    let steps = [0x41u8, 1, 0, 0xFE, 0xFF, 0, 0, 0x50];
+    let move_one = [0x4Du8, 1, 0, 2, 0, 3, 0];
+    let add_beyond = [0x41u8, 3, 0, 0xFF, 0x7F, 0, 0, 0xFF];
+    let list_cut = [65u8, 2, 0, 7, 0, 1, 0, 76, 0, 0, 0, 0, 10, 0, 0, 0, 65];
+    let full = begin(table, &steps);
+    let rest = go_on(table, &move_one, &add_beyond, &list_cut);
+    Readings { full, rest }
 }
 
-// Additions that are not taken: of site 0, no number and off the grid; of site 1, which is held, the same; and then
-// off the grid alone.
-fn add_badly(table: &mut [u8]) -> Refusals
-    ensures { NotTaken add_zero add_infinite add_held result table.old table.new }
+// Three calls that are not taken.
+fn refuse(table: &mut [u8], zero: &[u8], infinite: &[u8], beyond: &[u8]) -> Refusals
+    ensures { NotTaken zero.now infinite.now beyond.now result table.old table.new }
 {
-    let number_zero = [0x61u8, 0, 0, 0, 0, 192, 127, 144, 125, 146, 73];
-    let zero = small_call(table, &number_zero);
-    let not_finite = [0x61u8, 1, 0, 0, 0, 192, 127, 144, 125, 146, 73];
-    let infinite = small_call(table, &not_finite);
-    let off_grid = [0x61u8, 1, 0, 144, 125, 146, 73, 0, 0, 0, 0];
-    let beyond = small_call(table, &off_grid);
+    let zero = small_call(table, zero);
+    let infinite = small_call(table, infinite);
+    let beyond = small_call(table, beyond);
     Refusals {
-        zero: zero,
-        infinite: infinite,
-        beyond: beyond,
+        zero,
+        infinite,
+        beyond,
     }
 }
 
-// Moves that are not taken: of site 0, off the grid and minus infinity; of site 9, which is not held, the same; and
+// All that is not taken. Additions: of site 0, no number and off the grid; of site 1, which is held, the same; and then
+// off the grid alone. Moves: of site 0, off the grid and minus infinity; of site 9, which is not held, the same; and
 // then the largest number south.
-fn move_badly(table: &mut [u8]) -> Refusals
-    ensures { NotTaken move_zero move_infinite move_absent result table.old table.new }
-{
-    let number_zero = [0x6Du8, 0, 0, 144, 125, 146, 73, 0, 0, 128, 255];
-    let zero = small_call(table, &number_zero);
-    let not_finite = [0x6Du8, 9, 0, 144, 125, 146, 73, 0, 0, 128, 255];
-    let infinite = small_call(table, &not_finite);
-    let off_grid = [0x6Du8, 9, 0, 0, 0, 0, 0, 255, 255, 127, 255];
-    let beyond = small_call(table, &off_grid);
-    Refusals {
-        zero: zero,
-        infinite: infinite,
-        beyond: beyond,
-    }
-}
-
-// All that is not taken.
 fn survey_badly(table: &mut [u8]) -> Badly
     ensures { BothNotTaken result table.old table.new }
 {
-    let adds = add_badly(table);
-    let moves = move_badly(table);
-    Badly {
-        adds: adds,
-        moves: moves,
-    }
+    let add_zero = [0x61u8, 0, 0, 0, 0, 192, 127, 144, 125, 146, 73];
+    let add_infinite = [0x61u8, 1, 0, 0, 0, 192, 127, 144, 125, 146, 73];
+    let add_held = [0x61u8, 1, 0, 144, 125, 146, 73, 0, 0, 0, 0];
+    let adds = refuse(table, &add_zero, &add_infinite, &add_held);
+    let move_zero = [0x6Du8, 0, 0, 144, 125, 146, 73, 0, 0, 128, 255];
+    let move_infinite = [0x6Du8, 9, 0, 144, 125, 146, 73, 0, 0, 128, 255];
+    let move_absent = [0x6Du8, 9, 0, 0, 0, 0, 0, 255, 255, 127, 255];
+    let moves = refuse(table, &move_zero, &move_infinite, &move_absent);
+    Badly { adds, moves }
 }
 
 // The calls with receiver readings.
@@ -210,9 +158,9 @@ pub fn call_surveyed() -> Surveyed
     let refused = survey_badly(&mut table);
     let alike = survey_badly(&mut other);
     Surveyed {
-        metres: metres,
-        steps: steps,
-        refused: refused,
-        alike: alike,
+        metres,
+        steps,
+        refused,
+        alike,
     }
 }

@@ -1,6 +1,0 @@
-use Rattle.replay.proofs.Surveying.{survey_begun}
-use borrow.Author.Rules.{rules}
-use Rattle.replay.proofs.survey.survey_first.Goals as goal
-
-pub returns : goal.returns
-returns c = search (rules, survey_begun)
