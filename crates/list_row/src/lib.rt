@@ -125,7 +125,8 @@ pub struct Gap {
 // So many steps from a guess; then a bisection is quicker, however wrong the guess is.
 const STEPS: usize = 8;
 
-// The list of a leg as it is read: the table, and a row whose first k places are the vertices of a hull.
+// The list of a leg as it is read: the table, and a row whose first k places are the vertices of a hull. Functions that
+// write the row take its bytes, which are lent to them alone, and make a `Row` of them for what they read.
 #[derive(Clone, Copy)]
 pub struct Row<'a> {
     pub t: &'a [u8],
