@@ -21,14 +21,7 @@ pub fn lower(v: Corner, corner: Corner) -> bool
     requires { SmallCorner v × SmallCorner corner }
     ensures { If result (Shut v v corner.a corner.c) }
 {
-    if corner.a < v.a {
-        return false;
-    }
-    if corner.c < v.c {
-        return false;
-    }
-    let sum = v.a + v.c;
-    sum < corner.a + corner.c
+    v.a <= corner.a && v.c <= corner.c && v.a + v.c < corner.a + corner.c
 }
 
 // What is compared at the weights m and n.
