@@ -1,13 +1,13 @@
 -- The smallest box of a node: how it is read entry by entry, and that it holds every entry's.
 -- Assumes nothing.
-use mathlib.Core.Path.{◌≡◌, refl, ap, subst, ◌∙◌}
-use mathlib.Core.List.{List, [], ◌∷◌, ◌++◌}
+use mathlib.Core.Path.{◌≡◌, refl, ap, ◌∙◌}
+use mathlib.Core.List.{List, [], ◌∷◌}
 use Prim.Native.Nat.{ℕ, suc, ◌-◌, ◌≤◌, ◌<◌}
 use native.Mathlib.Omega.{arith}
 use lib.ListN.{length, get_or, drop, drop_of_length-le}
 use lib.Seq.{drop-cons}
 use Rattle.tree_node.specs.declared.NodeEntry.{NodeEntry}
-use Rattle.tree_node.specs.Node.{entries, no_entry, Wrote}
+use Rattle.tree_node.specs.Node.{no_entry}
 use Rattle.tree_node.specs.Boxes.{grow, hull, InBox}
 
 -- the entries are passed from the last to the first
@@ -41,6 +41,3 @@ in_grow d f = omega arith
 pub in_grown : (d f : NodeEntry) → InBox f (grow d f)
 unfolding grow
 in_grown d f = omega arith
-
-pub lifted : (n c : ℕ) (f : NodeEntry) (b b' : List ℕ) → f ≡ hull c (entries b c) → Wrote n (entries b n ++ (f ∷ [])) b b' → Wrote n (entries b n ++ (hull c (entries b c) ∷ [])) b b'
-lifted n c f b b' q w = subst (λ (x : NodeEntry). Wrote n (entries b n ++ (x ∷ [])) b b') q w
