@@ -120,7 +120,8 @@ fn climb(t: &[u8], n: u16, from: usize, to: usize) -> Result<usize, usize>
     bisect(t, n, lo, to)
 }
 
-// The same from the last one down.
+// The same from the last one down. Bounds, steps and comparison all turn round, so that one function for both, with a
+// closure for each, would be no plainer.
 fn fall(t: &[u8], n: u16, from: usize, to: usize) -> Result<usize, usize>
     requires { Array t.now × Narrowed t.now n from to }
     ensures { FoundAs result n (lines_in t.now) }
