@@ -8,6 +8,7 @@ ghost use Rattle.book.specs.Proper.{NumberOk};
 ghost use Rattle.table_rules.specs.Table.{Sound};
 ghost use Rattle.call_judge.specs.Verdict.{TestedAs, Settled};
 
+use limits::TABLE_BYTES;
 use crate::Verdict;
 use book::Cause;
 use grid::Site;
@@ -40,7 +41,7 @@ fn narrow(k: usize) -> u16
 }
 
 // An addition of this site: held, full.
-fn add_site(t: &[u8], site: Site) -> Result<Verdict, Cause>
+fn add_site(t: &[u8; TABLE_BYTES], site: Site) -> Result<Verdict, Cause>
     requires { Sound t.now × NumberOk site × OnGrid site.position }
     ensures { Settled result (Command.Add site.number (Location.InSteps site.position)) t.now }
 {
@@ -57,7 +58,7 @@ fn add_site(t: &[u8], site: Site) -> Result<Verdict, Cause>
 }
 
 // A move of this site: held.
-fn place_site(t: &[u8], site: Site) -> Result<Verdict, Cause>
+fn place_site(t: &[u8; TABLE_BYTES], site: Site) -> Result<Verdict, Cause>
     requires { Sound t.now × NumberOk site × OnGrid site.position }
     ensures { Settled result (Command.Move site.number (Location.InSteps site.position)) t.now }
 {
@@ -68,7 +69,7 @@ fn place_site(t: &[u8], site: Site) -> Result<Verdict, Cause>
 }
 
 // An addition: number, readings, position, held, full.
-pub fn add(t: &[u8], n: u16, l: Location) -> Result<Verdict, Cause>
+pub fn add(t: &[u8; TABLE_BYTES], n: u16, l: Location) -> Result<Verdict, Cause>
     requires { Sound t.now }
     ensures { Settled result (Command.Add n l) t.now }
 {
@@ -77,7 +78,7 @@ pub fn add(t: &[u8], n: u16, l: Location) -> Result<Verdict, Cause>
 }
 
 // A removal: number, held.
-pub fn remove(t: &[u8], n: u16) -> Result<Verdict, Cause>
+pub fn remove(t: &[u8; TABLE_BYTES], n: u16) -> Result<Verdict, Cause>
     requires { Sound t.now }
     ensures { Settled result (Command.Remove n) t.now }
 {
@@ -91,7 +92,7 @@ pub fn remove(t: &[u8], n: u16) -> Result<Verdict, Cause>
 }
 
 // A move: number, readings, position, held.
-pub fn place(t: &[u8], n: u16, l: Location) -> Result<Verdict, Cause>
+pub fn place(t: &[u8; TABLE_BYTES], n: u16, l: Location) -> Result<Verdict, Cause>
     requires { Sound t.now }
     ensures { Settled result (Command.Move n l) t.now }
 {

@@ -11,6 +11,7 @@ ghost use Rattle.list_row.specs.Vertices.{row_bytes};
 ghost use Rattle.table_rules.specs.Table.{Sound};
 ghost use Rattle.call_judge.specs.Verdict.{answer_of, Decided};
 
+use limits::TABLE_BYTES;
 use book::{Cause, Command};
 use grid::{Leg, Position, Site};
 
@@ -55,7 +56,7 @@ pub fn reply(judged: Result<Verdict, Cause>) -> Answer
 }
 
 // The verdict on a command, or why it is refused.
-pub fn judge(t: &[u8], work: &mut [u8], c: Command) -> Result<Verdict, Cause>
+pub fn judge(t: &[u8; TABLE_BYTES], work: &mut [u8], c: Command) -> Result<Verdict, Cause>
     requires { Sound t.now × (row_bytes ≤ length work.old) }
     ensures { Decided result c t.now work.new }
 {

@@ -5,12 +5,13 @@ ghost use Rattle.list_row.specs.Vertices.{row_bytes};
 ghost use Rattle.table_rules.specs.Table.{Sound};
 ghost use Rattle.call_judge.specs.Verdict.{Decided, Settled};
 
+use limits::TABLE_BYTES;
 use crate::Verdict;
 use book::Cause;
 use grid::Leg;
 
 // A list: leg, site.
-pub fn list(t: &[u8], work: &mut [u8], leg: Leg) -> Result<Verdict, Cause>
+pub fn list(t: &[u8; TABLE_BYTES], work: &mut [u8], leg: Leg) -> Result<Verdict, Cause>
     requires { Sound t.now × (row_bytes ≤ length work.old) }
     ensures { Decided result (Command.List leg) t.now work.new }
 {
@@ -35,7 +36,7 @@ pub fn stand(t: &[u8], leg: Leg) -> Result<Verdict, Cause>
 }
 
 // The standing list: leg, site.
-pub fn print(t: &[u8], work: &mut [u8]) -> Result<Verdict, Cause>
+pub fn print(t: &[u8; TABLE_BYTES], work: &mut [u8]) -> Result<Verdict, Cause>
     requires { Sound t.now × (row_bytes ≤ length work.old) }
     ensures { Decided result Command.Print t.now work.new }
 {

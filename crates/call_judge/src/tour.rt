@@ -9,6 +9,7 @@ ghost use Rattle.table_rules.specs.Table.{Sound};
 ghost use Rattle.table_rules.specs.Listing.{ListsTable};
 ghost use Rattle.call_judge.specs.Verdict.{Decided, Settled, passed_by};
 
+use limits::TABLE_BYTES;
 use crate::Verdict;
 use book::{Cause, Tour};
 use grid::{Leg, Position};
@@ -45,7 +46,7 @@ fn shown(row: Row, last: Option<u16>) -> Result<Verdict, Cause>
 }
 
 // The next leg of a tour: tour, position, site.
-pub fn corner(t: &[u8], work: &mut [u8], p: Position) -> Result<Verdict, Cause>
+pub fn corner(t: &[u8; TABLE_BYTES], work: &mut [u8], p: Position) -> Result<Verdict, Cause>
     requires { Sound t.now × (row_bytes ≤ length work.old) }
     ensures { Decided result (Command.Corner p) t.now work.new }
 {

@@ -5,11 +5,12 @@ ghost use Rattle.table_rules.specs.Table.{Sound};
 ghost use Rattle.call_judge.specs.Verdict.{Findings};
 ghost use Rattle.call_serve.specs.Serving.{Carried};
 
+use limits::TABLE_BYTES;
 use book::Cause;
 use call_judge::Verdict;
 
 // Changes the table as the book changes, at the record that was found.
-pub fn carry(t: &mut [u8], work: &mut [u8], v: Result<Verdict, Cause>)
+pub fn carry(t: &mut [u8; TABLE_BYTES], work: &mut [u8], v: Result<Verdict, Cause>)
     requires { Sound t.old × Findings v t.old × (row_bytes ≤ length work.old) }
     ensures { Carried v t.old t.new }
 {

@@ -9,20 +9,21 @@ ghost use Rattle.book.specs.Run.{run};
 ghost use Rattle.table_rules.specs.Table.{book_of, Sound};
 
 use book::{BatchResult, Reason};
+use limits::TABLE_BYTES;
 
 // Lays out an empty table.
 pub fn lay_out(table: &mut [u8]) -> Reason
     ensures { LaidOut table.old (reason_number result) table.new }
 {
-    if table.len() != limits::TABLE_BYTES {
+    let Ok(table) = <&mut [u8; TABLE_BYTES]>::try_from(table) else {
         return Reason::WrongLength;
-    }
+    };
     table_empty::lay(table);
     Reason::AllUsed
 }
 
 // Carries out commands on a sound table, and clears the work buffer.
-fn carry_out(table: &mut [u8], work: &mut [u8], commands: &[u8], report: &mut [u8]) -> BatchResult
+fn carry_out(table: &mut [u8; TABLE_BYTES], work: &mut [u8], commands: &[u8], report: &mut [u8]) -> BatchResult
     requires { Sound table.old × (length work.old ≡ work_bytes) }
     ensures { Served
         (run commands.now (length report.old) (book_of table.old))
@@ -40,8 +41,12 @@ pub fn batch(table: &mut [u8], work: &mut [u8], commands: &[u8], report: &mut [u
     ensures { Batch table.old work.old commands.now report.old
         (return_of result) table.new work.new report.new }
 {
-    match table_admit::admit(table, work) {
-        Ok(()) => carry_out(table, work, commands, report),
-        Err(reason) => BatchResult::new(reason, 0, 0),
+    if let Err(reason) = table_admit::admit(table, work) {
+        return BatchResult::new(reason, 0, 0);
     }
+    // What is admitted has the table's length.
+    let Ok(table) = <&mut [u8; TABLE_BYTES]>::try_from(table) else {
+        unreachable!()
+    };
+    carry_out(table, work, commands, report)
 }

@@ -3,26 +3,20 @@
 #![tactic(auto)]
 
 ghost use Rattle.std.specs.Prelude.{◌≡◌};
-ghost use Rattle.demands.specs.Batch.{lengths_ok};
 ghost use Rattle.table_admit.specs.Admitted.{AdmittedAs};
 
 use book::Reason;
+use limits::{TABLE_BYTES, WORK_BYTES};
 
-// Whether the table and the work buffer have the lengths that are asked for.
-fn lengths_ok(table: &[u8], work: &[u8]) -> bool
-    ensures { result ≡ lengths_ok table.now work.now }
-{
-    table.len() == limits::TABLE_BYTES && work.len() == limits::WORK_BYTES
-}
-
-// Takes the table and the work buffer, or says why not. The table is one lent slice, and its length is tested here and
-// nowhere else: all that is called behind this door takes it for granted (`length t.now ≡ table_bytes`).
-// The work buffer is left after 64 and all zero after 65 and 69; where
-// the table is taken it holds what the tests left.
+// Takes the table and the work buffer, or says why not. The work buffer is left after 64 and all zero after 65 and 69;
+// where the table is taken it holds what the tests left.
 pub fn admit(table: &[u8], work: &mut [u8]) -> Result<(), Reason>
     ensures { AdmittedAs result table.now work.old work.new }
 {
-    if !lengths_ok(table, work) {
+    let Ok(table) = <&[u8; TABLE_BYTES]>::try_from(table) else {
+        return Err(Reason::WrongLength);
+    };
+    if work.len() != WORK_BYTES {
         return Err(Reason::WrongLength);
     }
     if !table_check::whole_ok(table, work) {

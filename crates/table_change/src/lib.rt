@@ -21,13 +21,14 @@ ghost use Rattle.tree_node.specs.Header.{root_in};
 ghost use Rattle.tree_rules.specs.Rooted.{Rooted, leaves_in};
 ghost use Rattle.table_change.specs.Changes.{Swapped, Relined};
 
+use limits::TABLE_BYTES;
 use book::Tour;
 use grid::{Leg, Position, Site};
 use tree_check::leaf_entry;
 use tree_node::NodeEntry;
 
 // Adds a site whose record goes before record k.
-fn grow(t: &mut [u8], k: usize, site: Site)
+fn grow(t: &mut [u8; TABLE_BYTES], k: usize, site: Site)
     requires whole { Whole t.old × (tour_in t.old ≡ None) × StandsNowhere k site.number (lines_in t.old)
         × (length (lines_in t.old) < max_sites) }
     requires number_ok { NumberOk site × OnGrid site.position }
@@ -39,7 +40,7 @@ fn grow(t: &mut [u8], k: usize, site: Site)
 }
 
 // Removes the site of record k.
-fn shrink(t: &mut [u8], k: usize, n: u16)
+fn shrink(t: &mut [u8; TABLE_BYTES], k: usize, n: u16)
     requires { Whole t.old × (tour_in t.old ≡ None) × StandsAt k n (lines_in t.old) }
     ensures { Relined (strike_line n (lines_in t.old)) t.old t.new }
 {
@@ -49,7 +50,7 @@ fn shrink(t: &mut [u8], k: usize, n: u16)
 }
 
 // Puts one leaf entry in the place of another.
-fn swap_leaf(t: &mut [u8], old: NodeEntry, new: NodeEntry)
+fn swap_leaf(t: &mut [u8; TABLE_BYTES], old: NodeEntry, new: NodeEntry)
     requires { Rooted (root_in t.old) t.old × Memᴰ old (leaves_in t.old)
         × (length (leaves_in t.old) ≤ max_sites) }
     ensures { Swapped old new t.old t.new }
@@ -59,7 +60,7 @@ fn swap_leaf(t: &mut [u8], old: NodeEntry, new: NodeEntry)
 }
 
 // Gives the site of record k a new position.
-fn relocate(t: &mut [u8], k: usize, site: Site)
+fn relocate(t: &mut [u8; TABLE_BYTES], k: usize, site: Site)
     requires { Whole t.old × (tour_in t.old ≡ None) × StandsAt k site.number (lines_in t.old)
         × OnGrid site.position }
     ensures { Relined (move_line site.number site.position (lines_in t.old)) t.old
@@ -73,7 +74,7 @@ fn relocate(t: &mut [u8], k: usize, site: Site)
 }
 
 // Adds a site whose record goes before record k. Document 01, command 41.
-pub fn insert(t: &mut [u8], work: &mut [u8], k: usize, site: Site)
+pub fn insert(t: &mut [u8; TABLE_BYTES], work: &mut [u8], k: usize, site: Site)
     requires sound { Sound t.old × StandsNowhere k site.number (lines_in t.old)
         × (length (lines_in t.old) < max_sites) }
     requires number_ok { NumberOk site × OnGrid site.position × (row_bytes ≤ length work.old) }
@@ -87,7 +88,7 @@ pub fn insert(t: &mut [u8], work: &mut [u8], k: usize, site: Site)
 }
 
 // Removes site n, of record k. Document 01, command 44.
-pub fn delete(t: &mut [u8], work: &mut [u8], k: usize, n: u16)
+pub fn delete(t: &mut [u8; TABLE_BYTES], work: &mut [u8], k: usize, n: u16)
     requires { Sound t.old × StandsAt k n (lines_in t.old) × (row_bytes ≤ length work.old) }
     ensures { Holds t.new (change (Command.Remove n) (book_of t.old)) }
 {
@@ -97,7 +98,7 @@ pub fn delete(t: &mut [u8], work: &mut [u8], k: usize, n: u16)
 }
 
 // Gives the site of record k a new position. Document 01, command 4D.
-pub fn place(t: &mut [u8], work: &mut [u8], k: usize, site: Site)
+pub fn place(t: &mut [u8; TABLE_BYTES], work: &mut [u8], k: usize, site: Site)
     requires { Sound t.old × StandsAt k site.number (lines_in t.old) × OnGrid site.position
         × (row_bytes ≤ length work.old) }
     ensures { Holds t.new
@@ -110,7 +111,7 @@ pub fn place(t: &mut [u8], work: &mut [u8], k: usize, site: Site)
 }
 
 // Sets the standing leg. Document 01, command 53.
-pub fn stand(t: &mut [u8], work: &mut [u8], leg: Leg)
+pub fn stand(t: &mut [u8; TABLE_BYTES], work: &mut [u8], leg: Leg)
     requires { Sound t.old × LegOnGrid leg × (row_bytes ≤ length work.old) }
     ensures { Holds t.new (change (Command.Stand leg) (book_of t.old)) }
 {
@@ -119,7 +120,7 @@ pub fn stand(t: &mut [u8], work: &mut [u8], leg: Leg)
 }
 
 // Begins a tour. Document 02, C-13, command 42.
-pub fn begin(t: &mut [u8], p: Position)
+pub fn begin(t: &mut [u8; TABLE_BYTES], p: Position)
     requires { Sound t.old × OnGrid p }
     ensures { Holds t.new (change (Command.Begin p) (book_of t.old))
         × Only tour_start tour_end t.old t.new }
@@ -134,7 +135,7 @@ pub fn begin(t: &mut [u8], p: Position)
 }
 
 // Goes on with the tour along this leg, whose whole list ends with site n. Document 02, C-13, command 43.
-pub fn follow(t: &mut [u8], leg: Leg, n: u16)
+pub fn follow(t: &mut [u8; TABLE_BYTES], leg: Leg, n: u16)
     requires { Sound t.old × Follows leg n t.old }
     ensures { Holds t.new (change (Command.Corner leg.e) (book_of t.old))
         × Only tour_start tour_end t.old t.new }

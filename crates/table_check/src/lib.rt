@@ -13,20 +13,20 @@ ghost use Rattle.table_standing.specs.Standing.{standing_in, numbers_of};
 ghost use Rattle.tree_check.specs.Marks.{seen_bytes};
 ghost use Rattle.table_rules.specs.Table.{Whole, StandingOk};
 
+use limits::TABLE_BYTES;
 use list_row::Row;
 
 // Whether the stored standing list has the numbers of the list in the row.
-fn list_matches(row: Row) -> bool
-    requires { length row.t.now ≡ table_bytes }
+fn list_matches(t: &[u8; TABLE_BYTES], row: Row) -> bool
     ensures { let r = row.entry in Says result
-        (standing_in r.t.now ≡ numbers_of (entries_in r.leg r.t.now r.places.now r.k)) }
+        (standing_in t.now ≡ numbers_of (entries_in r.leg r.t.now r.places.now r.k)) }
 {
-    let n = table_header::length(row.t);
+    let n = table_header::length(t);
     if n != row.k {
         return false;
     }
     for i in 0..row.k {
-        let stored = table_standing::number(row.t, i);
+        let stored = table_standing::number(t, i);
         if row.number(i) != stored {
             return false;
         }
@@ -35,7 +35,7 @@ fn list_matches(row: Row) -> bool
 }
 
 // The second test: whether the standing leg and the standing list keep their rules, in a table whose other rules hold.
-pub fn standing_ok(t: &[u8], work: &mut [u8]) -> bool
+pub fn standing_ok(t: &[u8; TABLE_BYTES], work: &mut [u8]) -> bool
     requires { Whole t.now × (row_bytes ≤ length work.old) }
     ensures { Says result (StandingOk t.now) }
 {
@@ -44,12 +44,13 @@ pub fn standing_ok(t: &[u8], work: &mut [u8]) -> bool
         Some(leg) => {
             if grid::coordinate::leg_on_grid(leg) {
                 let k = table_search::search(t, leg, work);
-                return list_matches(Row {
+                let row = Row {
                     t,
                     places: work,
                     leg,
                     k,
-                });
+                };
+                return list_matches(t, row);
             }
             false
         }
@@ -57,7 +58,7 @@ pub fn standing_ok(t: &[u8], work: &mut [u8]) -> bool
 }
 
 // Whether the site that is remembered, if there is one, is held.
-fn remembered_ok(t: &[u8], last: Option<u16>) -> bool
+fn remembered_ok(t: &[u8; TABLE_BYTES], last: Option<u16>) -> bool
     requires { Array t.now }
     ensures { Says result (LastHeld last (lines_in t.now)) }
 {
@@ -68,8 +69,8 @@ fn remembered_ok(t: &[u8], last: Option<u16>) -> bool
 }
 
 // Whether the tour keeps its rules.
-fn tour_ok(t: &[u8]) -> bool
-    requires { (length t.now ≡ table_bytes) × Array t.now }
+fn tour_ok(t: &[u8; TABLE_BYTES]) -> bool
+    requires { Array t.now }
     ensures { Says result (TourOk (tour_in t.now) (lines_in t.now)) }
 {
     match table_header::tour(t) {
@@ -79,8 +80,8 @@ fn tour_ok(t: &[u8]) -> bool
 }
 
 // The first test: whether sites, header, tour and tree keep their rules.
-pub fn whole_ok(t: &[u8], work: &mut [u8]) -> bool
-    requires { (length t.now ≡ table_bytes) × (seen_bytes ≤ length work.old) }
+pub fn whole_ok(t: &[u8; TABLE_BYTES], work: &mut [u8]) -> bool
+    requires { seen_bytes ≤ length work.old }
     ensures { Says result (Whole t.now) }
 {
     table_sites::rules::check(t)

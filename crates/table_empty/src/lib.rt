@@ -5,6 +5,8 @@ ghost use Rattle.std.specs.Prelude.{◌≡◌, length};
 ghost use Rattle.limits.specs.Limits.{table_bytes, max_nodes};
 ghost use Rattle.table_empty.specs.EmptyTable.{zeros, stacked, empty_table};
 
+use limits::TABLE_BYTES;
+
 // Sets every byte to 0.
 pub fn clear(b: &mut [u8])
     ensures { b.new ≡ zeros (length b.old) }
@@ -13,8 +15,7 @@ pub fn clear(b: &mut [u8])
 }
 
 // Puts every node of the pool on the stack of free nodes.
-fn stack_all(t: &mut [u8])
-    requires { length t.old ≡ table_bytes }
+fn stack_all(t: &mut [u8; TABLE_BYTES])
     ensures { t.new ≡ stacked max_nodes t.old }
 {
     for k in 0..limits::MAX_NODES {
@@ -23,8 +24,7 @@ fn stack_all(t: &mut [u8])
 }
 
 // Lays an empty table out.
-pub fn lay(t: &mut [u8])
-    requires { length t.old ≡ table_bytes }
+pub fn lay(t: &mut [u8; TABLE_BYTES])
     ensures { t.new ≡ empty_table }
 {
     clear(t);

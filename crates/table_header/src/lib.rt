@@ -12,6 +12,7 @@ ghost use Rattle.table_header.specs.Header.{count_in, length_in, position_words,
 ghost use Rattle.table_header.specs.Header.{LegStored, ZeroFrom, FlagOk, HeaderOk};
 ghost use Rattle.table_header.specs.Header.{site_number, tour_in, put_tour, TourStored};
 
+use limits::TABLE_BYTES;
 use book::Tour;
 use grid::{Leg, Position};
 
@@ -43,16 +44,14 @@ const KEPT_END: usize = 64;
 const LAYOUT_NUMBER: u16 = 2;
 
 // The number of sites.
-pub fn count(t: &[u8]) -> usize
-    requires { length t.now ≡ table_bytes }
+pub fn count(t: &[u8; TABLE_BYTES]) -> usize
     ensures { (result ≡ count_in t.now) × (result < 65536) }
 {
     usize::from(words::word(t, COUNT_START))
 }
 
 // Stores the number of sites.
-pub fn put_count(t: &mut [u8], n: u16)
-    requires { length t.old ≡ table_bytes }
+pub fn put_count(t: &mut [u8; TABLE_BYTES], n: u16)
     ensures { t.new ≡ put_word t.old count_start n }
 {
     words::put_word(t, COUNT_START, n);
@@ -69,8 +68,7 @@ fn position_at(t: &[u8], i: usize) -> Position
 }
 
 // The standing leg, or none.
-pub fn leg(t: &[u8]) -> Option<Leg>
-    requires { length t.now ≡ table_bytes }
+pub fn leg(t: &[u8; TABLE_BYTES]) -> Option<Leg>
     ensures { result ≡ leg_in t.now }
 {
     let flag = words::word(t, FLAG_START);
@@ -92,8 +90,7 @@ fn store_position(t: &mut [u8], i: usize, p: Position)
 }
 
 // Stores the standing leg.
-pub fn store_leg(t: &mut [u8], leg: Leg)
-    requires { length t.old ≡ table_bytes }
+pub fn store_leg(t: &mut [u8; TABLE_BYTES], leg: Leg)
     ensures { LegStored leg t.old t.new }
 {
     words::put_word(t, FLAG_START, 1);
@@ -102,24 +99,21 @@ pub fn store_leg(t: &mut [u8], leg: Leg)
 }
 
 // The number of entries of the standing list.
-pub fn length(t: &[u8]) -> usize
-    requires { length t.now ≡ table_bytes }
+pub fn length(t: &[u8; TABLE_BYTES]) -> usize
     ensures { (result ≡ length_in t.now) × (result < 65536) }
 {
     usize::from(words::word(t, LENGTH_START))
 }
 
 // Stores it.
-pub fn put_length(t: &mut [u8], k: u16)
-    requires { length t.old ≡ table_bytes }
+pub fn put_length(t: &mut [u8; TABLE_BYTES], k: u16)
     ensures { t.new ≡ put_word t.old length_start k }
 {
     words::put_word(t, LENGTH_START, k);
 }
 
 // Stores the layout's number.
-pub fn put_layout(t: &mut [u8])
-    requires { length t.old ≡ table_bytes }
+pub fn put_layout(t: &mut [u8; TABLE_BYTES])
     ensures { t.new ≡ put_word t.old layout_start layout_number }
 {
     words::put_word(t, LAYOUT_START, LAYOUT_NUMBER);
@@ -151,8 +145,7 @@ fn flag_ok(t: &[u8], i: usize, lo: usize, hi: usize) -> bool
 }
 
 // Whether the header keeps its layout.
-pub fn header_ok(t: &[u8]) -> bool
-    requires { length t.now ≡ table_bytes }
+pub fn header_ok(t: &[u8; TABLE_BYTES]) -> bool
     ensures { Says result (HeaderOk t.now) }
 {
     words::word(t, LAYOUT_START) == LAYOUT_NUMBER
@@ -169,8 +162,7 @@ fn site_number(n: u16) -> Option<u16>
 }
 
 // The tour, or none.
-pub fn tour(t: &[u8]) -> Option<Tour>
-    requires { length t.now ≡ table_bytes }
+pub fn tour(t: &[u8; TABLE_BYTES]) -> Option<Tour>
     ensures { result ≡ tour_in t.now }
 {
     let flag = words::word(t, TOUR_START);
@@ -183,8 +175,7 @@ pub fn tour(t: &[u8]) -> Option<Tour>
 }
 
 // Stores a tour's words: flag, corner, number.
-fn put_tour(t: &mut [u8], flag: u16, corner: Position, last: u16)
-    requires { length t.old ≡ table_bytes }
+fn put_tour(t: &mut [u8; TABLE_BYTES], flag: u16, corner: Position, last: u16)
     ensures { t.new ≡ put_tour t.old flag corner last }
 {
     words::put_word(t, TOUR_START, flag);
@@ -193,8 +184,8 @@ fn put_tour(t: &mut [u8], flag: u16, corner: Position, last: u16)
 }
 
 // Stores the tour, or that there is none. A site's number is not 0: that stands for no site.
-pub fn store_tour(t: &mut [u8], tour: Option<Tour>)
-    requires { (length t.old ≡ table_bytes) × IfSome tour (λ k. IfSome k.last (λ n. 0 < n)) }
+pub fn store_tour(t: &mut [u8; TABLE_BYTES], tour: Option<Tour>)
+    requires { IfSome tour (λ k. IfSome k.last (λ n. 0 < n)) }
     ensures { TourStored tour t.old t.new }
 {
     match tour {

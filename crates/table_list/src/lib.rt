@@ -17,20 +17,21 @@ ghost use Rattle.table_rules.specs.Table.{Sound};
 ghost use Rattle.table_rules.specs.Listing.{ListsTable};
 ghost use Rattle.table_list.specs.Loading.{PlaceOf, NumbersHeld, PlacesOf, EntryShuts};
 
+use limits::TABLE_BYTES;
 use grid::{Corner, Leg};
 use list_row::Vertex;
 
 // The place of record k, which has the number n.
-pub fn place_at(t: &[u8], n: u16, k: usize) -> usize
-    requires { (length t.now ≡ table_bytes) × SitesOk t.now × StandsAt k n (lines_in t.now) }
+pub fn place_at(t: &[u8; TABLE_BYTES], n: u16, k: usize) -> usize
+    requires { SitesOk t.now × StandsAt k n (lines_in t.now) }
     ensures { PlaceOf t.now n result }
 {
     table_sites::place_of_record(k)
 }
 
 // The place of the record that has the number n.
-pub fn place_of(t: &[u8], n: u16) -> usize
-    requires { (length t.now ≡ table_bytes) × SitesOk t.now × (holds n (lines_in t.now) ≡ true) }
+pub fn place_of(t: &[u8; TABLE_BYTES], n: u16) -> usize
+    requires { SitesOk t.now × (holds n (lines_in t.now) ≡ true) }
     ensures { PlaceOf t.now n result }
 {
     let k = table_sites::find(t, n).unwrap();
@@ -38,8 +39,8 @@ pub fn place_of(t: &[u8], n: u16) -> usize
 }
 
 // Writes the places of the stored numbers into the row that begins the work buffer.
-pub fn places(t: &[u8], work: &mut [u8]) -> usize
-    requires { (length t.now ≡ table_bytes) × SitesOk t.now × NumbersHeld t.now
+pub fn places(t: &[u8; TABLE_BYTES], work: &mut [u8]) -> usize
+    requires { SitesOk t.now × NumbersHeld t.now
         × (row_bytes ≤ length work.old) }
     ensures { PlacesOf t.now work.old work.new result }
 {
@@ -53,7 +54,7 @@ pub fn places(t: &[u8], work: &mut [u8]) -> usize
 }
 
 // Loads the standing list into the row that begins the work buffer.
-pub fn load(t: &[u8], work: &mut [u8], leg: Leg) -> usize
+pub fn load(t: &[u8; TABLE_BYTES], work: &mut [u8], leg: Leg) -> usize
     requires { Sound t.now × (leg_in t.now ≡ Some leg) × (row_bytes ≤ length work.old) }
     ensures { ListsTable leg t.now work.new result }
 {
@@ -61,8 +62,8 @@ pub fn load(t: &[u8], work: &mut [u8], leg: Leg) -> usize
 }
 
 // Whether the standing list names site n.
-pub fn lists(t: &[u8], n: u16) -> bool
-    requires { (length t.now ≡ table_bytes) × (length_in t.now ≤ max_sites) }
+pub fn lists(t: &[u8; TABLE_BYTES], n: u16) -> bool
+    requires { length_in t.now ≤ max_sites }
     ensures { Says result (Memᴰ n (standing_in t.now)) }
 {
     let k = table_header::length(t);
@@ -75,8 +76,8 @@ pub fn lists(t: &[u8], n: u16) -> bool
 }
 
 // Whether entry i keeps the site x out.
-fn entry_shuts(t: &[u8], leg: Leg, i: usize, x: Vertex) -> bool
-    requires t_len { (length t.now ≡ table_bytes) × SitesOk t.now × NumbersHeld t.now }
+fn entry_shuts(t: &[u8; TABLE_BYTES], leg: Leg, i: usize, x: Vertex) -> bool
+    requires t_len { SitesOk t.now × NumbersHeld t.now }
     requires leg_on_grid { LegOnGrid leg × Small x × (i < length_in t.now) }
     ensures { If result (EntryShuts leg t.now x.a x.c) }
 {
@@ -88,8 +89,8 @@ fn entry_shuts(t: &[u8], leg: Leg, i: usize, x: Vertex) -> bool
 
 // Whether the last entry keeps the site x out, or the first one: where x is far from the leg, one of them does, and
 // no other need be loaded.
-pub fn end_shuts(t: &[u8], leg: Leg, x: Vertex) -> bool
-    requires t_len { (length t.now ≡ table_bytes) × SitesOk t.now × NumbersHeld t.now }
+pub fn end_shuts(t: &[u8; TABLE_BYTES], leg: Leg, x: Vertex) -> bool
+    requires t_len { SitesOk t.now × NumbersHeld t.now }
     requires leg_on_grid { LegOnGrid leg × Small x }
     ensures { If result (EntryShuts leg t.now x.a x.c) }
 {

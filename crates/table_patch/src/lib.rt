@@ -13,10 +13,11 @@ ghost use Rattle.demands.specs.Step.{Holds};
 ghost use Rattle.table_list.specs.Loading.{PlaceOf};
 ghost use Rattle.table_patch.specs.Patching.{ListsOthers, Patchable};
 
+use limits::TABLE_BYTES;
 use grid::Leg;
 
 // Makes the standing list anew.
-pub fn restand(t: &mut [u8], work: &mut [u8])
+pub fn restand(t: &mut [u8; TABLE_BYTES], work: &mut [u8])
     requires { Whole t.old × LegOk (leg_in t.old) × (row_bytes ≤ length work.old) }
     ensures { Holds t.new (book_of t.old) }
 {
@@ -31,7 +32,7 @@ pub fn restand(t: &mut [u8], work: &mut [u8])
 
 // Deals site n, whose place is p, into the list of the leg over the other sites. Places are loaded from the changed
 // table: a record that comes moves those behind it.
-fn deal_in(t: &mut [u8], work: &mut [u8], leg: Leg, n: u16, p: usize)
+fn deal_in(t: &mut [u8; TABLE_BYTES], work: &mut [u8], leg: Leg, n: u16, p: usize)
     requires whole { Whole t.old × LegOk (leg_in t.old) × (leg_in t.old ≡ Some leg) × (row_bytes ≤ length work.old) }
     requires lists_others { ListsOthers n t.old × PlaceOf t.old n p }
     ensures { Holds t.new (book_of t.old) }
@@ -43,7 +44,7 @@ fn deal_in(t: &mut [u8], work: &mut [u8], leg: Leg, n: u16, p: usize)
 
 // Deals site n, of record k, into the list of the leg over the other sites. Most sites are far from the leg: an end
 // of the list keeps them out, and it stays.
-fn deal_along(t: &mut [u8], work: &mut [u8], leg: Leg, n: u16, k: usize)
+fn deal_along(t: &mut [u8; TABLE_BYTES], work: &mut [u8], leg: Leg, n: u16, k: usize)
     requires whole { Whole t.old × LegOk (leg_in t.old) × (leg_in t.old ≡ Some leg) × (row_bytes ≤ length work.old) }
     requires lists_others { ListsOthers n t.old × StandsAt k n (lines_in t.old) }
     ensures { Holds t.new (book_of t.old) }
@@ -57,7 +58,7 @@ fn deal_along(t: &mut [u8], work: &mut [u8], leg: Leg, n: u16, k: usize)
 }
 
 // Deals site n, of record k, into the standing list, which is that of the other sites.
-fn deal_site(t: &mut [u8], work: &mut [u8], n: u16, k: usize)
+fn deal_site(t: &mut [u8; TABLE_BYTES], work: &mut [u8], n: u16, k: usize)
     requires whole { Whole t.old × LegOk (leg_in t.old) × (row_bytes ≤ length work.old) }
     requires lists_others { ListsOthers n t.old × StandsAt k n (lines_in t.old) }
     ensures { Holds t.new (book_of t.old) }
@@ -70,7 +71,7 @@ fn deal_site(t: &mut [u8], work: &mut [u8], n: u16, k: usize)
 // Brings the standing list up to date when site n, of record k, has come or moved. A list that does not name n is
 // that of the other sites, so n is dealt in. Where n is named, sites that it kept out may come in, and only a search
 // finds them.
-pub fn patch_held(t: &mut [u8], work: &mut [u8], n: u16, k: usize)
+pub fn patch_held(t: &mut [u8; TABLE_BYTES], work: &mut [u8], n: u16, k: usize)
     requires { Patchable n t.old × StandsAt k n (lines_in t.old) × (row_bytes ≤ length work.old) }
     ensures { Holds t.new (book_of t.old) }
 {
@@ -82,7 +83,7 @@ pub fn patch_held(t: &mut [u8], work: &mut [u8], n: u16, k: usize)
 }
 
 // Brings the standing list up to date when site n has gone: a list that does not name it stays.
-pub fn patch_gone(t: &mut [u8], work: &mut [u8], n: u16)
+pub fn patch_gone(t: &mut [u8; TABLE_BYTES], work: &mut [u8], n: u16)
     requires { Patchable n t.old × (holds n (lines_in t.old) ≡ false) × (row_bytes ≤ length work.old) }
     ensures { Holds t.new (book_of t.old) }
 {

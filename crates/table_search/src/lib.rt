@@ -8,10 +8,11 @@ ghost use Rattle.list_row.specs.Vertices.{row_bytes};
 ghost use Rattle.table_rules.specs.Table.{Whole};
 ghost use Rattle.table_rules.specs.Listing.{ListsTable};
 
+use limits::TABLE_BYTES;
 use grid::Leg;
 
 // Makes the list in the row that begins the work buffer, and counts its entries.
-pub fn search(t: &[u8], leg: Leg, work: &mut [u8]) -> usize
+pub fn search(t: &[u8; TABLE_BYTES], leg: Leg, work: &mut [u8]) -> usize
     requires { Whole t.now × LegOnGrid leg × (row_bytes ≤ length work.old) }
     ensures { ListsTable leg t.now work.new result }
 {

@@ -6,6 +6,7 @@ ghost use Rattle.table_sites.specs.Layout.{site_bytes};
 ghost use Rattle.table_sites.specs.Lines.{lines_in, Array};
 ghost use Rattle.table_sites.specs.Changes.{inserted, deleted, placed, ArrayChanged, PutPosition, PutSite};
 
+use limits::TABLE_BYTES;
 use crate::{EAST_OFFSET, NORTH_OFFSET, SITE_BYTES, SITE_START, SPARE_OFFSET};
 use grid::{Position, Site};
 
@@ -29,7 +30,7 @@ fn put_site(t: &mut [u8], i: usize, site: Site)
 }
 
 // Puts a site before record k: the records from k on go up by one.
-pub fn insert(t: &mut [u8], k: usize, site: Site)
+pub fn insert(t: &mut [u8; TABLE_BYTES], k: usize, site: Site)
     requires { Array t.old × (count_in t.old < max_sites) × (k ≤ count_in t.old) }
     ensures { ArrayChanged (inserted k site (lines_in t.old)) t.old t.new }
 {
@@ -43,7 +44,7 @@ pub fn insert(t: &mut [u8], k: usize, site: Site)
 }
 
 // Takes record k out: the records behind it go down by one.
-pub fn delete(t: &mut [u8], k: usize)
+pub fn delete(t: &mut [u8; TABLE_BYTES], k: usize)
     requires { Array t.old × (k < count_in t.old) }
     ensures { ArrayChanged (deleted k (lines_in t.old)) t.old t.new }
 {
@@ -56,7 +57,7 @@ pub fn delete(t: &mut [u8], k: usize)
 }
 
 // Gives record k another position.
-pub fn place(t: &mut [u8], k: usize, position: Position)
+pub fn place(t: &mut [u8; TABLE_BYTES], k: usize, position: Position)
     requires { Array t.old × (k < count_in t.old) }
     ensures { ArrayChanged (placed k position (lines_in t.old)) t.old t.new }
 {

@@ -8,6 +8,7 @@ ghost use Rattle.words.specs.Words.{word_at};
 ghost use Rattle.table_sites.specs.Layout.{record_start};
 ghost use Rattle.table_sites.specs.Lines.{lines_in, line_at, Array, FoundAs, Narrowed};
 
+use limits::TABLE_BYTES;
 use grid::{Position, Site};
 
 pub mod change;
@@ -26,8 +27,8 @@ const NORTH_OFFSET: usize = 4;
 const SPARE_OFFSET: usize = 6;
 
 // The number in record k.
-pub fn number(t: &[u8], k: usize) -> u16
-    requires { (length t.now ≡ table_bytes) × (k < max_sites) }
+pub fn number(t: &[u8; TABLE_BYTES], k: usize) -> u16
+    requires { k < max_sites }
     ensures { result ≡ word_at t.now (record_start k) }
 {
     let i = SITE_START + SITE_BYTES * k;
@@ -35,8 +36,8 @@ pub fn number(t: &[u8], k: usize) -> u16
 }
 
 // The site of record k.
-pub fn line(t: &[u8], k: usize) -> Site
-    requires { (length t.now ≡ table_bytes) × (k < max_sites) }
+pub fn line(t: &[u8; TABLE_BYTES], k: usize) -> Site
+    requires { k < max_sites }
     ensures { result ≡ line_at t.now k }
 {
     let i = SITE_START + SITE_BYTES * k;
@@ -67,7 +68,7 @@ fn guess(k: usize, n: u16) -> usize
 }
 
 // Where number n stands, by bisection of the records from `from` up to `to`.
-fn bisect(t: &[u8], n: u16, from: usize, to: usize) -> Result<usize, usize>
+fn bisect(t: &[u8; TABLE_BYTES], n: u16, from: usize, to: usize) -> Result<usize, usize>
     requires { Array t.now × Narrowed t.now n from to }
     ensures { FoundAs result n (lines_in t.now) }
 {
@@ -99,7 +100,7 @@ fn share(n: u16, m: u16, lo: usize, hi: usize) -> usize
 }
 
 // Where number n stands, of the records from `from` up to `to`: a look at the first, and on in steps that double.
-fn climb(t: &[u8], n: u16, from: usize, to: usize) -> Result<usize, usize>
+fn climb(t: &[u8; TABLE_BYTES], n: u16, from: usize, to: usize) -> Result<usize, usize>
     requires { Array t.now × Narrowed t.now n from to }
     ensures { FoundAs result n (lines_in t.now) }
 {
@@ -122,7 +123,7 @@ fn climb(t: &[u8], n: u16, from: usize, to: usize) -> Result<usize, usize>
 
 // The same from the last one down. Bounds, steps and comparison all turn round, so that one function for both, with a
 // closure for each, would be no plainer.
-fn fall(t: &[u8], n: u16, from: usize, to: usize) -> Result<usize, usize>
+fn fall(t: &[u8; TABLE_BYTES], n: u16, from: usize, to: usize) -> Result<usize, usize>
     requires { Array t.now × Narrowed t.now n from to }
     ensures { FoundAs result n (lines_in t.now) }
 {
@@ -145,7 +146,7 @@ fn fall(t: &[u8], n: u16, from: usize, to: usize) -> Result<usize, usize>
 
 // Where number n stands, of the records from lo up to hi, whose number is m. Where numbers are spread evenly the
 // first look finds it, or is a few records off.
-fn find_spread(t: &[u8], n: u16, lo: usize, hi: usize, m: u16) -> Result<usize, usize>
+fn find_spread(t: &[u8; TABLE_BYTES], n: u16, lo: usize, hi: usize, m: u16) -> Result<usize, usize>
     requires { Array t.now × Narrowed t.now n lo hi × (n < m) }
     ensures { FoundAs result n (lines_in t.now) }
 {
@@ -165,7 +166,7 @@ fn find_spread(t: &[u8], n: u16, lo: usize, hi: usize, m: u16) -> Result<usize, 
 
 // Where number n stands. Numbers are often given one after the other: then the first look finds it, or leaves a few
 // records. Else they are taken for evenly spread. A bisection of all records takes steps that cannot be foreseen.
-pub fn find(t: &[u8], n: u16) -> Result<usize, usize>
+pub fn find(t: &[u8; TABLE_BYTES], n: u16) -> Result<usize, usize>
     requires { Array t.now }
     ensures { FoundAs result n (lines_in t.now) }
 {
@@ -196,7 +197,7 @@ fn either(there: bool, j: usize, k: usize) -> usize
 }
 
 // Where number n stands, looked for at record k and at the one behind it first. Any k would do.
-pub fn find_near(t: &[u8], n: u16, k: usize) -> Result<usize, usize>
+pub fn find_near(t: &[u8; TABLE_BYTES], n: u16, k: usize) -> Result<usize, usize>
     requires { Array t.now }
     ensures { FoundAs result n (lines_in t.now) }
 {

@@ -5,6 +5,7 @@ ghost use Rattle.grid.specs.Says.{Says};
 ghost use Rattle.table_sites.specs.Layout.{site_bytes};
 ghost use Rattle.table_sites.specs.Rules.{SitesOk, RecordOk};
 
+use limits::TABLE_BYTES;
 use crate::{EAST_OFFSET, NORTH_OFFSET, SITE_BYTES, SITE_START, SPARE_OFFSET};
 
 // Whether the record at byte i keeps the rules, where the record before it has the number low.
@@ -20,8 +21,7 @@ fn record_ok(t: &[u8], i: usize, low: u16) -> bool
 }
 
 // Whether the site array keeps the rules on sites.
-pub fn check(t: &[u8]) -> bool
-    requires { length t.now ≡ table_bytes }
+pub fn check(t: &[u8; TABLE_BYTES]) -> bool
     ensures { Says result (SitesOk t.now) }
 {
     let n = table_header::count(t);

@@ -6,14 +6,15 @@ ghost use Rattle.limits.specs.Limits.{max_sites, table_bytes};
 ghost use Rattle.list_row.specs.Vertices.{Held, entries_in};
 ghost use Rattle.table_standing.specs.Standing.{stored_number, NumberRow, ListStored};
 
+use limits::TABLE_BYTES;
 use grid::Leg;
 
 // Where the first number stands: docs/LAYOUT.md.
 const LIST_START: usize = 4160;
 
 // The site number of entry i.
-pub fn number(t: &[u8], i: usize) -> u16
-    requires { (length t.now ≡ table_bytes) × (i < max_sites) }
+pub fn number(t: &[u8; TABLE_BYTES], i: usize) -> u16
+    requires { i < max_sites }
     ensures { (result ≡ stored_number t.now i) × (result < 65536) }
 {
     words::word(t, LIST_START + 2 * i)
@@ -31,8 +32,8 @@ fn number_row(t: &[u8], work: &mut [u8], leg: Leg, k: usize)
 }
 
 // Stores the list in the first k of the row as the standing list. The row is spent.
-pub fn store_list(t: &mut [u8], work: &mut [u8], leg: Leg, k: usize)
-    requires { (length t.old ≡ table_bytes) × Held leg t.old work.old k }
+pub fn store_list(t: &mut [u8; TABLE_BYTES], work: &mut [u8], leg: Leg, k: usize)
+    requires { Held leg t.old work.old k }
     ensures stored { ListStored (entries_in leg t.old work.old k) t.old
         t.new }
     ensures kept { length work.new ≡ length work.old }

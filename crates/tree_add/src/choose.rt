@@ -4,6 +4,7 @@ ghost use Rattle.std.specs.Prelude.{◌≡◌, ◌<◌, length};
 ghost use Rattle.limits.specs.Limits.{max_nodes, table_bytes};
 ghost use Rattle.tree_node.specs.Node.{entries};
 
+use limits::TABLE_BYTES;
 use tree_node::{NodeEntry, boxes, pool};
 
 // More than half the perimeter of any box.
@@ -17,8 +18,8 @@ fn cost(e: NodeEntry, f: NodeEntry) -> u64 {
 }
 
 // The entry of node n under which e goes.
-pub fn choose(table: &[u8], n: usize, e: NodeEntry) -> usize
-    requires { (length table.now ≡ table_bytes) × (n < max_nodes) × (0 < length (entries table.now n)) }
+pub fn choose(table: &[u8; TABLE_BYTES], n: usize, e: NodeEntry) -> usize
+    requires { (n < max_nodes) × (0 < length (entries table.now n)) }
     ensures { result < length (entries table.now n) }
 {
     pool::least_by(table, n, |f| cost(e, f))

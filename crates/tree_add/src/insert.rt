@@ -11,12 +11,12 @@ ghost use Rattle.tree_rules.specs.Change.{Ready};
 ghost use Rattle.tree_add.specs.Steps.{PutBehind, Divisible, Renewed, InsertedUnder};
 
 use crate::choose;
-use limits::MAX_ENTRIES;
+use limits::{MAX_ENTRIES, TABLE_BYTES};
 use tree_node::{NodeEntry, boxes, pool};
 
 // Adds e to node n, or hands it back where n has eight entries.
-pub fn put_in(table: &mut [u8], n: usize, e: NodeEntry) -> Option<NodeEntry>
-    requires { (length table.old ≡ table_bytes) × (n < max_nodes) }
+pub fn put_in(table: &mut [u8; TABLE_BYTES], n: usize, e: NodeEntry) -> Option<NodeEntry>
+    requires { n < max_nodes }
     ensures { PutBehind result n e table.old table.new }
 {
     if pool::count(table, n) < MAX_ENTRIES {
@@ -27,8 +27,8 @@ pub fn put_in(table: &mut [u8], n: usize, e: NodeEntry) -> Option<NodeEntry>
 }
 
 // Sets entry k of node n anew for its child c.
-fn renew(table: &mut [u8], n: usize, k: usize, c: usize)
-    requires { (length table.old ≡ table_bytes) × (n < max_nodes) × (c < max_nodes)
+fn renew(table: &mut [u8; TABLE_BYTES], n: usize, k: usize, c: usize)
+    requires { (n < max_nodes) × (c < max_nodes)
         × (k < length (entries table.old n)) }
     ensures { Wrote n (set (entries table.old n) k (hull c (entries table.old c)))
         table.old table.new }
@@ -39,7 +39,7 @@ fn renew(table: &mut [u8], n: usize, k: usize, c: usize)
 
 // Splits the child c of node n, its entry k, which has eight entries and hands x back.
 fn halve(
-    table: &mut [u8],
+    table: &mut [u8; TABLE_BYTES],
     h: usize,
     n: usize,
     k: usize,
@@ -62,7 +62,7 @@ fn halve(
 // ninth entry of n. A child that is not split has its old box, grown by e's: its entries need not be read again.
 #[cycle(insert_insert_under)]
 fn insert_under(
-    table: &mut [u8],
+    table: &mut [u8; TABLE_BYTES],
     h: usize,
     n: usize,
     k: usize,
@@ -86,7 +86,7 @@ fn insert_under(
 
 // Adds the leaf entry e under node n, whose entries stand at height h, or hands back the ninth entry of n.
 #[cycle(insert_insert_under)]
-pub fn insert(table: &mut [u8], h: usize, n: usize, e: NodeEntry) -> Option<NodeEntry>
+pub fn insert(table: &mut [u8; TABLE_BYTES], h: usize, n: usize, e: NodeEntry) -> Option<NodeEntry>
     requires { Ready h n table.old × (h ≤ length (free table.old))
         × ((h ≡ 0 → ⊥) → 0 < length (entries table.old n)) }
     ensures { InsertedUnder result h n e table.old table.new }

@@ -10,6 +10,7 @@ ghost use Rattle.tree_node.specs.Header.{root_in};
 ghost use Rattle.tree_rules.specs.Rooted.{Rooted, leaves_in};
 ghost use Rattle.tree_add.specs.Added.{Added};
 
+use limits::TABLE_BYTES;
 use tree_node::{NodeEntry, header};
 
 pub mod choose;
@@ -17,7 +18,7 @@ pub mod insert;
 pub mod root;
 
 // Adds the leaf entry e to the tree that the table's header tells.
-pub fn add(table: &mut [u8], e: NodeEntry)
+pub fn add(table: &mut [u8; TABLE_BYTES], e: NodeEntry)
     requires { Rooted (root_in table.old) table.old × (length (leaves_in table.old) < max_sites) }
     ensures { Added e table.old table.new }
 {

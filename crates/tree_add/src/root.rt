@@ -8,12 +8,13 @@ ghost use Rattle.tree_node.specs.Tally.{tally, Within};
 ghost use Rattle.tree_rules.specs.Rooted.{tree_leaves, Rooted};
 ghost use Rattle.tree_add.specs.Steps.{Divisible, Raised, Planted};
 
+use limits::TABLE_BYTES;
 use crate::insert;
 use tree_node::{NodeEntry, Top, boxes, free, pool};
 
 // A new node over the nodes c and s.
-fn over(table: &mut [u8], c: usize, s: usize) -> usize
-    requires { (length table.old ≡ table_bytes) × (0 < length (free table.old))
+fn over(table: &mut [u8; TABLE_BYTES], c: usize, s: usize) -> usize
+    requires { (0 < length (free table.old))
         × Within max_nodes (free table.old) × (c < max_nodes) × (s < max_nodes)
         × (tally c (free table.old) ≡ 0) × (tally s (free table.old) ≡ 0) }
     ensures { Taken result (hull c (entries table.old c) ∷ hull s (entries table.old s) ∷ [])
@@ -26,7 +27,7 @@ fn over(table: &mut [u8], c: usize, s: usize) -> usize
 }
 
 // The tree over r, whose root has eight entries and hands x back.
-fn rise(table: &mut [u8], r: Top, x: NodeEntry) -> Top
+fn rise(table: &mut [u8; TABLE_BYTES], r: Top, x: NodeEntry) -> Top
     requires { Divisible r.height r.node (x ∷ []) table.old × (length (entries table.old r.node) ≡ max_entries)
         × (2 ≤ length (free table.old)) × (r.height < max_levels) }
     ensures { Raised (Some result) r.height r.node (x ∷ []) table.old table.new }
@@ -40,7 +41,7 @@ fn rise(table: &mut [u8], r: Top, x: NodeEntry) -> Top
 }
 
 // Adds the leaf entry e to the tree r.
-fn add_root(table: &mut [u8], r: Top, e: NodeEntry) -> Top
+fn add_root(table: &mut [u8; TABLE_BYTES], r: Top, e: NodeEntry) -> Top
     requires { Rooted (Some r) table.old × (length (tree_leaves (entries table.old) (Some r)) < max_sites) }
     ensures { Planted (Some r) e (Some result) table.old table.new }
 {
@@ -51,7 +52,7 @@ fn add_root(table: &mut [u8], r: Top, e: NodeEntry) -> Top
 }
 
 // Adds the leaf entry e to an empty tree.
-fn add_first(table: &mut [u8], e: NodeEntry) -> Top
+fn add_first(table: &mut [u8; TABLE_BYTES], e: NodeEntry) -> Top
     requires { Rooted None table.old }
     ensures { Planted None e (Some result) table.old table.new }
 {
@@ -61,7 +62,7 @@ fn add_first(table: &mut [u8], e: NodeEntry) -> Top
 }
 
 // Adds the leaf entry e to the tree r, which may be empty.
-pub fn plant(table: &mut [u8], r: Option<Top>, e: NodeEntry) -> Top
+pub fn plant(table: &mut [u8; TABLE_BYTES], r: Option<Top>, e: NodeEntry) -> Top
     requires { Rooted r table.old × (length (tree_leaves (entries table.old) r) < max_sites) }
     ensures { Planted r e (Some result) table.old table.new }
 {

@@ -7,11 +7,11 @@ ghost use Rattle.tree_node.specs.Told.{Told};
 ghost use Rattle.tree_check.specs.Marks.{seen_bytes, Marked, Bits, FreePass};
 
 use crate::marks;
-use limits::MAX_NODES;
+use limits::{MAX_NODES, TABLE_BYTES};
 
 // Whether each free node is one of the pool and has no mark yet. Marks them.
-pub fn check_free(t: &[u8], seen: &mut [u8]) -> bool
-    requires { (length t.now ≡ table_bytes) × (length seen.old ≡ seen_bytes) × Bits seen.old }
+pub fn check_free(t: &[u8; TABLE_BYTES], seen: &mut [u8]) -> bool
+    requires { (length seen.old ≡ seen_bytes) × Bits seen.old }
     ensures { Told result (FreePass t.now seen.old)
         (Marked (λ m. tally m (free t.now)) seen.old seen.new) }
 {

@@ -5,6 +5,7 @@ ghost use Rattle.limits.specs.Limits.{max_sites, table_bytes};
 ghost use Rattle.table_sites.specs.Lines.{lines_in, Array, FoundAs};
 ghost use Rattle.tree_check.specs.Marks.{mark_bytes, seen_bytes};
 
+use limits::TABLE_BYTES;
 use crate::marks;
 
 pub const HINT_BYTES: usize = 1024;
@@ -17,8 +18,8 @@ fn hint_at(x: u16) -> usize
 }
 
 // Stores a hint for each of the first n records.
-pub fn note(t: &[u8], n: usize, seen: &mut [u8])
-    requires { (length t.now ≡ table_bytes) × (n ≤ max_sites) × (length seen.old ≡ seen_bytes) }
+pub fn note(t: &[u8; TABLE_BYTES], n: usize, seen: &mut [u8])
+    requires { (n ≤ max_sites) × (length seen.old ≡ seen_bytes) }
 {
     for k in 0..n {
         seen[hint_at(table_sites::number(t, k))] = (k / 2) as u8;
@@ -26,7 +27,7 @@ pub fn note(t: &[u8], n: usize, seen: &mut [u8])
 }
 
 // Where the number x stands in the site array.
-pub fn find(t: &[u8], x: u16, seen: &[u8]) -> Result<usize, usize>
+pub fn find(t: &[u8; TABLE_BYTES], x: u16, seen: &[u8]) -> Result<usize, usize>
     requires { Array t.now × (length seen.now ≡ seen_bytes) }
     ensures { FoundAs result x (lines_in t.now) }
 {

@@ -16,7 +16,7 @@ ghost use Rattle.tree_check.specs.Marks.{seen_bytes};
 ghost use Rattle.tree_check.specs.Tied.{Tied};
 
 use grid::{Position, Site};
-use limits::MAX_NODES;
+use limits::{MAX_NODES, TABLE_BYTES};
 use tree_node::NodeEntry;
 
 // What has to be lent beside the table: the marks, and behind them the hints.
@@ -39,7 +39,7 @@ pub fn leaf_entry(p: Site) -> NodeEntry
 
 // Whether the tree in the table keeps its rules and has the leaf entries of the site array, whose numbers rise.
 // The bytes of `seen` are changed.
-pub fn check(t: &[u8], seen: &mut [u8]) -> bool
+pub fn check(t: &[u8; TABLE_BYTES], seen: &mut [u8]) -> bool
     requires { Array t.now × (length seen.old ≡ seen_bytes) }
     ensures { Says result (Tied t.now) }
 {

@@ -10,11 +10,11 @@ ghost use Rattle.tree_check.specs.Marks.{Marked, Prepared};
 ghost use Rattle.tree_check.specs.Walk.{met, Pass, Fits, Enough, root_met, RootPass};
 
 use crate::{hints, leaf_entry, marks};
-use limits::{MAX_LEVELS, MAX_NODES, MIN_ENTRIES};
+use limits::{MAX_LEVELS, MAX_NODES, MIN_ENTRIES, TABLE_BYTES};
 use tree_node::{NodeEntry, Top, boxes, header, pool};
 
 // Whether the leaf entry e is that of a record that has no mark yet. Marks the record.
-fn check_leaf(t: &[u8], e: NodeEntry, seen: &mut [u8]) -> bool
+fn check_leaf(t: &[u8; TABLE_BYTES], e: NodeEntry, seen: &mut [u8]) -> bool
     requires { Prepared t.now seen.old }
     ensures { Told result (Pass t.now 0 (e ∷ []) seen.old)
         (Marked (met t.now 0 (e ∷ [])) seen.old seen.new) }
@@ -26,8 +26,8 @@ fn check_leaf(t: &[u8], e: NodeEntry, seen: &mut [u8]) -> bool
 }
 
 // Whether e's child node has entries enough and e is the smallest box of them.
-fn fits(t: &[u8], e: NodeEntry) -> bool
-    requires { (length t.now ≡ table_bytes) × (e.reference < max_nodes) }
+fn fits(t: &[u8; TABLE_BYTES], e: NodeEntry) -> bool
+    requires { e.reference < max_nodes }
     ensures { Says result (Fits t.now e) }
 {
     let c = usize::from(e.reference);
@@ -35,7 +35,7 @@ fn fits(t: &[u8], e: NodeEntry) -> bool
 }
 
 // Whether the entries of the leaf c pass. Marks their records.
-fn check_leaves(t: &[u8], c: usize, seen: &mut [u8]) -> bool
+fn check_leaves(t: &[u8; TABLE_BYTES], c: usize, seen: &mut [u8]) -> bool
     requires { Prepared t.now seen.old × (c < max_nodes) }
     ensures { Told result (Pass t.now 0 (entries t.now c) seen.old)
         (Marked (met t.now 0 (entries t.now c)) seen.old seen.new) }
@@ -50,7 +50,7 @@ fn check_leaves(t: &[u8], c: usize, seen: &mut [u8]) -> bool
 
 // Whether the entry e, which stands at height h above the leaf entries, passes. Marks what lies under it.
 #[cycle(check_entry_check_node)]
-fn check_entry(t: &[u8], h: usize, e: NodeEntry, seen: &mut [u8]) -> bool
+fn check_entry(t: &[u8; TABLE_BYTES], h: usize, e: NodeEntry, seen: &mut [u8]) -> bool
     requires { Prepared t.now seen.old × (h ≡ 0 → ⊥) }
     ensures { Told result (Pass t.now h (e ∷ []) seen.old)
         (Marked (met t.now h (e ∷ [])) seen.old seen.new) }
@@ -67,7 +67,7 @@ fn check_entry(t: &[u8], h: usize, e: NodeEntry, seen: &mut [u8]) -> bool
 
 // Whether the entries of node c, which stand at height h, pass. Marks what lies under them.
 #[cycle(check_entry_check_node)]
-fn check_node(t: &[u8], h: usize, c: usize, seen: &mut [u8]) -> bool
+fn check_node(t: &[u8; TABLE_BYTES], h: usize, c: usize, seen: &mut [u8]) -> bool
     requires { Prepared t.now seen.old × (c < max_nodes) }
     ensures { Told result (Pass t.now h (entries t.now c) seen.old)
         (Marked (met t.now h (entries t.now c)) seen.old seen.new) }
@@ -84,8 +84,8 @@ fn check_node(t: &[u8], h: usize, c: usize, seen: &mut [u8]) -> bool
 }
 
 // Whether the root c, whose entries stand at height g, has as many as a root has to have.
-fn enough(t: &[u8], g: usize, c: usize) -> bool
-    requires { (length t.now ≡ table_bytes) × (c < max_nodes) }
+fn enough(t: &[u8; TABLE_BYTES], g: usize, c: usize) -> bool
+    requires { c < max_nodes }
     ensures { Says result (Enough t.now g c) }
 {
     let k = pool::count(t, c);
@@ -96,7 +96,7 @@ fn enough(t: &[u8], g: usize, c: usize) -> bool
 }
 
 // Whether the tree over r passes. Marks what lies under it.
-fn check_top(t: &[u8], r: Top, seen: &mut [u8]) -> bool
+fn check_top(t: &[u8; TABLE_BYTES], r: Top, seen: &mut [u8]) -> bool
     requires { Prepared t.now seen.old }
     ensures { Told result (RootPass t.now (Some r) seen.old)
         (Marked (root_met t.now (Some r)) seen.old seen.new) }
@@ -114,7 +114,7 @@ fn check_top(t: &[u8], r: Top, seen: &mut [u8]) -> bool
 }
 
 // Whether the tree that the header tells passes. Marks what lies under it.
-pub fn check_root(t: &[u8], seen: &mut [u8]) -> bool
+pub fn check_root(t: &[u8; TABLE_BYTES], seen: &mut [u8]) -> bool
     requires { Prepared t.now seen.old }
     ensures { Told result (RootPass t.now (root_in t.now) seen.old)
         (Marked (root_met t.now (root_in t.now)) seen.old seen.new) }

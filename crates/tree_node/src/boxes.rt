@@ -4,6 +4,7 @@ ghost use Rattle.limits.specs.Limits.{max_entries, max_nodes, table_bytes};
 ghost use Rattle.tree_node.specs.Node.{entries, Wrote};
 ghost use Rattle.tree_node.specs.Boxes.{grow, hull};
 
+use limits::TABLE_BYTES;
 use crate::{NodeEntry, pool};
 
 // The entry f, its box widened to hold the box of e.
@@ -35,8 +36,8 @@ pub fn nowhere(reference: u16) -> NodeEntry
 }
 
 // The entry for node n: the smallest box of its entries.
-pub fn hull_of(table: &[u8], n: usize) -> NodeEntry
-    requires { (length table.now ≡ table_bytes) × (n < max_nodes) }
+pub fn hull_of(table: &[u8; TABLE_BYTES], n: usize) -> NodeEntry
+    requires { n < max_nodes }
     ensures { result ≡ hull n (entries table.now n) }
 {
     let mut f = nowhere(n as u16);
@@ -47,8 +48,8 @@ pub fn hull_of(table: &[u8], n: usize) -> NodeEntry
 }
 
 // Adds the entry of node c to node n, which has room for it.
-pub fn lift(table: &mut [u8], n: usize, c: usize)
-    requires { (length table.old ≡ table_bytes) × (n < max_nodes) × (c < max_nodes)
+pub fn lift(table: &mut [u8; TABLE_BYTES], n: usize, c: usize)
+    requires { (n < max_nodes) × (c < max_nodes)
         × (length (entries table.old n) < max_entries) }
     ensures { Wrote n (entries table.old n ++ (hull c (entries table.old c) ∷ []))
         table.old table.new }

@@ -3,11 +3,11 @@ ghost use Rattle.std.specs.Prelude.{◌≡◌, length};
 ghost use Rattle.limits.specs.Limits.{table_bytes};
 ghost use Rattle.tree_node.specs.Header.{root_in, SmallRoot, Headed};
 
+use limits::TABLE_BYTES;
 use crate::{ROOT_START, TREE_START, Top};
 
 // The top of the tree that the header tells.
-pub fn read_root(table: &[u8]) -> Option<Top>
-    requires { length table.now ≡ table_bytes }
+pub fn read_root(table: &[u8; TABLE_BYTES]) -> Option<Top>
     ensures { result ≡ root_in table.now }
 {
     let levels = usize::from(words::word(table, TREE_START));
@@ -21,8 +21,8 @@ pub fn read_root(table: &[u8]) -> Option<Top>
 }
 
 // Stores r in the header.
-pub fn store_root(table: &mut [u8], r: Option<Top>)
-    requires { (length table.old ≡ table_bytes) × SmallRoot r }
+pub fn store_root(table: &mut [u8; TABLE_BYTES], r: Option<Top>)
+    requires { SmallRoot r }
     ensures { Headed r table.old table.new }
 {
     match r {

@@ -8,7 +8,7 @@ use crate::{
     COUNT_BYTES, EAST_EDGE, ENTRY_BYTES, ENTRY_SPARE, NODE_BYTES, NORTH_EDGE, NodeEntry,
     POOL_START, SOUTH_EDGE, WEST_EDGE,
 };
-use limits::MAX_ENTRIES;
+use limits::{MAX_ENTRIES, TABLE_BYTES};
 
 // The entry that starts at byte i.
 fn get_entry(table: &[u8], i: usize) -> NodeEntry
@@ -55,8 +55,8 @@ pub fn entry_start(n: usize, k: usize) -> usize
 }
 
 // How many entries node n has.
-pub fn count(table: &[u8], n: usize) -> usize
-    requires { (length table.now ≡ table_bytes) × (n < max_nodes) }
+pub fn count(table: &[u8; TABLE_BYTES], n: usize) -> usize
+    requires { n < max_nodes }
     ensures { (result ≡ length (entries table.now n)) × (result ≤ max_entries) }
 {
     let stored = usize::from(words::word(table, base_of(n)));
@@ -67,16 +67,16 @@ pub fn count(table: &[u8], n: usize) -> usize
 }
 
 // Entry k of node n.
-pub fn entry_at(table: &[u8], n: usize, k: usize) -> NodeEntry
-    requires { (length table.now ≡ table_bytes) × (n < max_nodes) × (k < length (entries table.now n)) }
+pub fn entry_at(table: &[u8; TABLE_BYTES], n: usize, k: usize) -> NodeEntry
+    requires { (n < max_nodes) × (k < length (entries table.now n)) }
     ensures { result ≡ get_or (entries table.now n) k no_entry }
 {
     get_entry(table, entry_start(n, k))
 }
 
 // Which entry of node n costs least, and of such the first.
-pub fn least_by<F: Fn(NodeEntry) -> u64>(table: &[u8], n: usize, cost: F) -> usize
-    requires node { (length table.now ≡ table_bytes) × (n < max_nodes) × (0 < length (entries table.now n)) }
+pub fn least_by<F: Fn(NodeEntry) -> u64>(table: &[u8; TABLE_BYTES], n: usize, cost: F) -> usize
+    requires node { (n < max_nodes) × (0 < length (entries table.now n)) }
     requires callable { F.IsAlwaysCallable cost }
     ensures { result < length (entries table.now n) }
 {
@@ -93,16 +93,16 @@ pub fn least_by<F: Fn(NodeEntry) -> u64>(table: &[u8], n: usize, cost: F) -> usi
 }
 
 // Stores e as entry k of node n.
-pub fn put(table: &mut [u8], n: usize, k: usize, e: NodeEntry)
-    requires { (length table.old ≡ table_bytes) × (n < max_nodes) × (k < length (entries table.old n)) }
+pub fn put(table: &mut [u8; TABLE_BYTES], n: usize, k: usize, e: NodeEntry)
+    requires { (n < max_nodes) × (k < length (entries table.old n)) }
     ensures { Wrote n (set (entries table.old n) k e) table.old table.new }
 {
     set_entry(table, entry_start(n, k), e);
 }
 
 // Adds e after the entries of node n, which has room for it.
-pub fn push(table: &mut [u8], n: usize, e: NodeEntry)
-    requires { (length table.old ≡ table_bytes) × (n < max_nodes) × (length (entries table.old n) < max_entries) }
+pub fn push(table: &mut [u8; TABLE_BYTES], n: usize, e: NodeEntry)
+    requires { (n < max_nodes) × (length (entries table.old n) < max_entries) }
     ensures { Wrote n (entries table.old n ++ (e ∷ [])) table.old table.new }
 {
     let k = count(table, n);
@@ -111,16 +111,16 @@ pub fn push(table: &mut [u8], n: usize, e: NodeEntry)
 }
 
 // Takes every entry from node n.
-pub fn clear(table: &mut [u8], n: usize)
-    requires { (length table.old ≡ table_bytes) × (n < max_nodes) }
+pub fn clear(table: &mut [u8; TABLE_BYTES], n: usize)
+    requires { n < max_nodes }
     ensures { Wrote n [] table.old table.new }
 {
     words::put_word(table, base_of(n), 0);
 }
 
 // Takes entry k from node n: the last one takes its place.
-pub fn drop_entry(table: &mut [u8], n: usize, k: usize)
-    requires { (length table.old ≡ table_bytes) × (n < max_nodes) × (k < length (entries table.old n)) }
+pub fn drop_entry(table: &mut [u8; TABLE_BYTES], n: usize, k: usize)
+    requires { (n < max_nodes) × (k < length (entries table.old n)) }
     ensures { Wrote n (swap_out (entries table.old n) k) table.old table.new }
 {
     let last = count(table, n) - 1;

@@ -11,10 +11,11 @@ ghost use Rattle.tree_node.specs.Header.{root_in};
 ghost use Rattle.tree_rules.specs.Rooted.{Rooted, leaves_in};
 ghost use Rattle.tree_remove.specs.Removal.{Removed};
 
+use limits::TABLE_BYTES;
 use tree_node::{NodeEntry, header};
 
 // Removes one leaf entry equal to e, which stands in the table's tree.
-pub fn remove(table: &mut [u8], e: NodeEntry)
+pub fn remove(table: &mut [u8; TABLE_BYTES], e: NodeEntry)
     requires { Rooted (root_in table.old) table.old × Memᴰ e (leaves_in table.old) }
     ensures { Removed e table.old table.new }
 {

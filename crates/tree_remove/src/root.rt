@@ -8,12 +8,13 @@ ghost use Rattle.tree_rules.specs.Change.{Ready, Became};
 ghost use Rattle.tree_rules.specs.Rooted.{tree_leaves, Rooted};
 ghost use Rattle.tree_remove.specs.Removal.{TakenFrom};
 
+use limits::TABLE_BYTES;
 use crate::take;
 use tree_node::{NodeEntry, Top, free, pool};
 
 // The tree over r, whose root has lost an entry: a root that is no leaf with one entry left is replaced by its child,
 // and an empty leaf by the empty tree.
-fn shrink(table: &mut [u8], r: Top) -> Option<Top>
+fn shrink(table: &mut [u8; TABLE_BYTES], r: Top) -> Option<Top>
     requires { Ready r.height r.node table.old × ((r.height ≡ 0 → ⊥) → 1 ≤ length (entries table.old r.node))
         × (length (free table.old) < max_nodes) }
     ensures { Became (Some r) result table.old table.new }
@@ -38,7 +39,7 @@ fn shrink(table: &mut [u8], r: Top) -> Option<Top>
 }
 
 // Takes the leaf entry e, which stands in it, from the tree over r.
-fn take_under(table: &mut [u8], r: Top, e: NodeEntry) -> Option<Top>
+fn take_under(table: &mut [u8; TABLE_BYTES], r: Top, e: NodeEntry) -> Option<Top>
     requires { Rooted (Some r) table.old × Memᴰ e (tree_leaves (entries table.old) (Some r)) }
     ensures { TakenFrom (Some r) e result table.old table.new }
 {
@@ -49,7 +50,7 @@ fn take_under(table: &mut [u8], r: Top, e: NodeEntry) -> Option<Top>
 }
 
 // Takes the leaf entry e, which stands in it, from the tree r.
-pub fn take_from(table: &mut [u8], r: Option<Top>, e: NodeEntry) -> Option<Top>
+pub fn take_from(table: &mut [u8; TABLE_BYTES], r: Option<Top>, e: NodeEntry) -> Option<Top>
     requires { Rooted r table.old × Memᴰ e (tree_leaves (entries table.old) r) }
     ensures { TakenFrom r e result table.old table.new }
 {

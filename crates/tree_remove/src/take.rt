@@ -8,6 +8,7 @@ ghost use Rattle.tree_node.specs.Node.{entries, no_entry};
 ghost use Rattle.tree_node.specs.Told.{Told};
 ghost use Rattle.tree_remove.specs.Take.{Next, NextTold, Prunable, Sought};
 
+use limits::TABLE_BYTES;
 use tree_node::{NodeEntry, pool};
 use tree_repair::repair;
 
@@ -25,8 +26,8 @@ fn holds(f: NodeEntry, e: NodeEntry) -> bool
 
 // The first entry of node n from k on of which `asked` says true.
 // A loop: a call for each entry costs more than the test of its box.
-fn next_where<F: Fn(NodeEntry) -> bool>(table: &[u8], n: usize, k: usize, asked: F) -> Option<usize>
-    requires place { (length table.now ≡ table_bytes) × (n < max_nodes) × (k ≤ length (entries table.now n)) }
+fn next_where<F: Fn(NodeEntry) -> bool>(table: &[u8; TABLE_BYTES], n: usize, k: usize, asked: F) -> Option<usize>
+    requires place { (n < max_nodes) × (k ≤ length (entries table.now n)) }
     requires callable { F.IsAlwaysCallable asked }
     ensures { NextTold (F.post asked) (entries table.now n) k result }
 {
@@ -39,16 +40,16 @@ fn next_where<F: Fn(NodeEntry) -> bool>(table: &[u8], n: usize, k: usize, asked:
 }
 
 // The first entry of node n from k on whose box holds the box of e.
-fn next_holding(table: &[u8], n: usize, k: usize, e: NodeEntry) -> Option<usize>
-    requires { (length table.now ≡ table_bytes) × (n < max_nodes) × (k ≤ length (entries table.now n)) }
+fn next_holding(table: &[u8; TABLE_BYTES], n: usize, k: usize, e: NodeEntry) -> Option<usize>
+    requires { (n < max_nodes) × (k ≤ length (entries table.now n)) }
     ensures { Next (λ f. InBox e f) (entries table.now n) k result }
 {
     next_where(table, n, k, |f| holds(f, e))
 }
 
 // The first entry of node n from k on that is e.
-fn next_equal(table: &[u8], n: usize, k: usize, e: NodeEntry) -> Option<usize>
-    requires { (length table.now ≡ table_bytes) × (n < max_nodes) × (k ≤ length (entries table.now n)) }
+fn next_equal(table: &[u8; TABLE_BYTES], n: usize, k: usize, e: NodeEntry) -> Option<usize>
+    requires { (n < max_nodes) × (k ≤ length (entries table.now n)) }
     ensures { Next (λ f. f ≡ e) (entries table.now n) k result }
 {
     next_where(
@@ -62,7 +63,7 @@ fn next_equal(table: &[u8], n: usize, k: usize, e: NodeEntry) -> Option<usize>
 }
 
 // Takes the leaf entry e from the entries from k on of the leaf n. Whether it was there.
-fn take_from_leaf(table: &mut [u8], n: usize, k: usize, e: NodeEntry) -> bool
+fn take_from_leaf(table: &mut [u8; TABLE_BYTES], n: usize, k: usize, e: NodeEntry) -> bool
     requires { Prunable 0 n table.old × (k ≤ length (entries table.old n)) }
     ensures { Sought result 0 n e (drop k (entries table.old n)) table.old
         table.new }
@@ -79,7 +80,7 @@ fn take_from_leaf(table: &mut [u8], n: usize, k: usize, e: NodeEntry) -> bool
 // Takes the leaf entry e from under f, which is entry k of node n and stands at height h, above the leaves. Whether it
 // was there.
 #[cycle(take_take_child)]
-fn take_child(table: &mut [u8], h: usize, n: usize, k: usize, f: NodeEntry, e: NodeEntry) -> bool
+fn take_child(table: &mut [u8; TABLE_BYTES], h: usize, n: usize, k: usize, f: NodeEntry, e: NodeEntry) -> bool
     requires { Prunable h n table.old × (h ≡ 0 → ⊥) × (k < length (entries table.old n))
         × (f ≡ get_or (entries table.old n) k no_entry) }
     ensures { Sought result h n e (f ∷ []) table.old table.new }
@@ -93,7 +94,7 @@ fn take_child(table: &mut [u8], h: usize, n: usize, k: usize, f: NodeEntry, e: N
 
 // Takes the leaf entry e from under the entries from k on of node n, which stand at height h. Whether it was there.
 #[cycle(take_take_child)]
-pub fn take(table: &mut [u8], h: usize, n: usize, k: usize, e: NodeEntry) -> bool
+pub fn take(table: &mut [u8; TABLE_BYTES], h: usize, n: usize, k: usize, e: NodeEntry) -> bool
     requires { Prunable h n table.old × (k ≤ length (entries table.old n)) }
     ensures { Sought result h n e (drop k (entries table.old n)) table.old
         table.new }

@@ -4,12 +4,13 @@ ghost use Rattle.limits.specs.Limits.{max_entries, max_nodes, table_bytes};
 ghost use Rattle.tree_node.specs.Node.{entries};
 ghost use Rattle.tree_repair.specs.Moved.{Moved};
 
+use limits::TABLE_BYTES;
 use crate::near;
 use tree_node::pool;
 
 // Moves from node c to node d the entry that is nearest to d.
-fn move_one(table: &mut [u8], c: usize, d: usize)
-    requires { (length table.old ≡ table_bytes) × (c < max_nodes) × (d < max_nodes) × (c ≡ d → ⊥)
+fn move_one(table: &mut [u8; TABLE_BYTES], c: usize, d: usize)
+    requires { (c < max_nodes) × (d < max_nodes) × (c ≡ d → ⊥)
         × (0 < length (entries table.old c)) × (length (entries table.old d) < max_entries) }
     ensures { Moved c d 1 table.old table.new }
 {
@@ -20,8 +21,8 @@ fn move_one(table: &mut [u8], c: usize, d: usize)
 }
 
 // Moves m entries from node c to node d.
-pub fn move_some(table: &mut [u8], c: usize, d: usize, m: usize)
-    requires { (length table.old ≡ table_bytes) × (c < max_nodes) × (d < max_nodes) × (c ≡ d → ⊥)
+pub fn move_some(table: &mut [u8; TABLE_BYTES], c: usize, d: usize, m: usize)
+    requires { (c < max_nodes) × (d < max_nodes) × (c ≡ d → ⊥)
         × (m ≤ length (entries table.old c)) × (length (entries table.old d) + m ≤ max_entries) }
     ensures { Moved c d m table.old table.new }
 {

@@ -4,11 +4,12 @@ ghost use Rattle.std.specs.Prelude.{◌≡◌, ◌<◌, length};
 ghost use Rattle.limits.specs.Limits.{max_nodes, table_bytes};
 ghost use Rattle.tree_node.specs.Node.{entries};
 
+use limits::TABLE_BYTES;
 use tree_node::{boxes, pool};
 
 // The entry of node n whose box and node c's have the smallest box around both, by its half-perimeter.
-pub fn nearest(table: &[u8], n: usize, c: usize) -> usize
-    requires { (length table.now ≡ table_bytes) × (n < max_nodes) × (c < max_nodes)
+pub fn nearest(table: &[u8; TABLE_BYTES], n: usize, c: usize) -> usize
+    requires { (n < max_nodes) × (c < max_nodes)
         × (0 < length (entries table.now n)) }
     ensures { result < length (entries table.now n) }
 {

@@ -5,12 +5,12 @@ ghost use Rattle.tree_node.specs.Node.{entries, swap_out};
 ghost use Rattle.tree_repair.specs.Repair.{Loose, Repaired};
 
 use crate::{join, near};
-use limits::MIN_ENTRIES;
+use limits::{MIN_ENTRIES, TABLE_BYTES};
 use tree_node::{NodeEntry, boxes, pool};
 
 // Node n, which has lost the entry of its child c, gets it back joined with the nearest sibling: c has two entries
 // only.
-fn join_nearest(table: &mut [u8], n: usize, c: usize)
+fn join_nearest(table: &mut [u8; TABLE_BYTES], n: usize, c: usize)
     requires { Loose n c (entries table.old n) table.old × (length (entries table.old c) ≡ 2)
         × (0 < length (entries table.old n)) × (length (entries table.old n) < max_entries) }
     ensures { Repaired n c (entries table.old n) table.old table.new }
@@ -23,7 +23,7 @@ fn join_nearest(table: &mut [u8], n: usize, c: usize)
 
 // Node n, which has lost its entry f, gets it back with the box that f's child has now, or joined with a sibling
 // where the child has too few entries.
-fn restore(table: &mut [u8], n: usize, f: NodeEntry)
+fn restore(table: &mut [u8; TABLE_BYTES], n: usize, f: NodeEntry)
     requires { Loose n f.reference (entries table.old n) table.old
         × (0 < length (entries table.old n)) × (length (entries table.old n) < max_entries) }
     ensures { Repaired n f.reference (entries table.old n) table.old
@@ -39,7 +39,7 @@ fn restore(table: &mut [u8], n: usize, f: NodeEntry)
 }
 
 // Repairs entry k of node n, f, whose child has lost an entry.
-pub fn repair(table: &mut [u8], n: usize, k: usize, f: NodeEntry)
+pub fn repair(table: &mut [u8; TABLE_BYTES], n: usize, k: usize, f: NodeEntry)
     requires { Loose n f.reference (swap_out (entries table.old n) k) table.old
         × (k < length (entries table.old n)) × (2 ≤ length (entries table.old n)) }
     ensures { Repaired n f.reference (swap_out (entries table.old n) k) table.old

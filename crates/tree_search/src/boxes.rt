@@ -9,6 +9,7 @@ ghost use Rattle.tree_rules.specs.Tree.{Each};
 ghost use Rattle.tree_search.specs.Sites.{area_of, BoxOnGrid};
 ghost use Rattle.tree_search.specs.Searching.{entry_of, Measured};
 
+use limits::TABLE_BYTES;
 use grid::{Area, Corner, Leg};
 use tree_node::NodeEntry;
 
@@ -25,8 +26,8 @@ fn area_of(e: NodeEntry) -> Area
 }
 
 // How far the box of entry i of node n is from the leg's two ends, squared.
-fn corner_at(t: &[u8], leg: Leg, n: usize, i: usize) -> Corner
-    requires t_len { (length t.now ≡ table_bytes) × (n < max_nodes) × (i < length (entries t.now n)) }
+fn corner_at(t: &[u8; TABLE_BYTES], leg: Leg, n: usize, i: usize) -> Corner
+    requires t_len { (n < max_nodes) × (i < length (entries t.now n)) }
     requires on_grid { LegOnGrid leg × Each BoxOnGrid (entries t.now n) }
     ensures { IsCorner leg (area_of (entry_of t.now n i)) result }
 {
@@ -40,8 +41,8 @@ fn corner_at(t: &[u8], leg: Leg, n: usize, i: usize) -> Corner
 // Measures the boxes of node n from the leg's two ends, and gives the entry to be read first: the one whose box is
 // nearest to both together. That makes the search two to three times as quick, since a good list early shuts out
 // more; any answer would do, so the contract says no more than that there is such an entry.
-pub fn measure(t: &[u8], leg: Leg, n: usize, corners: &mut [Corner; limits::MAX_ENTRIES]) -> usize
-    requires t_len { (length t.now ≡ table_bytes) × (n < max_nodes) × (0 < length (entries t.now n)) }
+pub fn measure(t: &[u8; TABLE_BYTES], leg: Leg, n: usize, corners: &mut [Corner; limits::MAX_ENTRIES]) -> usize
+    requires t_len { (n < max_nodes) × (0 < length (entries t.now n)) }
     requires leg_on_grid { LegOnGrid leg × Each BoxOnGrid (entries t.now n) × (length corners.old ≡ max_entries) }
     ensures first { result < length (entries t.now n) }
     ensures measured { Measured leg t.now n (length (entries t.now n)) corners.new }

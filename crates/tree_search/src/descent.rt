@@ -10,6 +10,7 @@ ghost use Rattle.tree_rules.specs.Tree.{leaves};
 ghost use Rattle.tree_search.specs.Sites.{area_of};
 ghost use Rattle.tree_search.specs.Searching.{entry_of, under, ComesNext, Readable, Ahead, Searched, Progressed};
 
+use limits::TABLE_BYTES;
 use crate::boxes;
 use grid::{Corner, Leg};
 use list_row::{Row, Vertex};
@@ -37,7 +38,7 @@ fn after(i: usize, m: usize) -> usize
 // Deals with the site of entry i of the leaf n, whose cut is known. Its box is a point, so the corner has its
 // distances.
 fn search_leaf(
-    t: &[u8],
+    t: &[u8; TABLE_BYTES],
     leg: Leg,
     n: usize,
     i: usize,
@@ -70,7 +71,7 @@ struct Progress {
 // with no look at the list.
 #[cycle(search_entry_search_node)]
 fn search_entry(
-    t: &[u8],
+    t: &[u8; TABLE_BYTES],
     leg: Leg,
     h: usize,
     n: usize,
@@ -115,7 +116,7 @@ fn search_entry(
 // last.
 #[cycle(search_entry_search_node)]
 pub fn search_node(
-    t: &[u8],
+    t: &[u8; TABLE_BYTES],
     leg: Leg,
     h: usize,
     n: usize,

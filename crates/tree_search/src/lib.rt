@@ -17,10 +17,11 @@ ghost use Rattle.tree_rules.specs.Rooted.{Rooted, leaves_in};
 ghost use Rattle.tree_search.specs.Sites.{LeafPoint};
 ghost use Rattle.tree_search.specs.Searching.{ListsTree};
 
+use limits::TABLE_BYTES;
 use grid::Leg;
 
 // Makes the list of the tree's sites in the row that begins the work buffer.
-pub fn search(t: &[u8], leg: Leg, work: &mut [u8]) -> usize
+pub fn search(t: &[u8; TABLE_BYTES], leg: Leg, work: &mut [u8]) -> usize
     requires rooted { Rooted (root_in t.now) t.now × Each LeafPoint (leaves_in t.now)
         × (length (leaves_in t.now) ≤ max_sites) }
     requires leg_on_grid { LegOnGrid leg × (row_bytes ≤ length work.old) }

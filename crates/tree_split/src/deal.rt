@@ -7,7 +7,7 @@ ghost use Rattle.tree_node.specs.Tally.{tally, Within};
 ghost use Rattle.tree_split.specs.Parted.{most_parted, MovedOne, Dealing, Ninth, Parted};
 
 use crate::MOST_PARTED;
-use limits::{MAX_ENTRIES, MIN_ENTRIES};
+use limits::{MAX_ENTRIES, MIN_ENTRIES, TABLE_BYTES};
 use tree_node::{NodeEntry, free, pool};
 
 // Whether an entry goes to the new node, which has m: as bit i of the mask says, so long as the node can end with three
@@ -23,8 +23,8 @@ fn due(mask: u16, i: usize, m: usize, follow: usize) -> bool
 }
 
 // Moves entry k of node c to node s.
-fn shift(table: &mut [u8], c: usize, s: usize, k: usize)
-    requires { (length table.old ≡ table_bytes) × (c < max_nodes) × (s < max_nodes) × (c ≡ s → ⊥)
+fn shift(table: &mut [u8; TABLE_BYTES], c: usize, s: usize, k: usize)
+    requires { (c < max_nodes) × (s < max_nodes) × (c ≡ s → ⊥)
         × (k < length (entries table.old c)) × (length (entries table.old s) < max_entries) }
     ensures { MovedOne c s table.old table.new }
 {
@@ -34,8 +34,8 @@ fn shift(table: &mut [u8], c: usize, s: usize, k: usize)
 }
 
 // Moves entry k of node c to node s where it is due there. The k before it follow, and the ninth.
-fn offer(table: &mut [u8], c: usize, s: usize, k: usize, mask: u16)
-    requires { (length table.old ≡ table_bytes) × (c < max_nodes) × (s < max_nodes) × (c ≡ s → ⊥)
+fn offer(table: &mut [u8; TABLE_BYTES], c: usize, s: usize, k: usize, mask: u16)
+    requires { (c < max_nodes) × (s < max_nodes) × (c ≡ s → ⊥)
         × (k < max_entries) × (k < length (entries table.old c))
         × (length (entries table.old s) ≤ most_parted) × (min_entries ≤ length (entries table.old s) + k + 2) }
     ensures { Dealing c s k table.old table.new }
@@ -47,8 +47,8 @@ fn offer(table: &mut [u8], c: usize, s: usize, k: usize, mask: u16)
 
 // Deals the eight entries of node c to it and to node s, which has none: from the last to the first, so that those
 // before k keep their places.
-fn deal(table: &mut [u8], c: usize, s: usize, mask: u16)
-    requires { (length table.old ≡ table_bytes) × (c < max_nodes) × (s < max_nodes) × (c ≡ s → ⊥)
+fn deal(table: &mut [u8; TABLE_BYTES], c: usize, s: usize, mask: u16)
+    requires { (c < max_nodes) × (s < max_nodes) × (c ≡ s → ⊥)
         × (length (entries table.old c) ≡ max_entries) × (length (entries table.old s) ≡ 0) }
     ensures { Dealing c s 0 table.old table.new }
 {
@@ -58,8 +58,8 @@ fn deal(table: &mut [u8], c: usize, s: usize, mask: u16)
 }
 
 // Gives the ninth entry x to node c or to node s.
-fn place(table: &mut [u8], c: usize, s: usize, x: NodeEntry, mask: u16)
-    requires { (length table.old ≡ table_bytes) × (c < max_nodes) × (s < max_nodes) × (c ≡ s → ⊥)
+fn place(table: &mut [u8; TABLE_BYTES], c: usize, s: usize, x: NodeEntry, mask: u16)
+    requires { (c < max_nodes) × (s < max_nodes) × (c ≡ s → ⊥)
         × (min_entries ≤ length (entries table.old s) + 1) × (length (entries table.old s) ≤ most_parted)
         × (length (entries table.old c) + length (entries table.old s) ≡ max_entries) }
     ensures { Ninth c s x table.old table.new }
@@ -73,8 +73,8 @@ fn place(table: &mut [u8], c: usize, s: usize, x: NodeEntry, mask: u16)
 
 // Splits node c, which has eight entries, and x by the bits of the mask: entry k goes to the new node by bit k, x by
 // bit 8. Returns the new node.
-pub fn part(table: &mut [u8], c: usize, x: NodeEntry, mask: u16) -> usize
-    requires { (length table.old ≡ table_bytes) × (c < max_nodes) × (length (entries table.old c) ≡ max_entries)
+pub fn part(table: &mut [u8; TABLE_BYTES], c: usize, x: NodeEntry, mask: u16) -> usize
+    requires { (c < max_nodes) × (length (entries table.old c) ≡ max_entries)
         × (0 < length (free table.old)) × (tally c (free table.old) ≡ 0) × Within max_nodes (free table.old) }
     ensures { Parted c result x table.old table.new }
 {

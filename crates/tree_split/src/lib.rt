@@ -11,6 +11,7 @@ ghost use Rattle.tree_node.specs.Free.{free};
 ghost use Rattle.tree_node.specs.Tally.{tally, Within};
 ghost use Rattle.tree_split.specs.Parted.{Parted};
 
+use limits::TABLE_BYTES;
 use tree_node::NodeEntry;
 
 pub mod deal;
@@ -23,8 +24,8 @@ const OVERFULL: usize = limits::MAX_ENTRIES + 1;
 const MOST_PARTED: usize = OVERFULL - limits::MIN_ENTRIES;
 
 // Splits node c, which has eight entries, and x. Returns the new node.
-pub fn split(table: &mut [u8], c: usize, x: NodeEntry) -> usize
-    requires { (length table.old ≡ table_bytes) × (c < max_nodes) × (length (entries table.old c) ≡ max_entries)
+pub fn split(table: &mut [u8; TABLE_BYTES], c: usize, x: NodeEntry) -> usize
+    requires { (c < max_nodes) × (length (entries table.old c) ≡ max_entries)
         × (0 < length (free table.old)) × (tally c (free table.old) ≡ 0) × Within max_nodes (free table.old) }
     ensures { Parted c result x table.old table.new }
 {

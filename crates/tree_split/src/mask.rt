@@ -8,7 +8,7 @@ ghost use Rattle.limits.specs.Limits.{max_entries, max_nodes, table_bytes};
 ghost use Rattle.tree_node.specs.Node.{entries};
 
 use crate::{MOST_PARTED, OVERFULL};
-use limits::{MAX_ENTRIES, MIN_ENTRIES};
+use limits::{MAX_ENTRIES, MIN_ENTRIES, TABLE_BYTES};
 use tree_node::{NodeEntry, boxes, pool};
 
 // A division of an order of boxes: how many come before the cut, and how bad it is.
@@ -132,8 +132,8 @@ fn best_mask(nine: &[NodeEntry; OVERFULL]) -> u16 {
 }
 
 // A mask for the eight entries of node c, bits 0 to 7, and x, bit 8.
-pub fn split_mask(table: &[u8], c: usize, x: NodeEntry) -> u16
-    requires { (length table.now ≡ table_bytes) × (c < max_nodes) × (length (entries table.now c) ≡ max_entries) }
+pub fn split_mask(table: &[u8; TABLE_BYTES], c: usize, x: NodeEntry) -> u16
+    requires { (c < max_nodes) × (length (entries table.now c) ≡ max_entries) }
 {
     let mut nine: [NodeEntry; OVERFULL] = [x; OVERFULL];
     for k in 0..MAX_ENTRIES {

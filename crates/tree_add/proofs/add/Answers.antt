@@ -6,7 +6,7 @@ pub plant-q-requires : goal.plant-q-requires
 plant-q-requires c = (search told_rooted, search told_few)
 
 pub store_root-requires : goal.store_root-requires
-store_root-requires c = (search rules, search told_small)
+store_root-requires c = search told_small
 
 pub returns : goal.returns
 returns c = search add_done

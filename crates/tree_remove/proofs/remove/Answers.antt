@@ -6,7 +6,7 @@ pub take_from-s-requires : goal.take_from-s-requires
 take_from-s-requires c = (search header_rooted, search header_member)
 
 pub store_root-requires : goal.store_root-requires
-store_root-requires c = (search remove_len, search remove_small)
+store_root-requires c = search remove_small
 
 pub returns : goal.returns
 returns c = search remove_done

@@ -11,7 +11,7 @@ insert_under-insert-requires t c = (omega arith, (rw c.from-c.ensures (search do
 pub insert_under-put-requires : goal.insert_under-put-requires
 insert_under-put-requires t c =
     let i = rw c.from-c.ensures at c.insert.ensures in
-    (search up_len, search rules, search up_in)
+    (search rules, search up_in)
 
 pub insert_under-halve-requires : goal.insert_under-halve-requires
 insert_under-halve-requires t c =

@@ -4,10 +4,10 @@ use borrow.Author.Rules.{rules}
 use Rattle.tree_add.proofs.root.rise.Goals as goal
 
 pub split-s-requires : goal.split-s-requires
-split-s-requires c = (search rules, search rules, search rules, search rules, search open_not_free, search rules)
+split-s-requires c = (search rules, search rules, search rules, search open_not_free, search rules)
 
 pub over-m-requires : goal.over-m-requires
-over-m-requires c = (search rules, search rise_some, search half_within, search rules, search rules, search half_not_c, search half_not_s)
+over-m-requires c = (search rise_some, search half_within, search rules, search rules, search half_not_c, search half_not_s)
 
 pub returns : goal.returns
 returns c = search rise_done

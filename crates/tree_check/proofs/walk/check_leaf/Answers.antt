@@ -4,7 +4,7 @@ use Rattle.tree_check.proofs.Passing.{leaf_absent, leaf_in, leaf_other, leaf_tol
 use Rattle.tree_check.proofs.walk.check_leaf.Goals as goal
 
 pub line-requires : goal.line-requires
-line-requires c = (search rules, search leaf_in)
+line-requires c = search leaf_in
 
 pub overflow_add-k : goal.overflow_add-k
 overflow_add-k c = let lt = leaf_in _ _ _ _ c.find.ensures c.in-Ok.is c.requires.array in search rules

@@ -9,7 +9,7 @@ pub take-returns-then-h-eq0 : goal.take-returns-then-h-eq0
 take-returns-then-h-eq0 t c = search leaf_told
 
 pub take-entry_at-f-requires : goal.take-entry_at-f-requires
-take-entry_at-f-requires t c = (search rules, search rules, take_in _ _ _ _ _ c.requires.0 _ c.next_holding.ensures _ c.in-Some.is)
+take-entry_at-f-requires t c = (search rules, take_in _ _ _ _ _ c.requires.0 _ c.next_holding.ensures _ c.in-Some.is)
 
 pub take-take_child-requires : goal.take-take_child-requires
 take-take_child-requires t c =

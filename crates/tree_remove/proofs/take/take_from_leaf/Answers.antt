@@ -3,7 +3,7 @@ use Rattle.tree_remove.proofs.Taking.{leaf_in, leaf_gone, leaf_none}
 use Rattle.tree_remove.proofs.take.take_from_leaf.Goals as goal
 
 pub drop_entry-requires : goal.drop_entry-requires
-drop_entry-requires c = (search rules, search rules, leaf_in _ _ _ _ c.requires.0 _ c.next_equal.ensures _ c.in-Some.is)
+drop_entry-requires c = (search rules, leaf_in _ _ _ _ c.requires.0 _ c.next_equal.ensures _ c.in-Some.is)
 
 pub returns-in-Some : goal.returns-in-Some
 returns-in-Some c = leaf_gone _ _ _ _ c.requires.0 _ c.next_equal.ensures _ _ c.in-Some.is c.drop_entry.ensures

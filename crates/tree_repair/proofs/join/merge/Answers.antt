@@ -3,10 +3,10 @@ use Rattle.tree_repair.proofs.Joining.{merge_len, merge_free, merge_len₂, merg
 use Rattle.tree_repair.proofs.join.merge.Goals as goal
 
 pub give-requires : goal.give-requires
-give-requires c = (search merge_len, search rules, search merge_free)
+give-requires c = (search rules, search merge_free)
 
 pub lift-requires : goal.lift-requires
-lift-requires c = (search merge_len₂, search rules, search rules, search merge_room)
+lift-requires c = (search rules, search rules, search merge_room)
 
 pub returns : goal.returns
 returns c = search merge_done

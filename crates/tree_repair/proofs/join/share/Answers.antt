@@ -6,10 +6,10 @@ pub move_some-requires : goal.move_some-requires
 move_some-requires c = search (rules, share_some, share_fits)
 
 pub lift-requires : goal.lift-requires
-lift-requires c = (search share_len, search rules, search rules, search share_room)
+lift-requires c = (search rules, search rules, search share_room)
 
 pub lift-requires-2 : goal.lift-requires-2
-lift-requires-2 c = (search share_len₂, search rules, search rules, search share_room₂)
+lift-requires-2 c = (search rules, search rules, search share_room₂)
 
 pub returns : goal.returns
 returns c = search share_done

@@ -59,7 +59,7 @@ search_node-measure-i-requires t c =
     let rd = c.requires.readable.0 in
     let ah = c.requires.ahead.0 in
     record {
-      t_len = (rd.len, rd.id, c.requires.readable.1);
+      t_len = (rd.id, c.requires.readable.1);
       leg_on_grid = (ah.leg, node_placed rd ah, search rules);
     }
 

@@ -3,7 +3,7 @@ use borrow.Author.Rules.{rules}
 use Rattle.tree_split.proofs.deal.shift.Goals as goal
 
 pub push-requires : goal.push-requires
-push-requires c = (search rules, search rules, search shift_room)
+push-requires c = (search rules, search shift_room)
 
 pub returns : goal.returns
 returns c = search shift_done
