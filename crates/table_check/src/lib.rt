@@ -4,8 +4,9 @@
 
 ghost use Rattle.std.specs.Prelude.{◌≡◌, ◌≤◌, length};
 ghost use Rattle.limits.specs.Limits.{table_bytes};
+ghost use Rattle.grid.specs.Position.{LegOnGrid};
 ghost use Rattle.grid.specs.Says.{Says};
-ghost use Rattle.list_row.specs.Vertices.{row_bytes, entries_in};
+ghost use Rattle.list_row.specs.Vertices.{row_bytes, Held, entries_in};
 ghost use Rattle.book.specs.Proper.{LastHeld, TourOk};
 ghost use Rattle.table_header.specs.Header.{tour_in};
 ghost use Rattle.table_sites.specs.Lines.{lines_in, Array};
@@ -13,19 +14,22 @@ ghost use Rattle.table_standing.specs.Standing.{standing_in, numbers_of};
 ghost use Rattle.tree_check.specs.Marks.{seen_bytes};
 ghost use Rattle.table_rules.specs.Table.{Whole, StandingOk};
 
+use grid::Leg;
 use limits::TABLE_BYTES;
 use list_row::Row;
 
-// Whether the stored standing list has the numbers of the list in the row.
-fn list_matches(t: &[u8; TABLE_BYTES], row: Row) -> bool
-    ensures { let r = row.entry in Says result
-        (standing_in t.now ≡ numbers_of (entries_in r.leg r.t.now r.places.now r.k)) }
+// Whether the stored standing list has the numbers of the list in the first k of the row. The row is made here, so that
+// its table is the one whose stored numbers are read.
+fn list_matches(t: &[u8; TABLE_BYTES], places: &[u8], leg: Leg, k: usize) -> bool
+    requires { Held leg t.now places.now k × LegOnGrid leg }
+    ensures { Says result (standing_in t.now ≡ numbers_of (entries_in leg t.now places.now k)) }
 {
+    let row = Row { t, places, leg, k };
     let n = table_header::length(t);
-    if n != row.k {
+    if n != k {
         return false;
     }
-    for i in 0..row.k {
+    for i in 0..k {
         let stored = table_standing::number(t, i);
         if row.number(i) != stored {
             return false;
@@ -44,13 +48,7 @@ pub fn standing_ok(t: &[u8; TABLE_BYTES], work: &mut [u8]) -> bool
         Some(leg) => {
             if grid::coordinate::leg_on_grid(leg) {
                 let k = table_search::search(t, leg, work);
-                let row = Row {
-                    t,
-                    places: work,
-                    leg,
-                    k,
-                };
-                return list_matches(t, row);
+                return list_matches(t, work, leg, k);
             }
             false
         }

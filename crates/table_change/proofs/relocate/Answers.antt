@@ -3,7 +3,7 @@ use borrow.Author.Rules.{rules}
 use Rattle.table_change.proofs.relocate.Goals as goal
 
 pub line-requires : goal.line-requires
-line-requires c = (search rules, search (rules, line_few))
+line-requires c = search (rules, line_few)
 
 pub place-requires : goal.place-requires
 place-requires c = (search (rules, whole_array), search (rules, at_inside))

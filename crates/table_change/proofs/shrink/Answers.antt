@@ -3,7 +3,7 @@ use borrow.Author.Rules.{rules}
 use Rattle.table_change.proofs.shrink.Goals as goal
 
 pub line-requires : goal.line-requires
-line-requires c = (search rules, search (rules, line_few))
+line-requires c = search (rules, line_few)
 
 pub delete-requires : goal.delete-requires
 delete-requires c = (search (rules, whole_array), search (rules, at_inside))

@@ -2,8 +2,8 @@ use borrow.Author.Rules.{rules}
 use Rattle.table_check.proofs.Matching.{matched_none, matched_one, matched_all, other_length, other_number}
 use Rattle.table_check.proofs.list_matches.Goals as goal
 
-pub returns-then-n-row : goal.returns-then-n-row
-returns-then-n-row c = search (rules, other_length)
+pub returns-then-n-k : goal.returns-then-n-k
+returns-then-n-k c = search (rules, other_length)
 
 pub loop-i-init : goal.loop-i-init
 loop-i-init c = search (rules, matched_none)

@@ -4,7 +4,7 @@ use borrow.Author.Rules.{rules}
 use Rattle.table_check.proofs.whole_ok.Goals as goal
 
 pub tour_ok-requires : goal.tour_ok-requires
-tour_ok-requires c = (search rules, search (rules, sites_yes))
+tour_ok-requires c = search (rules, sites_yes)
 
 pub slice_bounds-check-end-then-tour_ok : goal.slice_bounds-check-end-then-tour_ok
 slice_bounds-check-end-then-tour_ok c = search (rules, length-take-le)

@@ -6,4 +6,4 @@ pub unwrap-k-requires : goal.unwrap-k-requires
 unwrap-k-requires c = search (rules, found_held)
 
 pub place_at-requires : goal.place_at-requires
-place_at-requires c = (search rules, search rules, search (rules, at_found))
+place_at-requires c = (search rules, search (rules, at_found))

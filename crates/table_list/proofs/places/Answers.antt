@@ -7,7 +7,7 @@ pub loop-i-init : goal.loop-i-init
 loop-i-init c = search (rules, loading_none)
 
 pub place_of-p-requires : goal.place_of-p-requires
-place_of-p-requires c = (search rules, search rules, search (rules, number_held))
+place_of-p-requires c = (search rules, search (rules, number_held))
 
 pub loop-i-preserved : goal.loop-i-preserved
 loop-i-preserved c = search (rules, loading_one)

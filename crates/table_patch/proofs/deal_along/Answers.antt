@@ -6,7 +6,7 @@ pub vertex_at-x-requires : goal.vertex_at-x-requires
 vertex_at-x-requires c = (search rules, search (rules, others_leg))
 
 pub end_shuts-requires : goal.end_shuts-requires
-end_shuts-requires c = record { t_len = (search rules, search rules, search (rules, others_held)); leg_on_grid = (search (rules, others_leg), search rules) }
+end_shuts-requires c = record { t_len = (search rules, search (rules, others_held)); leg_on_grid = (search (rules, others_leg), search rules) }
 
 pub returns-then-end_shuts : goal.returns-then-end_shuts
 returns-then-end_shuts c = search (rules, shut_holds)
