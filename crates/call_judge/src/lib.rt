@@ -1,5 +1,7 @@
 // What each command is to be answered and done: the tests of its row in order, the list that it asks for, and where
-// in the table its site stands or goes. Document 01, the column "Tests in order".
+// in the table its site stands or goes. Document 01, the column "Tests in order". `Sound` stands in the contracts, here
+// and behind: the table is lent, and each change takes it from one sound table to the next, so a struct around it would
+// be unwrapped in every clause and made anew for every command.
 #![tactic(auto)]
 
 pub mod change;

@@ -13,7 +13,8 @@ ghost use Rattle.list_row.specs.Alike.{held_alike};
 
 use grid::{Leg, Position, Site};
 
-// The bytes of a row that holds every site.
+// The bytes of a row that holds every site. That a buffer has so many stands in the contracts: it may have more, and a
+// type of one length would ask more of callers.
 pub const ROW_BYTES: usize = 2 * limits::MAX_SITES;
 
 // A site in hand: its place, its squared distances from S and from E.

@@ -97,7 +97,8 @@ pub fn delete(t: &mut [u8; TABLE_BYTES], work: &mut [u8], k: usize, n: u16)
     table_patch::patch_gone(t, work, n);
 }
 
-// Gives the site of record k a new position. Document 01, command 4D.
+// Gives the site of record k a new position. Document 01, command 4D. It differs from `insert` in the change of the
+// lines: a closure for that would need the clauses of both.
 pub fn place(t: &mut [u8; TABLE_BYTES], work: &mut [u8], k: usize, site: Site)
     requires { Sound t.old × StandsAt k site.number (lines_in t.old) × OnGrid site.position
         × (row_bytes ≤ length work.old) }

@@ -1,5 +1,7 @@
 // A node of the tree and its entries in the table's bytes, the stack of free nodes, and the tree's header.
-// Follows document 01, "The tree". specs/Layout.antt says where each stands.
+// Follows document 01, "The tree". specs/Layout.antt says where each stands. A node's number is a plain number, and its
+// bound stands in the contracts, as that of an entry's place does: both come from the table's bytes and are said of
+// them, and a type around the number would be unwrapped in every clause.
 #![tactic(auto)]
 
 pub mod boxes;

@@ -60,7 +60,8 @@ fn search_leaf(
     list_skip::deal_vertex(t, leg, x, work, k, cut)
 }
 
-// After an entry: the length of the list, and the edge that was looked at last.
+// After an entry: the length of the list, and the edge that was looked at last. Table, leg and row stay parameters: the
+// row is lent for writing, and a struct that holds it would be unwrapped in every clause.
 #[derive(Clone, Copy)]
 struct Progress {
     k: usize,

@@ -1,7 +1,8 @@
 // Which of nine boxes go to the new node, as the bits of a mask: a heuristic, with no contract beyond safety. The
 // nine are ordered along an axis by their middles and cut with three to six on either side. The least sum of the two
 // half-perimeters is taken, and of equal sums an even cut: additions in ascending order then leave no node with three
-// entries. Arrays are filled where they stand: one that is handed back would be copied.
+// entries. Keys, places and half-perimeters are arrays of their own, each made of the one before, and no part of a box.
+// Arrays are filled where they stand: one that is handed back would be copied.
 ghost use Rattle.std.specs.Prelude.{◌≡◌, ◌<◌, length};
 ghost use Rattle.std.specs.Iterator.{IsFinite};
 ghost use Rattle.limits.specs.Limits.{max_entries, max_nodes, table_bytes};
