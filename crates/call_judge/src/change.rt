@@ -8,10 +8,10 @@ ghost use Rattle.book.specs.Proper.{NumberOk};
 ghost use Rattle.table_rules.specs.Table.{Sound};
 ghost use Rattle.call_judge.specs.Verdict.{TestedAs, Settled};
 
-use limits::TABLE_BYTES;
 use crate::Verdict;
 use book::Cause;
 use grid::Site;
+use limits::TABLE_BYTES;
 use readings::Location;
 
 // The tests that an addition and a move begin with: number, readings, position. The grid limit is tested on the step.

@@ -13,9 +13,9 @@ ghost use Rattle.list_row.specs.Vertices.{row_bytes};
 ghost use Rattle.table_rules.specs.Table.{Sound};
 ghost use Rattle.call_judge.specs.Verdict.{answer_of, Decided};
 
-use limits::TABLE_BYTES;
 use book::{Cause, Command};
 use grid::{Leg, Position, Site};
+use limits::TABLE_BYTES;
 
 // What the record of a command says: accepted, refused for a cause, or answered by a list, that of the leg in the row
 // that begins the work buffer, from one entry up to another. These are the definitions' three replies (`Reply`), each a

@@ -5,10 +5,10 @@ ghost use Rattle.list_row.specs.Vertices.{row_bytes};
 ghost use Rattle.table_rules.specs.Table.{Sound};
 ghost use Rattle.call_judge.specs.Verdict.{Decided, Settled};
 
-use limits::TABLE_BYTES;
 use crate::Verdict;
 use book::Cause;
 use grid::Leg;
+use limits::TABLE_BYTES;
 
 // A list: leg, site.
 pub fn list(t: &[u8; TABLE_BYTES], work: &mut [u8], leg: Leg) -> Result<Verdict, Cause>

@@ -9,10 +9,10 @@ ghost use Rattle.table_rules.specs.Table.{Sound};
 ghost use Rattle.table_rules.specs.Listing.{ListsTable};
 ghost use Rattle.call_judge.specs.Verdict.{Decided, Settled, passed_by};
 
-use limits::TABLE_BYTES;
 use crate::Verdict;
 use book::{Cause, Tour};
 use grid::{Leg, Position};
+use limits::TABLE_BYTES;
 use list_row::Row;
 
 // A tour begins: position.

@@ -5,9 +5,9 @@ ghost use Rattle.table_rules.specs.Table.{Sound};
 ghost use Rattle.call_judge.specs.Verdict.{Findings};
 ghost use Rattle.call_serve.specs.Serving.{Carried};
 
-use limits::TABLE_BYTES;
 use book::Cause;
 use call_judge::Verdict;
+use limits::TABLE_BYTES;
 
 // Changes the table as the book changes, at the record that was found.
 pub fn carry(t: &mut [u8; TABLE_BYTES], work: &mut [u8], v: Result<Verdict, Cause>)

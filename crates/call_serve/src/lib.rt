@@ -12,12 +12,18 @@ ghost use Rattle.call_judge.specs.Judged.{reply_of, RowOk};
 ghost use Rattle.call_judge.specs.Verdict.{answer_of, Findings};
 ghost use Rattle.call_serve.specs.Serving.{Obeyed, Answered};
 
-use limits::TABLE_BYTES;
 use book::{BatchResult, Cause, Parsed, Reason};
 use call_judge::Verdict;
+use limits::TABLE_BYTES;
 
 // Writes the record of a verdict or a refusal, and does what it says.
-fn obey(t: &mut [u8; TABLE_BYTES], work: &mut [u8], v: Result<Verdict, Cause>, report: &mut [u8], at: usize)
+fn obey(
+    t: &mut [u8; TABLE_BYTES],
+    work: &mut [u8],
+    v: Result<Verdict, Cause>,
+    report: &mut [u8],
+    at: usize,
+)
     requires sound { Sound t.old × (row_bytes ≤ length work.old) }
     requires findings { Findings v t.old × RowOk (answer_of v) t.old work.old
         × (at + record_size (reply_of (answer_of v) t.old work.old) ≤ length report.old) }
@@ -30,7 +36,12 @@ fn obey(t: &mut [u8; TABLE_BYTES], work: &mut [u8], v: Result<Verdict, Cause>, r
 }
 
 // Takes the commands in turn until one ends the batch.
-pub fn serve(t: &mut [u8; TABLE_BYTES], work: &mut [u8], commands: &[u8], report: &mut [u8]) -> BatchResult
+pub fn serve(
+    t: &mut [u8; TABLE_BYTES],
+    work: &mut [u8],
+    commands: &[u8],
+    report: &mut [u8],
+) -> BatchResult
     requires { Sound t.old × (row_bytes ≤ length work.old) }
     ensures { Answered commands.now t.old report.old
         result t.new report.new }

@@ -23,7 +23,12 @@ pub fn lay_out(table: &mut [u8]) -> Reason
 }
 
 // Carries out commands on a sound table, and clears the work buffer.
-fn carry_out(table: &mut [u8; TABLE_BYTES], work: &mut [u8], commands: &[u8], report: &mut [u8]) -> BatchResult
+fn carry_out(
+    table: &mut [u8; TABLE_BYTES],
+    work: &mut [u8],
+    commands: &[u8],
+    report: &mut [u8],
+) -> BatchResult
     requires { Sound table.old × (length work.old ≡ work_bytes) }
     ensures { Served
         (run commands.now (length report.old) (book_of table.old))

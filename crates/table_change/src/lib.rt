@@ -21,9 +21,9 @@ ghost use Rattle.tree_node.specs.Header.{root_in};
 ghost use Rattle.tree_rules.specs.Rooted.{Rooted, leaves_in};
 ghost use Rattle.table_change.specs.Changes.{Swapped, Relined};
 
-use limits::TABLE_BYTES;
 use book::Tour;
 use grid::{Leg, Position, Site};
+use limits::TABLE_BYTES;
 use tree_check::leaf_entry;
 use tree_node::NodeEntry;
 

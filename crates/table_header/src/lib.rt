@@ -12,9 +12,9 @@ ghost use Rattle.table_header.specs.Header.{count_in, length_in, position_words,
 ghost use Rattle.table_header.specs.Header.{LegStored, ZeroFrom, FlagOk, HeaderOk};
 ghost use Rattle.table_header.specs.Header.{site_number, tour_in, put_tour, TourStored};
 
-use limits::TABLE_BYTES;
 use book::Tour;
 use grid::{Leg, Position};
+use limits::TABLE_BYTES;
 
 // Where the fields stand.
 const COUNT_START: usize = 0;

@@ -17,8 +17,8 @@ ghost use Rattle.table_rules.specs.Table.{Sound};
 ghost use Rattle.table_rules.specs.Listing.{ListsTable};
 ghost use Rattle.table_list.specs.Loading.{PlaceOf, NumbersHeld, PlacesOf, EntryShuts};
 
-use limits::TABLE_BYTES;
 use grid::{Corner, Leg};
+use limits::TABLE_BYTES;
 use list_row::Vertex;
 
 // The place of record k, which has the number n.

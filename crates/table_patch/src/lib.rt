@@ -13,8 +13,8 @@ ghost use Rattle.demands.specs.Step.{Holds};
 ghost use Rattle.table_list.specs.Loading.{PlaceOf};
 ghost use Rattle.table_patch.specs.Patching.{ListsOthers, Patchable};
 
-use limits::TABLE_BYTES;
 use grid::Leg;
+use limits::TABLE_BYTES;
 
 // Makes the standing list anew.
 pub fn restand(t: &mut [u8; TABLE_BYTES], work: &mut [u8])

@@ -8,8 +8,8 @@ ghost use Rattle.list_row.specs.Vertices.{row_bytes};
 ghost use Rattle.table_rules.specs.Table.{Whole};
 ghost use Rattle.table_rules.specs.Listing.{ListsTable};
 
-use limits::TABLE_BYTES;
 use grid::Leg;
+use limits::TABLE_BYTES;
 
 // Makes the list in the row that begins the work buffer, and counts its entries.
 pub fn search(t: &[u8; TABLE_BYTES], leg: Leg, work: &mut [u8]) -> usize

@@ -6,9 +6,9 @@ ghost use Rattle.table_sites.specs.Layout.{site_bytes};
 ghost use Rattle.table_sites.specs.Lines.{lines_in, Array};
 ghost use Rattle.table_sites.specs.Changes.{inserted, deleted, placed, ArrayChanged, PutPosition, PutSite};
 
-use limits::TABLE_BYTES;
 use crate::{EAST_OFFSET, NORTH_OFFSET, SITE_BYTES, SITE_START, SPARE_OFFSET};
 use grid::{Position, Site};
+use limits::TABLE_BYTES;
 
 // Gives the record at byte i a position.
 fn put_position(t: &mut [u8], i: usize, position: Position)

@@ -8,8 +8,8 @@ ghost use Rattle.words.specs.Words.{word_at};
 ghost use Rattle.table_sites.specs.Layout.{record_start};
 ghost use Rattle.table_sites.specs.Lines.{lines_in, line_at, Array, FoundAs, Narrowed};
 
-use limits::TABLE_BYTES;
 use grid::{Position, Site};
+use limits::TABLE_BYTES;
 
 pub mod change;
 pub mod rules;

@@ -5,8 +5,8 @@ ghost use Rattle.grid.specs.Says.{Says};
 ghost use Rattle.table_sites.specs.Layout.{site_bytes};
 ghost use Rattle.table_sites.specs.Rules.{SitesOk, RecordOk};
 
-use limits::TABLE_BYTES;
 use crate::{EAST_OFFSET, NORTH_OFFSET, SITE_BYTES, SITE_START, SPARE_OFFSET};
+use limits::TABLE_BYTES;
 
 // Whether the record at byte i keeps the rules, where the record before it has the number low.
 fn record_ok(t: &[u8], i: usize, low: u16) -> bool

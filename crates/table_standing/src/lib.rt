@@ -6,8 +6,8 @@ ghost use Rattle.limits.specs.Limits.{max_sites, table_bytes};
 ghost use Rattle.list_row.specs.Vertices.{Held, entries_in};
 ghost use Rattle.table_standing.specs.Standing.{stored_number, NumberRow, ListStored};
 
-use limits::TABLE_BYTES;
 use grid::Leg;
+use limits::TABLE_BYTES;
 
 // Where the first number stands: docs/LAYOUT.md.
 const LIST_START: usize = 4160;

@@ -8,8 +8,8 @@ ghost use Rattle.tree_node.specs.Tally.{tally, Within};
 ghost use Rattle.tree_rules.specs.Rooted.{tree_leaves, Rooted};
 ghost use Rattle.tree_add.specs.Steps.{Divisible, Raised, Planted};
 
-use limits::TABLE_BYTES;
 use crate::insert;
+use limits::TABLE_BYTES;
 use tree_node::{NodeEntry, Top, boxes, free, pool};
 
 // A new node over the nodes c and s.

@@ -5,8 +5,8 @@ ghost use Rattle.limits.specs.Limits.{max_sites, table_bytes};
 ghost use Rattle.table_sites.specs.Lines.{lines_in, Array, FoundAs};
 ghost use Rattle.tree_check.specs.Marks.{mark_bytes, seen_bytes};
 
-use limits::TABLE_BYTES;
 use crate::marks;
+use limits::TABLE_BYTES;
 
 pub const HINT_BYTES: usize = 1024;
 

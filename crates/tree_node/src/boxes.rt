@@ -4,8 +4,8 @@ ghost use Rattle.limits.specs.Limits.{max_entries, max_nodes, table_bytes};
 ghost use Rattle.tree_node.specs.Node.{entries, Wrote};
 ghost use Rattle.tree_node.specs.Boxes.{grow, hull};
 
-use limits::TABLE_BYTES;
 use crate::{NodeEntry, pool};
+use limits::TABLE_BYTES;
 
 // The entry f, its box widened to hold the box of e.
 pub fn grown(e: NodeEntry, f: NodeEntry) -> NodeEntry

@@ -3,8 +3,8 @@ ghost use Rattle.std.specs.Prelude.{◌≡◌, length};
 ghost use Rattle.limits.specs.Limits.{table_bytes};
 ghost use Rattle.tree_node.specs.Header.{root_in, SmallRoot, Headed};
 
-use limits::TABLE_BYTES;
 use crate::{ROOT_START, TREE_START, Top};
+use limits::TABLE_BYTES;
 
 // The top of the tree that the header tells.
 pub fn read_root(table: &[u8; TABLE_BYTES]) -> Option<Top>

@@ -8,8 +8,8 @@ ghost use Rattle.tree_rules.specs.Change.{Ready, Became};
 ghost use Rattle.tree_rules.specs.Rooted.{tree_leaves, Rooted};
 ghost use Rattle.tree_remove.specs.Removal.{TakenFrom};
 
-use limits::TABLE_BYTES;
 use crate::take;
+use limits::TABLE_BYTES;
 use tree_node::{NodeEntry, Top, free, pool};
 
 // The tree over r, whose root has lost an entry: a root that is no leaf with one entry left is replaced by its child,

@@ -26,7 +26,12 @@ fn holds(f: NodeEntry, e: NodeEntry) -> bool
 
 // The first entry of node n from k on of which `asked` says true.
 // A loop: a call for each entry costs more than the test of its box.
-fn next_where<F: Fn(NodeEntry) -> bool>(table: &[u8; TABLE_BYTES], n: usize, k: usize, asked: F) -> Option<usize>
+fn next_where<F: Fn(NodeEntry) -> bool>(
+    table: &[u8; TABLE_BYTES],
+    n: usize,
+    k: usize,
+    asked: F,
+) -> Option<usize>
     requires place { (n < max_nodes) × (k ≤ length (entries table.now n)) }
     requires callable { F.IsAlwaysCallable asked }
     ensures { NextTold (F.post asked) (entries table.now n) k result }
@@ -80,7 +85,14 @@ fn take_from_leaf(table: &mut [u8; TABLE_BYTES], n: usize, k: usize, e: NodeEntr
 // Takes the leaf entry e from under f, which is entry k of node n and stands at height h, above the leaves. Whether it
 // was there.
 #[cycle(take_take_child)]
-fn take_child(table: &mut [u8; TABLE_BYTES], h: usize, n: usize, k: usize, f: NodeEntry, e: NodeEntry) -> bool
+fn take_child(
+    table: &mut [u8; TABLE_BYTES],
+    h: usize,
+    n: usize,
+    k: usize,
+    f: NodeEntry,
+    e: NodeEntry,
+) -> bool
     requires { Prunable h n table.old × (h ≡ 0 → ⊥) × (k < length (entries table.old n))
         × (f ≡ get_or (entries table.old n) k no_entry) }
     ensures { Sought result h n e (f ∷ []) table.old table.new }

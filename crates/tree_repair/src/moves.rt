@@ -4,8 +4,8 @@ ghost use Rattle.limits.specs.Limits.{max_entries, max_nodes, table_bytes};
 ghost use Rattle.tree_node.specs.Node.{entries};
 ghost use Rattle.tree_repair.specs.Moved.{Moved};
 
-use limits::TABLE_BYTES;
 use crate::near;
+use limits::TABLE_BYTES;
 use tree_node::pool;
 
 // Moves from node c to node d the entry that is nearest to d.

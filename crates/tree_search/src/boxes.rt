@@ -9,8 +9,8 @@ ghost use Rattle.tree_rules.specs.Tree.{Each};
 ghost use Rattle.tree_search.specs.Sites.{area_of, BoxOnGrid};
 ghost use Rattle.tree_search.specs.Searching.{entry_of, Measured};
 
-use limits::TABLE_BYTES;
 use grid::{Area, Corner, Leg};
+use limits::TABLE_BYTES;
 use tree_node::NodeEntry;
 
 // The box of an entry.
@@ -41,7 +41,12 @@ fn corner_at(t: &[u8; TABLE_BYTES], leg: Leg, n: usize, i: usize) -> Corner
 // Measures the boxes of node n from the leg's two ends, and gives the entry to be read first: the one whose box is
 // nearest to both together. That makes the search two to three times as quick, since a good list early shuts out
 // more; any answer would do, so the contract says no more than that there is such an entry.
-pub fn measure(t: &[u8; TABLE_BYTES], leg: Leg, n: usize, corners: &mut [Corner; limits::MAX_ENTRIES]) -> usize
+pub fn measure(
+    t: &[u8; TABLE_BYTES],
+    leg: Leg,
+    n: usize,
+    corners: &mut [Corner; limits::MAX_ENTRIES],
+) -> usize
     requires t_len { (n < max_nodes) × (0 < length (entries t.now n)) }
     requires leg_on_grid { LegOnGrid leg × Each BoxOnGrid (entries t.now n) × (length corners.old ≡ max_entries) }
     ensures first { result < length (entries t.now n) }

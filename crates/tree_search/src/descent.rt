@@ -10,9 +10,9 @@ ghost use Rattle.tree_rules.specs.Tree.{leaves};
 ghost use Rattle.tree_search.specs.Sites.{area_of};
 ghost use Rattle.tree_search.specs.Searching.{entry_of, under, ComesNext, Readable, Ahead, Searched, Progressed};
 
-use limits::TABLE_BYTES;
 use crate::boxes;
 use grid::{Corner, Leg};
+use limits::TABLE_BYTES;
 use list_row::{Row, Vertex};
 use list_skip::{Edge, Seen};
 

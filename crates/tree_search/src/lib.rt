@@ -17,8 +17,8 @@ ghost use Rattle.tree_rules.specs.Rooted.{Rooted, leaves_in};
 ghost use Rattle.tree_search.specs.Sites.{LeafPoint};
 ghost use Rattle.tree_search.specs.Searching.{ListsTree};
 
-use limits::TABLE_BYTES;
 use grid::Leg;
+use limits::TABLE_BYTES;
 
 // Makes the list of the tree's sites in the row that begins the work buffer.
 pub fn search(t: &[u8; TABLE_BYTES], leg: Leg, work: &mut [u8]) -> usize
