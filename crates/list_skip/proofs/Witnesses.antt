@@ -20,7 +20,7 @@ use Rattle.list_row.specs.Gaps.{Stands, About, Cuts}
 use Rattle.list_row.proofs.Stacks.{in_stack}
 use Rattle.list_skip.specs.declared.Edge.{Edge}
 use Rattle.list_skip.specs.declared.Seen.{Seen}
-use Rattle.list_skip.specs.Skipping.{SmallCorner, EdgeShuts, Knows, KnowsNothing, edge_of, CutOf, SeenAbout, SmallGap, SeenNothing, SeenAt, CutIn, Looked}
+use Rattle.list_skip.specs.Skipping.{SmallCorner, EdgeShuts, Knows, KnowsNothing, edge_of, SeenAbout, SmallGap, SeenNothing, SeenAt, Looked}
 
 pub if_true : {P : Type 0} (b : Bool) → b ≡ true → If b P → P
 if_true b e h = rw e at h
@@ -67,16 +67,17 @@ module _ {l : Leg} {t r : List ℕ} {n : ℕ} {k : Corner} {s : Seen} where
   seen_gap : {g : Gap} → SmallCorner k → About l t r n k.a g → SeenAbout g k s → Looked l t r n k s
   seen_gap {g} h b w =
       let kn : Knows s.edge (stack l t r n) = subst⁻¹ (λ (e : Edge). Knows e (stack l t r n)) w.edge (edge_knows b.left b.right) in
-      record { cut = told s.cut w.cut kn; knows = kn }
+      record { shut = told s.shut w.shut kn; cut = subst⁻¹ (λ (x : ℕ). Cut l t r n k.a x) w.cut b.cut; knows = kn }
     where
-      told : (o : Option ℕ) → CutOf g s.edge k o → Knows s.edge (stack l t r n) → CutIn l t r n k o
-      told (Some m) e kn = subst⁻¹ (λ (x : ℕ). Cut l t r n k.a x) e b.cut
-      told None f kn = kn.shuts k h f
+      told : (q : Bool) → If q (EdgeShuts s.edge k.a k.c) → Knows s.edge (stack l t r n) → If q (ShutOut (stack l t r n) k.a k.c)
+      told true f kn = kn.shuts k h f
+      told false f kn = tt
 
   seen_none : n ≡ 0 → SeenNothing s → Looked l t r n k s
   seen_none z w =
       record {
-        cut = subst⁻¹ (CutIn l t r n k) w.cut (record { within = omega arith; left = λ h. absurd (omega arith); right = λ i h j. absurd (omega arith) });
+        shut = subst⁻¹ (λ (q : Bool). If q (ShutOut (stack l t r n) k.a k.c)) w.shut tt;
+        cut = subst⁻¹ (λ (x : ℕ). Cut l t r n k.a x) w.cut (record { within = omega arith; left = λ h. absurd (omega arith); right = λ i h j. absurd (omega arith) });
         knows = w.edge (stack l t r n);
       }
 

@@ -1,7 +1,7 @@
 -- Corners, and what dealing with a site does to a row.
 -- Document 01, "The tree": "Which subtrees a search skips is the team's choice."
 -- Assumes nothing.
-use Rattle.std.specs.Prelude.{◌≡◌, Option, None, Some, ◌⊎◌, List, ◌∷◌, ℕ, ◌+◌, ◌^◌, ◌≤◌, ◌<◌}
+use Rattle.std.specs.Prelude.{◌≡◌, false, Option, None, Some, ◌⊎◌, List, ◌∷◌, ℕ, ◌+◌, ◌^◌, ◌≤◌, ◌<◌}
 use Rattle.limits.specs.Limits.{max_sites}
 use Rattle.words.specs.Words.{Only}
 use Rattle.grid.specs.declared.Site.{Site}
@@ -9,6 +9,7 @@ use Rattle.grid.specs.declared.Leg.{Leg}
 use Rattle.grid.specs.declared.Area.{Area}
 use Rattle.grid.specs.declared.Corner.{Corner}
 use Rattle.grid.specs.Area.{area_distance}
+use Rattle.grid.specs.Says.{If}
 use Rattle.split.specs.Hull.{Point, In}
 use Rattle.split.specs.Skip.{Shut, ShutOut}
 use Rattle.list_row.specs.declared.Vertex.{Vertex}
@@ -45,24 +46,21 @@ KnowsNothing e = (l : List Point) → Knows e l
 abbrev pub edge_of : Vertex → Vertex → Edge
 edge_of u v = record { left = record { a = u.a; c = u.c }; right = record { a = v.a; c = v.c } }
 
--- the cut of g, or nothing, only if the edge e shuts the corner k out
-abbrev pub CutOf : Gap → Edge → Corner → Option ℕ → Type 0
-CutOf g e k (Some n) = n ≡ g.n
-CutOf g e k None = EdgeShuts e k.a k.c
-
--- s has the edge of the two vertices of g, and its cut, or nothing, only if that edge shuts the corner k out
+-- s has the cut of g, the edge of its two vertices, and says "shut" only if that edge shuts the corner k out
 pub record SeenAbout (g : Gap) (k : Corner) (s : Seen) : Type 0 where
+  pub cut : s.cut ≡ g.n
   pub edge : s.edge ≡ edge_of g.left g.right
-  pub cut : CutOf g s.edge k s.cut
+  pub shut : If s.shut (EdgeShuts s.edge k.a k.c)
 
 -- vertices whose squared distances 31 bits hold
 abbrev pub SmallGap : Option Gap → Type 0
 SmallGap (Some g) = Small g.left × Small g.right
 SmallGap None = Unit {0}
 
--- the cut of an empty row, and an edge that shuts nothing out
+-- s does not say "shut", and has the cut of an empty row and an edge that shuts nothing out
 pub record SeenNothing (s : Seen) : Type 0 where
-  pub cut : s.cut ≡ Some 0
+  pub shut : s.shut ≡ false
+  pub cut : s.cut ≡ 0
   pub edge : KnowsNothing s.edge
 
 -- what s says of the corner k is told by two vertices, or by none
@@ -70,15 +68,11 @@ abbrev pub SeenAt : Option Gap → Corner → Seen → Type 0
 SeenAt (Some g) k s = SeenAbout g k s
 SeenAt None k s = SeenNothing s
 
--- the cut of the corner k in the first n of the row r, or nothing, only if the list shuts it out
-abbrev pub CutIn : Leg → List ℕ → List ℕ → ℕ → Corner → Option ℕ → Type 0
-CutIn l t r n k (Some m) = Cut l t r n k.a m
-CutIn l t r n k None = ShutOut (stack l t r n) k.a k.c
-
--- what s says of the corner k is true of the first n of the row r: its cut, or nothing, only if the list shuts it out,
--- and an edge of the list
+-- what s says of the corner k is true of the first n of the row r: "shut" only if the list shuts it out, its cut, and
+-- an edge of the list
 pub record Looked (l : Leg) (t r : List ℕ) (n : ℕ) (k : Corner) (s : Seen) : Type 0 where
-  pub cut : CutIn l t r n k s.cut
+  pub shut : If s.shut (ShutOut (stack l t r n) k.a k.c)
+  pub cut : Cut l t r n k.a s.cut
   pub knows : Knows s.edge (stack l t r n)
 
 -- k has the squared distances of S and of E from the box: no site in it is nearer

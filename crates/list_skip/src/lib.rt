@@ -67,7 +67,8 @@ pub struct Edge {
 // More than any squared distance.
 const FAR: u32 = u32::MAX / 2;
 
-// The edge that shuts nothing out.
+// The edge that shuts nothing out. No Option of an edge: what is known of nothing is an edge like any other, so that
+// tests of it need no case and no branch.
 pub fn no_edge() -> Edge
     ensures { KnowsNothing result }
 {
@@ -85,10 +86,12 @@ pub fn shuts(edge: Edge, corner: Corner) -> bool
     lower(edge.left, corner) || above(edge.left, edge.right, corner)
 }
 
-// What a look at a corner found: its cut, or nothing where the list shuts it out, and the edge there.
+// What a look at a corner found: whether the list shuts it out, its cut, and the edge there. The cut is no Option: it
+// is told of a corner that is shut out, too.
 #[derive(Clone, Copy)]
 pub struct Seen {
-    pub cut: Option<usize>,
+    pub shut: bool,
+    pub cut: usize,
     pub edge: Edge,
 }
 
@@ -99,7 +102,8 @@ fn tell(gap: Option<Gap>, corner: Corner) -> Seen
 {
     let Some(gap) = gap else {
         return Seen {
-            cut: Some(0),
+            shut: false,
+            cut: 0,
             edge: no_edge(),
         };
     };
@@ -113,12 +117,11 @@ fn tell(gap: Option<Gap>, corner: Corner) -> Seen
             c: gap.right.c,
         },
     };
-    let cut = if shuts(edge, corner) {
-        None
-    } else {
-        Some(gap.n)
-    };
-    Seen { cut, edge }
+    Seen {
+        shut: shuts(edge, corner),
+        cut: gap.n,
+        edge,
+    }
 }
 
 // Looks whether the list shuts out all that is at or beyond the corner, whose cut is about `near`.
@@ -159,8 +162,9 @@ pub fn deal(t: &[u8], leg: Leg, p: usize, work: &mut [u8], k: usize) -> usize
         k,
     };
     let corner = Corner { a: x.a, c: x.c };
-    let Some(cut) = tell(row.cut(x.a), corner).cut else {
+    let seen = tell(row.cut(x.a), corner);
+    if seen.shut {
         return k;
-    };
-    deal_vertex(t, leg, x, work, k, cut)
+    }
+    deal_vertex(t, leg, x, work, k, seen.cut)
 }

@@ -3,7 +3,6 @@
 use mathlib.Core.Path.{◌≡◌, refl, sym, ap, subst, subst⁻¹, ◌∙◌}
 use mathlib.Core.Bool.{Bool, true}
 use mathlib.Core.List.{List, ◌++◌}
-use Rattle.std.specs.Prelude.{None}
 use Prim.Native.Nat.{ℕ, suc, ◌*◌, ◌-◌, ◌≤◌, ◌<◌}
 use native.Mathlib.Omega.{arith}
 use lib.ListN.{length}
@@ -70,8 +69,8 @@ module _ (t : List ℕ) (h n i : ℕ) (rd : Readable t h n) (lt : i < length (en
       → Progressed l t r k (leaves (entries t) h (entry_of t n i)) r (record { k = k; edge = e })
   step_known kn b q f = step_on ah kn (entry_skipped t h n i rd lt ah c (kn.shuts w c.small (if_true b q f)))
 
-  pub step_shut : {s : Seen} → Looked l t r k w s → s.cut ≡ None → Progressed l t r k (leaves (entries t) h (entry_of t n i)) r (record { k = k; edge = s.edge })
-  step_shut {s} o q = step_on ah o.knows (entry_skipped t h n i rd lt ah c (rw q at o.cut))
+  pub step_shut : {s : Seen} → Looked l t r k w s → s.shut ≡ true → Progressed l t r k (leaves (entries t) h (entry_of t n i)) r (record { k = k; edge = s.edge })
+  step_shut {s} o q = step_on ah o.knows (entry_skipped t h n i rd lt ah c (if_true s.shut q o.shut))
 
 byte_site : (t : List ℕ) (x : ℕ) → site_at_byte t x ≡ site_of (entry_at t x)
 unfolding site_at_byte entry_at

@@ -99,10 +99,10 @@ fn search_entry(
         leg,
         k,
     };
-    let Seen { cut, edge } = list_skip::covers(row, corner, near);
-    let Some(cut) = cut else {
+    let Seen { shut, cut, edge } = list_skip::covers(row, corner, near);
+    if shut {
         return Progress { k, edge };
-    };
+    }
     if h == 0 {
         let k = search_leaf(t, leg, n, i, corner, work, k, cut);
         return Progress { k, edge };

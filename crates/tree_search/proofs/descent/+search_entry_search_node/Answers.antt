@@ -13,24 +13,24 @@ pub search_entry-returns-then-shuts : goal.search_entry-returns-then-shuts
 search_entry-returns-then-shuts t c =
     step_known _ _ _ _ c.requires.readable.0 c.requires.readable.1 c.requires.ahead.0 c.requires.readable.2 c.requires.ahead.1 c.shuts.result c.if-shuts.true c.shuts.ensures
 
-pub search_entry-covers-cut-requires : goal.search_entry-covers-cut-requires
-search_entry-covers-cut-requires t c = c.requires.readable.2.small
+pub search_entry-covers-shut-requires : goal.search_entry-covers-shut-requires
+search_entry-covers-shut-requires t c = c.requires.readable.2.small
 
-pub search_entry-returns-in_default : goal.search_entry-returns-in_default
-search_entry-returns-in_default t c =
-    step_shut _ _ _ _ c.requires.readable.0 c.requires.readable.1 c.requires.ahead.0 c.requires.readable.2 c.covers-cut.ensures c.in_default.is
+pub search_entry-returns-then-shut : goal.search_entry-returns-then-shut
+search_entry-returns-then-shut t c =
+    step_shut _ _ _ _ c.requires.readable.0 c.requires.readable.1 c.requires.ahead.0 c.requires.readable.2 c.covers-shut.ensures c.if-shut.true
 
 pub search_entry-search_leaf-k-requires : goal.search_entry-search_leaf-k-requires
 search_entry-search_leaf-k-requires t c =
     let z : c.args.h ≡ 0 = c.if-h-eq0.true in
     record {
       readable = (rw z at c.requires.readable.0, c.requires.readable.1, c.requires.readable.2);
-      ahead = (rw z at c.requires.ahead.0, (rw c.in-Some.is at c.covers-cut.ensures.cut));
+      ahead = (rw z at c.requires.ahead.0, c.covers-shut.ensures.cut);
     }
 
 pub search_entry-returns-then-h-eq0 : goal.search_entry-returns-then-h-eq0
 search_entry-returns-then-h-eq0 t c =
-    step_leaf _ _ c.if-h-eq0.true c.requires.ahead.0 c.covers-cut.ensures.knows c.search_leaf-k.ensures
+    step_leaf _ _ c.if-h-eq0.true c.requires.ahead.0 c.covers-shut.ensures.knows c.search_leaf-k.ensures
 
 pub search_entry-search_node-k-requires : goal.search_entry-search_node-k-requires
 search_entry-search_node-k-requires t c =
@@ -42,7 +42,7 @@ search_entry-search_node-k-requires t c =
       omega arith,
       (
         (child_readable _ _ _ _ _ rd lt some qe, child_some _ _ _ _ _ rd lt some qe),
-        (child_ahead _ _ _ _ _ rd lt some qe c.requires.ahead.0, c.covers-cut.ensures.knows),
+        (child_ahead _ _ _ _ _ rd lt some qe c.requires.ahead.0, c.covers-shut.ensures.knows),
       ),
     )
 
@@ -52,7 +52,7 @@ search_entry-returns t c =
     let lt = c.requires.readable.1 in
     let qe = c.entry_at-e.ensures in
     let some : 0 < c.args.h = omega (arith, c.if-h-eq0.false) in
-    step_on c.requires.ahead.0 c.covers-cut.ensures.knows (child_searched _ _ _ _ _ rd lt some qe (rw c.from-child.ensures at c.search_node-k.ensures))
+    step_on c.requires.ahead.0 c.covers-shut.ensures.knows (child_searched _ _ _ _ _ rd lt some qe (rw c.from-child.ensures at c.search_node-k.ensures))
 
 pub search_node-measure-i-requires : goal.search_node-measure-i-requires
 search_node-measure-i-requires t c =
