@@ -202,10 +202,10 @@ module _ (b o : List ℕ) (e : NodeEntry) where
             fits : get_or o (max_nodes + k) 0 ≡ 0 → (m : ℕ) → m < mark_bytes → get_or o m 0 + hit m (max_nodes + k) ≤ 1
             fits z m lm = fresh_hit o (max_nodes + k) z m (s.bits m lm)
 
--- the entries of a leaf, as the code reads them
-pub node_leaf : (b : List ℕ) (h c : ℕ) (o o₁ : List ℕ) (r : Bool) → h ≡ 0 → Told r (Pass b 0 (entries b c) o) (Marked (met b 0 (entries b c)) o o₁)
-    → Told r (Pass b h (entries b c) o) (Marked (met b h (entries b c)) o o₁)
-node_leaf b h c o o₁ r z t = rw z t
+-- a leaf entry, as the code reads it
+pub entry_leaf : (b : List ℕ) (h : ℕ) (e : NodeEntry) (o o₁ : List ℕ) (r : Bool) → h ≡ 0 → Told r (Pass b 0 (e ∷ []) o) (Marked (met b 0 (e ∷ [])) o o₁)
+    → Told r (Pass b h (e ∷ []) o) (Marked (met b h (e ∷ [])) o o₁)
+entry_leaf b h e o o₁ r z t = rw z t
 
 -- an entry above the leaves
 module _ (b : List ℕ) (g : ℕ) (o : List ℕ) (e : NodeEntry) where

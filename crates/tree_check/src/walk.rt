@@ -34,27 +34,16 @@ fn fits(t: &[u8; TABLE_BYTES], e: NodeEntry) -> bool
     MIN_ENTRIES <= pool::count(t, c) && e == boxes::hull_of(t, c)
 }
 
-// Whether the entries of the leaf c pass. Marks their records.
-fn check_leaves(t: &[u8; TABLE_BYTES], c: usize, seen: &mut [u8]) -> bool
-    requires { Prepared t.now seen.old × (c < max_nodes) }
-    ensures { Told result (Pass t.now 0 (entries t.now c) seen.old)
-        (Marked (met t.now 0 (entries t.now c)) seen.old seen.new) }
-{
-    for k in 0..pool::count(t, c) {
-        if !check_leaf(t, pool::entry_at(t, c, k), seen) {
-            return false;
-        }
-    }
-    true
-}
-
-// Whether the entry e, which stands at height h above the leaf entries, passes. Marks what lies under it.
+// Whether the entry e, which stands at height h above the leaf entries, passes. Marks its record or what lies under it.
 #[cycle(check_entry_check_node)]
 fn check_entry(t: &[u8; TABLE_BYTES], h: usize, e: NodeEntry, seen: &mut [u8]) -> bool
-    requires { Prepared t.now seen.old × (h ≡ 0 → ⊥) }
+    requires { Prepared t.now seen.old }
     ensures { Told result (Pass t.now h (e ∷ []) seen.old)
         (Marked (met t.now h (e ∷ [])) seen.old seen.new) }
 {
+    if h == 0 {
+        return check_leaf(t, e, seen);
+    }
     let c = usize::from(e.reference);
     if MAX_NODES <= c {
         return false;
@@ -72,9 +61,6 @@ fn check_node(t: &[u8; TABLE_BYTES], h: usize, c: usize, seen: &mut [u8]) -> boo
     ensures { Told result (Pass t.now h (entries t.now c) seen.old)
         (Marked (met t.now h (entries t.now c)) seen.old seen.new) }
 {
-    if h == 0 {
-        return check_leaves(t, c, seen);
-    }
     for k in 0..pool::count(t, c) {
         if !check_entry(t, h, pool::entry_at(t, c, k), seen) {
             return false;

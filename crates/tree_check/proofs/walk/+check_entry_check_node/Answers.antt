@@ -1,6 +1,9 @@
 use Rattle.std.proofs.Common.{rules, arith}
-use Rattle.tree_check.proofs.Passing.{left_all, left_none, left_no, left_next, node_leaf, entry_far, entry_met, entry_unfit, entry_told, prepared_one}
+use Rattle.tree_check.proofs.Passing.{left_all, left_none, left_no, left_next, entry_leaf, entry_far, entry_met, entry_unfit, entry_told, prepared_one}
 use Rattle.tree_check.proofs.walk.+check_entry_check_node.Goals as goal
+
+pub check_entry-returns-then-h-eq0 : goal.check_entry-returns-then-h-eq0
+check_entry-returns-then-h-eq0 t c = search entry_leaf
 
 pub check_entry-returns-then-c-ge-MAX_NODES : goal.check_entry-returns-then-c-ge-MAX_NODES
 check_entry-returns-then-c-ge-MAX_NODES t c = let h = rw c.from-c.ensures at c.if-c-ge-MAX_NODES.true in search entry_far
@@ -35,6 +38,3 @@ check_node-returns t c = search left_none
 
 pub check_node-loop-k-init : goal.check_node-loop-k-init
 check_node-loop-k-init t c = search left_all
-
-pub check_node-returns-then-h-eq0 : goal.check_node-returns-then-h-eq0
-check_node-returns-then-h-eq0 t c = search node_leaf
