@@ -3,7 +3,6 @@
 #![tactic(auto)]
 
 ghost use Rattle.std.specs.Prelude.{◌≡◌, ◌≤◌, length};
-ghost use Rattle.limits.specs.Limits.{table_bytes};
 ghost use Rattle.grid.specs.Position.{LegOnGrid};
 ghost use Rattle.grid.specs.Says.{Says};
 ghost use Rattle.list_row.specs.Vertices.{row_bytes, Held, entries_in};
@@ -12,6 +11,7 @@ ghost use Rattle.table_header.specs.Header.{tour_in};
 ghost use Rattle.table_sites.specs.Lines.{lines_in, Array};
 ghost use Rattle.table_standing.specs.Standing.{standing_in, numbers_of};
 ghost use Rattle.tree_check.specs.Marks.{seen_bytes};
+ghost use Rattle.tree_check.specs.Tied.{Tied};
 ghost use Rattle.table_rules.specs.Table.{Whole, StandingOk};
 
 use grid::Leg;
@@ -77,13 +77,21 @@ fn tour_ok(t: &[u8; TABLE_BYTES]) -> bool
     }
 }
 
+// Whether the tree keeps its rules and has the leaf entries of the site array. The marks are the front of the work buffer.
+fn tree_ok(t: &[u8; TABLE_BYTES], work: &mut [u8]) -> bool
+    requires { Array t.now × (seen_bytes ≤ length work.old) }
+    ensures { Says result (Tied t.now) }
+{
+    let Some(seen) = work.first_chunk_mut() else {
+        unreachable!()
+    };
+    tree_check::check(t, seen)
+}
+
 // The first test: whether sites, header, tour and tree keep their rules.
 pub fn whole_ok(t: &[u8; TABLE_BYTES], work: &mut [u8]) -> bool
     requires { seen_bytes ≤ length work.old }
     ensures { Says result (Whole t.now) }
 {
-    table_sites::rules::check(t)
-        && table_header::header_ok(t)
-        && tour_ok(t)
-        && tree_check::check(t, &mut work[..tree_check::SEEN_BYTES])
+    table_sites::rules::check(t) && table_header::header_ok(t) && tour_ok(t) && tree_ok(t, work)
 }

@@ -70,12 +70,11 @@ unfolding Fresh
 fresh_at f o p lt h p' = omega (arith, p' p lt)
 
 -- a walk goes on after what it has marked
-pub prepared_on : (b o o₁ : List ℕ) (f : ℕ → ℕ) → Prepared b o → Fresh f o → Marked f o o₁ → length o₁ ≡ length o → Prepared b o₁
+pub prepared_on : (b o o₁ : List ℕ) (f : ℕ → ℕ) → Prepared b o → Fresh f o → Marked f o o₁ → Prepared b o₁
 unfolding Fresh Marked Bits
-prepared_on b o o₁ f s p r len =
+prepared_on b o o₁ f s p r =
     record {
       array = s.array;
-      room = len ∙ s.room;
       bits = λ m lt. omega (arith, p m lt, r m lt);
     }
 

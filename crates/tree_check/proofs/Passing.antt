@@ -6,7 +6,7 @@ use mathlib.Core.Path.{◌≡◌, refl, sym, ap, subst, ◌∙◌}
 use Prim.Native.Nat.{ℕ, suc, ◌+◌, ◌-◌, ◌≤◌, ◌<◌}
 use native.Mathlib.Numerals.{add-one}
 use native.Mathlib.Omega.{arith}
-use lib.ListN.{length, get_or, set, drop, length-set, drop_of_length-le}
+use lib.ListN.{length, get_or, set, drop, drop_of_length-le}
 use lib.Seq.{drop-cons}
 use Rattle.limits.specs.Limits.{max_nodes, max_sites}
 use Rattle.grid.specs.declared.Site.{Site}
@@ -26,7 +26,7 @@ use Rattle.tree_node.proofs.Telling.{told_yes, told_no, told_map}
 use Rattle.tree_rules.specs.Tree.{joined, leaves, nodes, Each, Child, SoundUnder}
 use Rattle.tree_rules.proofs.Every.{each_append, each_left, each_right}
 use Rattle.tree_rules.proofs.Totals.{total_cons}
-use Rattle.tree_check.specs.Marks.{mark_bytes, record_mark, Fresh, Marked, Bits, Prepared}
+use Rattle.tree_check.specs.Marks.{mark_bytes, seen_bytes, record_mark, Fresh, Marked, Bits, Prepared}
 use Rattle.tree_check.specs.Leaves.{leaf_entry, index_of, Known}
 use Rattle.tree_check.specs.Walk.{asked_for, met, Pass, Fits}
 use Rattle.tree_check.proofs.Marking.{marked_both, fresh_first, fresh_then, fresh_both, marked_set, fresh_at, fresh_hit, prepared_on, fresh_none, marked_none}
@@ -178,10 +178,10 @@ module _ (b o : List ℕ) (e : NodeEntry) where
         leaf_other z =
             told_no (λ v. t.no z ((leaf_known v).leaf ∙ ap (λ (j : ℕ). leaf_entry (get_or (lines_in b) j no_site)) is_index ∙ sym own))
 
-        pub leaf_told : (u : Bool) (o₁ : List ℕ) → r ≡ true → Told u (get_or o (max_nodes + k) 0 ≡ 0) (o₁ ≡ set o (max_nodes + k) 1)
+        pub leaf_told : (u : Bool) (o₁ : List ℕ) → length o ≡ seen_bytes → r ≡ true → Told u (get_or o (max_nodes + k) 0 ≡ 0) (o₁ ≡ set o (max_nodes + k) 1)
             → Told u (Pass b 0 (e ∷ []) o) (Marked (met b 0 (e ∷ [])) o o₁)
         unfolding joined leaves Each SoundUnder Fresh Marked Bits
-        leaf_told u o₁ y v =
+        leaf_told u o₁ len y v =
             let low = leaf_in b x k e.reference f q s.array in
             told_both
             (λ (z : get_or o (max_nodes + k) 0 ≡ 0).
@@ -193,7 +193,7 @@ module _ (b o : List ℕ) (e : NodeEntry) where
             (λ (p : Pass b 0 (e ∷ []) o).
             fresh_at (met b 0 (e ∷ [])) o (max_nodes + k) (omega arith) (omega (arith, one (max_nodes + k), hit_same (max_nodes + k) (max_nodes + k) refl)) p.fresh)
             (λ (z : get_or o (max_nodes + k) 0 ≡ 0) (w : o₁ ≡ set o (max_nodes + k) 1) m lm.
-            omega (arith, one m, marked_set o o₁ (max_nodes + k) s.room (omega arith) z w m lm))
+            omega (arith, one m, marked_set o o₁ (max_nodes + k) len (omega arith) z w m lm))
             v
           where
             one : (m : ℕ) → met b 0 (e ∷ []) m ≡ hit m (max_nodes + k)
@@ -270,13 +270,13 @@ module _ (b : List ℕ) (h : ℕ) (o : List ℕ) (e : NodeEntry) (up : h ≡ 0 �
       up
       (told_no (λ p. let c = child b (h - 1) o e p in says_no r t z (record { box = c.box; least = c.least })))
 
-  pub entry_told : (r v u : Bool) (o₁ o₂ : List ℕ) → Prepared b o → e.reference < max_nodes
+  pub entry_told : (r v u : Bool) (o₁ o₂ : List ℕ) → length o ≡ seen_bytes → e.reference < max_nodes
       → Told r (get_or o e.reference 0 ≡ 0) (o₁ ≡ set o e.reference 1) → r ≡ true → Says v (Fits b e) → v ≡ true
       → Told u (Pass b (h - 1) (entries b e.reference) o₁) (Marked (met b (h - 1) (entries b e.reference)) o₁ o₂)
       → Told u (Pass b h (e ∷ []) o) (Marked (met b h (e ∷ [])) o o₂)
-  entry_told r v u o₁ o₂ s lt t y f w p =
+  entry_told r v u o₁ o₂ len lt t y f w p =
       let z = t.yes y in
-      let one : Marked (λ m. hit m e.reference) o o₁ = marked_set o o₁ e.reference s.room (omega arith) z.0 z.1 in
+      let one : Marked (λ m. hit m e.reference) o o₁ = marked_set o o₁ e.reference len (omega arith) z.0 z.1 in
       at_height
       (λ x. Told u (Pass b x (e ∷ []) o) (Marked (met b x (e ∷ [])) o o₂))
       h
@@ -289,9 +289,9 @@ module _ (b : List ℕ) (h : ℕ) (o : List ℕ) (e : NodeEntry) (up : h ≡ 0 �
 
 -- the walk goes on
 module _ (b : List ℕ) (o o₁ : List ℕ) (r : Bool) (s : Prepared b o) (y : r ≡ true) where
-  pub prepared_one : (c : ℕ) → c < max_nodes → Told r (get_or o c 0 ≡ 0) (o₁ ≡ set o c 1) → Prepared b o₁
+  pub prepared_one : (c : ℕ) → length o ≡ seen_bytes → c < max_nodes → Told r (get_or o c 0 ≡ 0) (o₁ ≡ set o c 1) → Prepared b o₁
   unfolding Bits Fresh
-  prepared_one c lt t =
+  prepared_one c len lt t =
       let z = t.yes y in
       prepared_on
       b
@@ -300,22 +300,20 @@ module _ (b : List ℕ) (o o₁ : List ℕ) (r : Bool) (s : Prepared b o) (y : r
       (λ m. hit m c)
       s
       (λ m lm. fresh_hit o c z.0 m (s.bits m lm))
-      (marked_set o o₁ c s.room (omega arith) z.0 z.1)
-      (ap length z.1 ∙ length-set o c 1)
+      (marked_set o o₁ c len (omega arith) z.0 z.1)
 
-  prepared_next : (h : ℕ) (l : List NodeEntry) → Told r (Pass b h l o) (Marked (met b h l) o o₁) → length o₁ ≡ length o → Prepared b o₁
-  prepared_next h l t len = let z = t.yes y in prepared_on b o o₁ (met b h l) s z.0.fresh z.1 len
+  prepared_next : (h : ℕ) (l : List NodeEntry) → Told r (Pass b h l o) (Marked (met b h l) o o₁) → Prepared b o₁
+  prepared_next h l t = let z = t.yes y in prepared_on b o o₁ (met b h l) s z.0.fresh z.1
 
 -- The loop over a node's entries, which stand at height h: they are left from the kth on, and whoever tells of these tells of the node.
 pub record Left (b : List ℕ) (h c : ℕ) (o₀ : List ℕ) (k : ℕ) (o : List ℕ) : Type 0 where
   pub prepared : Prepared b o
-  pub same : length o ≡ length o₀
   pub rest : (r : Bool) (o' : List ℕ) → Told r (Pass b h (drop k (entries b c)) o) (Marked (met b h (drop k (entries b c))) o o')
       → Told r (Pass b h (entries b c) o₀) (Marked (met b h (entries b c)) o₀ o')
 
 -- at the start, after each entry and at the end
 pub left_all : (b : List ℕ) (h c : ℕ) (o : List ℕ) → Prepared b o → Left b h c o 0 o
-left_all b h c o s = record { prepared = s; same = refl; rest = λ r o' t. t }
+left_all b h c o s = record { prepared = s; rest = λ r o' t. t }
 
 module _ (b : List ℕ) (h c : ℕ) (o₀ : List ℕ) (k : ℕ) (o : List ℕ) (w : Left b h c o₀ k o) (j : ℕ) (count : j ≡ length (entries b c)) where
   pub left_none : j ≤ k → Told true (Pass b h (entries b c) o₀) (Marked (met b h (entries b c)) o₀ o)
@@ -325,10 +323,9 @@ module _ (b : List ℕ) (h c : ℕ) (o₀ : List ℕ) (k : ℕ) (o : List ℕ) (
     pub left_no : r ≡ false → Told false (Pass b h (entries b c) o₀) (Marked (met b h (entries b c)) o₀ o₁)
     left_no z = w.rest false o₁ (node_no b h c k j o count e lt q r t z)
 
-    pub left_next : r ≡ true → length o₁ ≡ length o → Left b h c o₀ (k + 1) o₁
-    left_next y len =
+    pub left_next : r ≡ true → Left b h c o₀ (k + 1) o₁
+    left_next y =
         record {
-          prepared = prepared_next b o o₁ r w.prepared y h (e ∷ []) t len;
-          same = len ∙ w.same;
+          prepared = prepared_next b o o₁ r w.prepared y h (e ∷ []) t;
           rest = λ s o₂ u. w.rest s o₂ (node_told b h c k j o count e lt q r s o₁ o₂ t y u);
         }

@@ -5,7 +5,7 @@ use mathlib.Core.List.{List}
 use mathlib.Core.Path.{◌≡◌, refl}
 use Prim.Native.Nat.{ℕ, ◌+◌, ◌≤◌, ◌<◌}
 use native.Mathlib.Omega.{arith}
-use lib.ListN.{get_or, set}
+use lib.ListN.{length, get_or, set}
 use Rattle.limits.specs.Limits.{max_nodes, max_levels}
 use Rattle.grid.specs.Says.{Says}
 use Rattle.grid.proofs.Says.{says_yes, says_no}
@@ -20,7 +20,7 @@ use Rattle.tree_node.proofs.Reading.{eight}
 use Rattle.tree_node.proofs.Telling.{told_yes, told_no, told_map}
 use Rattle.tree_rules.specs.Tree.{leaves_at, nodes_at, Each}
 use Rattle.tree_rules.specs.Rooted.{tree_leaves, tree_nodes, RootNode, RootSound}
-use Rattle.tree_check.specs.Marks.{Fresh, Marked, Bits, Prepared}
+use Rattle.tree_check.specs.Marks.{seen_bytes, Fresh, Marked, Bits, Prepared}
 use Rattle.tree_check.specs.Walk.{asked_for, met, Pass, Enough, Low, root_met, RootPass}
 use Rattle.tree_check.proofs.Marking.{marked_both, fresh_then, fresh_both, marked_set, fresh_at, fresh_none, marked_none}
 
@@ -70,15 +70,15 @@ module _ (b : List ℕ) (root : Top) (o : List ℕ) where
       (omega (arith, met_top root.node, hit_same root.node root.node refl))
       p.fresh))
 
-  pub top_told : (r v u : Bool) (o₁ o₂ : List ℕ) → Prepared b o → root.height < max_levels → root.node < max_nodes → Says r (Enough b root.height root.node) → r ≡ true
+  pub top_told : (r v u : Bool) (o₁ o₂ : List ℕ) → length o ≡ seen_bytes → root.height < max_levels → root.node < max_nodes → Says r (Enough b root.height root.node) → r ≡ true
       → Told v (get_or o root.node 0 ≡ 0) (o₁ ≡ set o root.node 1) → v ≡ true
       → Told u (Pass b root.height (entries b root.node) o₁) (Marked (met b root.height (entries b root.node)) o₁ o₂)
       → Told u (RootPass b (Some root) o) (Marked (root_met b (Some root)) o o₂)
   unfolding RootSound tree_leaves leaves_at Low
-  top_told r v u o₁ o₂ s low lt a y t w p =
+  top_told r v u o₁ o₂ len low lt a y t w p =
       let z = t.yes w in
       let k = says_yes r a y in
-      let one : Marked (λ m. hit m root.node) o o₁ = marked_set o o₁ root.node s.room (omega arith) z.0 z.1 in
+      let one : Marked (λ m. hit m root.node) o o₁ = marked_set o o₁ root.node len (omega arith) z.0 z.1 in
       told_map
       (λ (x : Pass b root.height (entries b root.node) o₁).
       record {

@@ -46,17 +46,15 @@ stacked_le b k (suc n) m le =
 -- k of the n free nodes are tested, o₀ being the marks before
 pub record Tested (b o₀ o : List ℕ) (n k : ℕ) : Type 0 where
   pub most : k ≤ n
-  pub room : length o ≡ seen_bytes
   pub within : Within max_nodes (stacked b k)
   pub fresh : Fresh (λ m. tally m (stacked b k)) o₀
   pub marked : Marked (λ m. tally m (stacked b k)) o₀ o
 
-pub tested_none : (b o : List ℕ) (n : ℕ) → length o ≡ seen_bytes → Bits o → Tested b o o n 0
+pub tested_none : (b o : List ℕ) (n : ℕ) → Bits o → Tested b o o n 0
 unfolding numbers total Within
-tested_none b o n len s =
+tested_none b o n s =
     record {
       most = omega arith;
-      room = len;
       within = λ m z. absurd (omega arith);
       fresh = fresh_none o (λ m. 0) (λ m. refl) s;
       marked = marked_none o (λ m. 0) (λ m. refl);
@@ -79,13 +77,12 @@ module _ (b o₀ o : List ℕ) (n k c : ℕ) (p : Tested b o₀ o n k) (lt : k <
   tested_met r z l t y =
       told_no (λ f. t.no y (omega (arith, f.fresh c (omega arith), rest z c, hit_same c c refl, p.marked c (omega arith))))
 
-  pub tested_one : (r : Bool) (o₁ : List ℕ) → c < max_nodes → Told r (get_or o c 0 ≡ 0) (o₁ ≡ set o c 1) → r ≡ true → length o₁ ≡ length o → Tested b o₀ o₁ n (k + 1)
+  pub tested_one : (r : Bool) (o₁ : List ℕ) → length o ≡ seen_bytes → c < max_nodes → Told r (get_or o c 0 ≡ 0) (o₁ ≡ set o c 1) → r ≡ true → Tested b o₀ o₁ n (k + 1)
   unfolding Fresh Marked Within
-  tested_one r o₁ l t y len =
+  tested_one r o₁ len l t y =
       let u = t.yes y in
       record {
         most = omega arith;
-        room = len ∙ p.room;
         within = λ m z. inside m z (ℕ_discrete m c);
         fresh = λ m lm. unmet m lm u.0 (ℕ_discrete m c);
         marked = λ m lm. omega (arith, next m, p.marked m lm, here m u.0 u.1);
@@ -96,7 +93,7 @@ module _ (b o₀ o : List ℕ) (n k c : ℕ) (p : Tested b o₀ o n k) (lt : k <
       inside m z (no ne) = p.within m (omega (arith, next m, hit_not m c ne))
 
       here : (m : ℕ) → get_or o c 0 ≡ 0 → o₁ ≡ set o c 1 → get_or o₁ m 0 ≡ get_or o m 0 + hit m c
-      here m z s = rw s (marked_one o c (omega (arith, p.room)) z m)
+      here m z s = rw s (marked_one o c (omega arith) z m)
 
       unmet : (m : ℕ) → m < mark_bytes → get_or o c 0 ≡ 0 → Dec (m ≡ c) → get_or o₀ m 0 + tally m (stacked b (k + 1)) ≤ 1
       unmet m lm z (yes s) = omega (arith, next m, hit_most m c, p.marked m lm, ap (λ (x : ℕ). get_or o x 0) s)

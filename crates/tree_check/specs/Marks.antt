@@ -1,7 +1,7 @@
 -- The marks of what a walk has met: a byte for each node of the pool, then one for each record of the site array, 0
 -- or 1. Behind them stand hints, of which nothing is demanded.
 -- Assumes nothing.
-use Rattle.std.specs.Prelude.{List, ◌≡◌, ℕ, ◌+◌, ◌≤◌, ◌<◌, length, get_or}
+use Rattle.std.specs.Prelude.{List, ◌≡◌, ℕ, ◌+◌, ◌≤◌, ◌<◌, get_or}
 use Rattle.limits.specs.Limits.{max_sites, max_nodes}
 use Rattle.table_sites.specs.Lines.{Array}
 use Rattle.tree_node.specs.Free.{free}
@@ -46,7 +46,6 @@ Bits o = (m : ℕ) → m < mark_bytes → get_or o m 0 ≤ 1
 -- the table b and the marks o, as a walk needs them
 pub record Prepared (b o : List ℕ) : Type 0 where
   pub array : Array b
-  pub room : length o ≡ seen_bytes
   pub bits : Bits o
 
 -- each free node is one of the pool, and none is marked or free twice

@@ -1,11 +1,11 @@
 // Hints for the search of the site array, in lent bytes behind the marks: for a number modulo so many, half the index
 // of a record that has such a number. A hint only saves time: what stands there is tested.
-ghost use Rattle.std.specs.Prelude.{◌≡◌, ◌≤◌, ◌<◌, length};
-ghost use Rattle.limits.specs.Limits.{max_sites, table_bytes};
+ghost use Rattle.std.specs.Prelude.{◌≤◌, ◌<◌};
+ghost use Rattle.limits.specs.Limits.{max_sites};
 ghost use Rattle.table_sites.specs.Lines.{lines_in, Array, FoundAs};
 ghost use Rattle.tree_check.specs.Marks.{mark_bytes, seen_bytes};
 
-use crate::marks;
+use crate::{SEEN_BYTES, marks};
 use limits::TABLE_BYTES;
 
 pub const HINT_BYTES: usize = 1024;
@@ -18,8 +18,8 @@ fn hint_at(x: u16) -> usize
 }
 
 // Stores a hint for each of the first n records.
-pub fn note(t: &[u8; TABLE_BYTES], n: usize, seen: &mut [u8])
-    requires { (n ≤ max_sites) × (length seen.old ≡ seen_bytes) }
+pub fn note(t: &[u8; TABLE_BYTES], n: usize, seen: &mut [u8; SEEN_BYTES])
+    requires { n ≤ max_sites }
 {
     for k in 0..n {
         seen[hint_at(table_sites::number(t, k))] = (k / 2) as u8;
@@ -27,8 +27,8 @@ pub fn note(t: &[u8; TABLE_BYTES], n: usize, seen: &mut [u8])
 }
 
 // Where the number x stands in the site array.
-pub fn find(t: &[u8; TABLE_BYTES], x: u16, seen: &[u8]) -> Result<usize, usize>
-    requires { Array t.now × (length seen.now ≡ seen_bytes) }
+pub fn find(t: &[u8; TABLE_BYTES], x: u16, seen: &[u8; SEEN_BYTES]) -> Result<usize, usize>
+    requires { Array t.now }
     ensures { FoundAs result x (lines_in t.now) }
 {
     table_sites::find_near(t, x, 2 * usize::from(seen[hint_at(x)]))

@@ -8,11 +8,10 @@ pub mod hints;
 pub mod marks;
 pub mod walk;
 
-ghost use Rattle.std.specs.Prelude.{◌≡◌, length};
+ghost use Rattle.std.specs.Prelude.{◌≡◌};
 ghost use Rattle.grid.specs.Says.{Says};
 ghost use Rattle.table_sites.specs.Lines.{Array};
 ghost use Rattle.tree_check.specs.Leaves.{leaf_entry};
-ghost use Rattle.tree_check.specs.Marks.{seen_bytes};
 ghost use Rattle.tree_check.specs.Tied.{Tied};
 
 use grid::{Position, Site};
@@ -39,8 +38,8 @@ pub fn leaf_entry(p: Site) -> NodeEntry
 
 // Whether the tree in the table keeps its rules and has the leaf entries of the site array, whose numbers rise.
 // The bytes of `seen` are changed.
-pub fn check(t: &[u8; TABLE_BYTES], seen: &mut [u8]) -> bool
-    requires { Array t.now × (length seen.old ≡ seen_bytes) }
+pub fn check(t: &[u8; TABLE_BYTES], seen: &mut [u8; SEEN_BYTES]) -> bool
+    requires { Array t.now }
     ensures { Says result (Tied t.now) }
 {
     let n = table_header::count(t);

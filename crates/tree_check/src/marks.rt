@@ -2,16 +2,16 @@
 ghost use Rattle.std.specs.Prelude.{◌≡◌, ◌≤◌, ◌<◌, length, get_or, set};
 ghost use Rattle.grid.specs.Says.{Says};
 ghost use Rattle.tree_node.specs.Told.{Told};
-ghost use Rattle.tree_check.specs.Marks.{mark_bytes, seen_bytes, Blank, Full};
+ghost use Rattle.tree_check.specs.Marks.{mark_bytes, Blank, Full};
 
+use crate::SEEN_BYTES;
 use std::mem;
 
 // A byte for each node and for each record.
 pub const MARK_BYTES: usize = limits::MAX_NODES + limits::MAX_SITES;
 
 // Takes every mark away.
-pub fn clear(seen: &mut [u8])
-    requires { length seen.old ≡ seen_bytes }
+pub fn clear(seen: &mut [u8; SEEN_BYTES])
     ensures { Blank seen.new }
 {
     seen[..MARK_BYTES].fill(0);
@@ -27,8 +27,8 @@ pub fn mark(seen: &mut [u8], m: usize) -> bool
 
 // Whether each of the first l marks is set. All are read: the least of many bytes takes less time than a branch for
 // each.
-pub fn full(seen: &[u8], l: usize) -> bool
-    requires { (length seen.now ≡ seen_bytes) × (l ≤ mark_bytes) }
+pub fn full(seen: &[u8; SEEN_BYTES], l: usize) -> bool
+    requires { l ≤ mark_bytes }
     ensures { Says result (Full l seen.now) }
 {
     let mut least = u8::MAX;

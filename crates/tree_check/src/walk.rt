@@ -1,7 +1,7 @@
 // The walk over the tree. "A node is read by reading its entries, and an entry above the leaves by reading its child
 // node": two functions that call each other, the height falling at each descent.
-ghost use Rattle.std.specs.Prelude.{[], ◌∷◌, ◌≡◌, ◌<◌, length, Some};
-ghost use Rattle.limits.specs.Limits.{max_nodes, table_bytes};
+ghost use Rattle.std.specs.Prelude.{[], ◌∷◌, ◌<◌, Some};
+ghost use Rattle.limits.specs.Limits.{max_nodes};
 ghost use Rattle.grid.specs.Says.{Says};
 ghost use Rattle.tree_node.specs.Header.{root_in};
 ghost use Rattle.tree_node.specs.Node.{entries};
@@ -9,12 +9,12 @@ ghost use Rattle.tree_node.specs.Told.{Told};
 ghost use Rattle.tree_check.specs.Marks.{Marked, Prepared};
 ghost use Rattle.tree_check.specs.Walk.{met, Pass, Fits, Enough, root_met, RootPass};
 
-use crate::{hints, leaf_entry, marks};
+use crate::{SEEN_BYTES, hints, leaf_entry, marks};
 use limits::{MAX_LEVELS, MAX_NODES, MIN_ENTRIES, TABLE_BYTES};
 use tree_node::{NodeEntry, Top, boxes, header, pool};
 
 // Whether the leaf entry e is that of a record that has no mark yet. Marks the record.
-fn check_leaf(t: &[u8; TABLE_BYTES], e: NodeEntry, seen: &mut [u8]) -> bool
+fn check_leaf(t: &[u8; TABLE_BYTES], e: NodeEntry, seen: &mut [u8; SEEN_BYTES]) -> bool
     requires { Prepared t.now seen.old }
     ensures { Told result (Pass t.now 0 (e ∷ []) seen.old)
         (Marked (met t.now 0 (e ∷ [])) seen.old seen.new) }
@@ -36,7 +36,7 @@ fn fits(t: &[u8; TABLE_BYTES], e: NodeEntry) -> bool
 
 // Whether the entry e, which stands at height h above the leaf entries, passes. Marks its record or what lies under it.
 #[cycle(check_entry_check_node)]
-fn check_entry(t: &[u8; TABLE_BYTES], h: usize, e: NodeEntry, seen: &mut [u8]) -> bool
+fn check_entry(t: &[u8; TABLE_BYTES], h: usize, e: NodeEntry, seen: &mut [u8; SEEN_BYTES]) -> bool
     requires { Prepared t.now seen.old }
     ensures { Told result (Pass t.now h (e ∷ []) seen.old)
         (Marked (met t.now h (e ∷ [])) seen.old seen.new) }
@@ -56,7 +56,7 @@ fn check_entry(t: &[u8; TABLE_BYTES], h: usize, e: NodeEntry, seen: &mut [u8]) -
 
 // Whether the entries of node c, which stand at height h, pass. Marks what lies under them.
 #[cycle(check_entry_check_node)]
-fn check_node(t: &[u8; TABLE_BYTES], h: usize, c: usize, seen: &mut [u8]) -> bool
+fn check_node(t: &[u8; TABLE_BYTES], h: usize, c: usize, seen: &mut [u8; SEEN_BYTES]) -> bool
     requires { Prepared t.now seen.old × (c < max_nodes) }
     ensures { Told result (Pass t.now h (entries t.now c) seen.old)
         (Marked (met t.now h (entries t.now c)) seen.old seen.new) }
@@ -82,7 +82,7 @@ fn enough(t: &[u8; TABLE_BYTES], g: usize, c: usize) -> bool
 }
 
 // Whether the tree over r passes. Marks what lies under it.
-fn check_top(t: &[u8; TABLE_BYTES], r: Top, seen: &mut [u8]) -> bool
+fn check_top(t: &[u8; TABLE_BYTES], r: Top, seen: &mut [u8; SEEN_BYTES]) -> bool
     requires { Prepared t.now seen.old }
     ensures { Told result (RootPass t.now (Some r) seen.old)
         (Marked (root_met t.now (Some r)) seen.old seen.new) }
@@ -100,7 +100,7 @@ fn check_top(t: &[u8; TABLE_BYTES], r: Top, seen: &mut [u8]) -> bool
 }
 
 // Whether the tree that the header tells passes. Marks what lies under it.
-pub fn check_root(t: &[u8; TABLE_BYTES], seen: &mut [u8]) -> bool
+pub fn check_root(t: &[u8; TABLE_BYTES], seen: &mut [u8; SEEN_BYTES]) -> bool
     requires { Prepared t.now seen.old }
     ensures { Told result (RootPass t.now (root_in t.now) seen.old)
         (Marked (root_met t.now (root_in t.now)) seen.old seen.new) }

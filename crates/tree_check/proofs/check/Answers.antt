@@ -8,7 +8,7 @@ pub check_root-requires : goal.check_root-requires
 check_root-requires c = search (rules, blank_bits)
 
 pub check_free-requires : goal.check_free-requires
-check_free-requires c = (search rules, bits_next _ _ _ _ _ c.check_root.ensures c.if-not-check_root.false)
+check_free-requires c = bits_next _ _ _ _ _ c.check_root.ensures c.if-not-check_root.false
 
 pub returns-then-check_free : goal.returns-then-check_free
 returns-then-check_free c = search check_told
