@@ -11,14 +11,13 @@ use lib.Dec.{eqb}
 use borrow.Author.Tests.{eqb-true, eqb-false}
 use Rattle.limits.specs.Limits.{table_bytes}
 use Rattle.grid.specs.declared.Leg.{Leg}
-use Rattle.grid.specs.Position.{OnGrid, LegOnGrid}
+use Rattle.grid.specs.Position.{LegOnGrid}
 use Rattle.grid.specs.Says.{Says}
 use Rattle.grid.proofs.Says.{says_yes, says_no, says_map}
 use Rattle.list_row.specs.Vertices.{entries_in}
 use Rattle.book.specs.Book.{sites_of, holds, list_of, standing_list}
-use Rattle.book.specs.declared.Tour.{Tour}
-use Rattle.book.specs.Proper.{LegOk, LastHeld, TourOk}
-use Rattle.table_header.specs.Header.{leg_in, HeaderOk, length_in, tour_in}
+use Rattle.book.specs.Proper.{LegOk, LastHeld}
+use Rattle.table_header.specs.Header.{leg_in, length_in}
 use Rattle.std.specs.Prelude.{Result, Ok, Err, is_ok}
 use Rattle.table_sites.specs.Lines.{lines_in, Array, FoundAs}
 use Rattle.table_sites.proofs.Finding.{at_held, absent_held}
@@ -27,7 +26,6 @@ use Rattle.table_sites.proofs.Kept.{sites_array}
 use Rattle.table_standing.specs.Layout.{list_start}
 use Rattle.table_standing.specs.Standing.{words_from, standing_in, numbers_of}
 use Rattle.table_standing.proofs.Numbers.{standing_length}
-use Rattle.tree_check.specs.Tied.{Tied}
 use Rattle.table_rules.specs.Table.{book_of, Whole, StandingOk}
 use Rattle.table_rules.specs.Listing.{ListsTable}
 
