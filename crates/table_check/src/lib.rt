@@ -77,7 +77,8 @@ fn tour_ok(t: &[u8; TABLE_BYTES]) -> bool
     }
 }
 
-// Whether the tree keeps its rules and has the leaf entries of the site array. The marks are the front of the work buffer.
+// Whether the tree keeps its rules and has the leaf entries of the site array. The marks stand at the front of the work
+// buffer.
 fn tree_ok(t: &[u8; TABLE_BYTES], work: &mut [u8]) -> bool
     requires { Array t.now × (seen_bytes ≤ length work.old) }
     ensures { Says result (Tied t.now) }
