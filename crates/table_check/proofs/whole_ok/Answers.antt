@@ -6,4 +6,4 @@ pub tour_ok-requires : goal.tour_ok-requires
 tour_ok-requires c = search (rules, sites_yes)
 
 pub tree_ok-requires : goal.tree_ok-requires
-tree_ok-requires c = (search (rules, sites_yes), search rules)
+tree_ok-requires c = search (rules, sites_yes)
