@@ -1,6 +1,6 @@
 -- Lengths, then contents: one law for each return.
 -- Assumes nothing.
-use mathlib.Core.Path.{◌≡◌, refl, sym, ap, ◌∙◌}
+use mathlib.Core.Path.{◌≡◌, refl, sym, ap, ◌∙◌, subst}
 use mathlib.Core.Logic.{◌≢◌}
 use mathlib.Core.Bool.{Bool, true, false, ◌&&◌, true≢false}
 use mathlib.Core.List.{List}
@@ -16,9 +16,10 @@ use Rattle.list_row.specs.Vertices.{row_bytes}
 use Rattle.book.specs.declared.Reason.TheVariants.{WrongLength, Broken, BrokenStanding}
 use Rattle.tree_check.specs.Marks.{seen_bytes}
 use Rattle.table_empty.specs.EmptyTable.{zeros}
-use Rattle.table_rules.specs.Table.{Whole, StandingOk}
+use Rattle.table_rules.specs.Table.{Whole, StandingOk, Sound}
 use Rattle.demands.specs.Batch.{lengths_ok}
 use Rattle.std.specs.Prelude.{Ok, Err}
+use Rattle.std.specs.Array.{IsWholeChunk}
 use Rattle.table_admit.specs.Admitted.{AdmittedAs}
 
 module _ (t w : List ℕ) where
@@ -57,16 +58,22 @@ module _ (t w : List ℕ) where
 
     -- ---- contents
 
-    module _ (q : Bool) (s : Says q (Whole t)) (w₁ : List ℕ) (kept : length w₁ ≡ length w) where
+    -- the array t₁ has the bytes of t
+    module _ (t₁ : List ℕ) (array : IsWholeChunk t t₁ table_bytes) (q : Bool) (s : Says q (Whole t₁)) (w₁ : List ℕ) (kept : length w₁ ≡ length w) where
       pub broken_table : (w' : List ℕ) → w' ≡ zeros (length w₁) → q ≡ false → AdmittedAs (Err Broken) t w w'
-      broken_table w' z e = (ok, says_no q s e, z ∙ ap zeros (kept ∙ right_work))
+      broken_table w' z e = (ok, subst (λ (x : List ℕ). ¬ Whole x) array.same (says_no q s e), z ∙ ap zeros (kept ∙ right_work))
 
-      pub is_whole : q ≡ true → Whole t
-      is_whole e = says_yes q s e
-
-      module _ (whole : q ≡ true) (v : Bool) (l : Says v (StandingOk t)) (w₂ : List ℕ) (kept₂ : length w₂ ≡ length w₁) where
+      module _ (whole : q ≡ true) (v : Bool) (l : Says v (StandingOk t₁)) (w₂ : List ℕ) (kept₂ : length w₂ ≡ length w₁) where
         pub table_taken : v ≡ true → AdmittedAs (Ok tt) t w w₂
-        table_taken e = (ok, record { whole = says_yes q s whole; standing = says_yes v l e }, kept₂ ∙ kept ∙ right_work)
+        table_taken e = (ok, subst Sound array.same (record { whole = says_yes q s whole; standing = says_yes v l e }), kept₂ ∙ kept ∙ right_work)
 
         pub broken_standing : (w' : List ℕ) → w' ≡ zeros (length w₂) → v ≡ false → AdmittedAs (Err BrokenStanding) t w w'
-        broken_standing w' z e = (ok, says_yes q s whole, says_no v l e, z ∙ ap zeros (kept₂ ∙ kept ∙ right_work))
+        broken_standing w' z e = (
+          ok,
+          subst Whole array.same (says_yes q s whole),
+          subst (λ (x : List ℕ). ¬ StandingOk x) array.same (says_no v l e),
+          z ∙ ap zeros (kept₂ ∙ kept ∙ right_work),
+        )
+
+pub is_whole : (t : List ℕ) (q : Bool) → Says q (Whole t) → q ≡ true → Whole t
+is_whole t q s e = says_yes q s e
