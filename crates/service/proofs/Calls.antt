@@ -14,11 +14,11 @@ use Rattle.book.specs.Numbers.{reason_number}
 use Rattle.book.specs.Run.{run}
 use Rattle.table_empty.specs.EmptyTable.{zeros, empty_table}
 use Rattle.table_rules.specs.Table.{book_of, Sound}
-use Rattle.demands.specs.Batch.{returns, return_of, Refused, Served, Batch, LaidOut}
+use Rattle.demands.specs.Batch.{returns, return_of, Refused, Served, Batch, LaidOut, lengths_ok}
 use Rattle.demands.specs.Batch.Batch.{wrong, broken, broken_standing, served}
 use Rattle.demands.specs.Batch.LaidOut.{wrong as not-laid, laid}
 use Rattle.call_serve.specs.Serving.{Answered}
-use Rattle.std.specs.Prelude.{⊤, Result, Ok, Err}
+use Rattle.std.specs.Prelude.{⊤, Result, Ok, Err, true}
 use Rattle.table_admit.specs.Admitted.{RefusedFor, AdmittedAs}
 
 -- ---- laying out
@@ -31,21 +31,13 @@ laid_right t t' n h = laid (eq-eqb (length t) table_bytes n) refl h
 
 -- ---- a batch
 
+-- t₁ is the array of the bytes of t
+pub served_array : (t t₁ w cs rep : List ℕ) (r : BatchResult) (t' w' rep' : List ℕ) → t₁ ≡ t → lengths_ok t w ≡ true → Sound t
+    → Served (run cs (length rep) (book_of t₁)) t₁ rep (return_of r) t' w' rep' → Batch t w cs rep (return_of r) t' w' rep'
+served_array t t₁ w cs rep r t' w' rep' e l s v =
+    served l s (subst (λ (x : List ℕ). Served (run cs (length rep) (book_of x)) x rep (return_of r) t' w' rep') e v)
+
 module _ (t w w₁ : List ℕ) (a : Result ⊤ Reason) (h : AdmittedAs a t w w₁) where
-  module _ (u : ⊤) (e : a ≡ Ok u) where
-    taken : AdmittedAs (Ok u) t w w₁
-    taken = subst (λ (y : Result ⊤ Reason). AdmittedAs y t w w₁) e h
-
-    pub taken_sound : Sound t
-    taken_sound = taken.1
-
-    pub taken_work : length w₁ ≡ work_bytes
-    taken_work = taken.2
-
-    pub served_batch : (cs rep : List ℕ) (r : BatchResult) (t' w' rep' : List ℕ) → Served (run cs (length rep) (book_of t)) t rep (return_of r) t' w' rep'
-        → Batch t w cs rep (return_of r) t' w' rep'
-    served_batch cs rep r t' w' rep' v = served taken.0 taken.1 v
-
   pub refused_batch : (cs rep : List ℕ) (r : BatchResult) (x : Reason) → a ≡ Err x → r ≡ record { reason = x; used = 0; written = 0 }
       → Batch t w cs rep (return_of r) t w₁ rep
   refused_batch cs rep r x e q =

@@ -15,7 +15,7 @@ use limits::TABLE_BYTES;
 pub fn lay_out(table: &mut [u8]) -> Reason
     ensures { LaidOut table.old (reason_number result) table.new }
 {
-    let Ok(table) = <&mut [u8; TABLE_BYTES]>::try_from(table) else {
+    let Some(table) = table.as_mut_array() else {
         return Reason::WrongLength;
     };
     table_empty::lay(table);
@@ -50,7 +50,7 @@ pub fn batch(table: &mut [u8], work: &mut [u8], commands: &[u8], report: &mut [u
         return BatchResult::new(reason, 0, 0);
     }
     // What is admitted has the table's length.
-    let Ok(table) = <&mut [u8; TABLE_BYTES]>::try_from(table) else {
+    let Some(table) = table.as_mut_array() else {
         unreachable!()
     };
     carry_out(table, work, commands, report)
