@@ -1,8 +1,8 @@
 // Calls that end with 69 and 65, on tables that were damaged.
-ghost use Rattle.std.specs.Prelude.{◌≡◌, [], length};
-ghost use Rattle.limits.specs.Limits.{table_bytes};
+ghost use Rattle.std.specs.Prelude.{◌≡◌, []};
 ghost use Rattle.replay.specs.Replayed.{reply, said_in, length_hit, LengthHit, Stood, DamageTold};
 
+use limits::TABLE_BYTES;
 use crate::{Heard, small_call};
 
 // What was said of tables with a wrong length of the standing list, with a wrong flag of its leg beside it, with a
@@ -17,8 +17,7 @@ pub struct Damaged {
 }
 
 // Lays out a table, writes 65,535 for the length of its standing list, and calls.
-fn hit_length(table: &mut [u8]) -> Heard
-    requires { length table.old ≡ table_bytes }
+fn hit_length(table: &mut [u8; TABLE_BYTES]) -> Heard
     ensures { LengthHit result table.new }
 {
     service::lay_out(table);
@@ -38,8 +37,7 @@ fn hit_flag(table: &mut [u8]) -> Heard
 }
 
 // Lays out a table, writes a coordinate of the standing leg, which it has not, and calls.
-fn hit_zeros(table: &mut [u8]) -> Heard
-    requires { length table.old ≡ table_bytes }
+fn hit_zeros(table: &mut [u8; TABLE_BYTES]) -> Heard
     ensures { said_in result ≡ reply 65 0 [] }
 {
     service::lay_out(table);
@@ -49,8 +47,7 @@ fn hit_zeros(table: &mut [u8]) -> Heard
 }
 
 // Lays out a table and sets the standing leg from (0, 0) to (10, 0).
-fn stand_ten(table: &mut [u8])
-    requires { length table.old ≡ table_bytes }
+fn stand_ten(table: &mut [u8; TABLE_BYTES])
     ensures { Stood table.new }
 {
     service::lay_out(table);
@@ -59,8 +56,7 @@ fn stand_ten(table: &mut [u8])
 }
 
 // Writes a coordinate off the grid for one of that leg, and calls.
-fn hit_leg(table: &mut [u8]) -> Heard
-    requires { length table.old ≡ table_bytes }
+fn hit_leg(table: &mut [u8; TABLE_BYTES]) -> Heard
     ensures { said_in result ≡ reply 69 0 [] }
 {
     stand_ten(table);
@@ -70,8 +66,7 @@ fn hit_leg(table: &mut [u8]) -> Heard
 }
 
 // Writes 1 for the length of its list, where no site is held, and calls.
-fn hit_siteless(table: &mut [u8]) -> Heard
-    requires { length table.old ≡ table_bytes }
+fn hit_siteless(table: &mut [u8; TABLE_BYTES]) -> Heard
     ensures { said_in result ≡ reply 69 0 [] }
 {
     stand_ten(table);

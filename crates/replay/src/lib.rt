@@ -7,9 +7,10 @@ pub mod damage;
 pub mod survey;
 
 ghost use Rattle.std.specs.Prelude.{◌≡◌, length};
-ghost use Rattle.limits.specs.Limits.{table_bytes, work_bytes};
+ghost use Rattle.limits.specs.Limits.{work_bytes};
 ghost use Rattle.replay.specs.Replayed.{ask, Called, Opened, Closed, Refilled, AskedTen, Replayed};
 
+use limits::TABLE_BYTES;
 use book::BatchResult;
 
 // What a call returned, and its report.
@@ -74,8 +75,7 @@ fn short_call(table: &mut [u8], commands: &[u8]) -> Heard
 }
 
 // Lays out a table and adds sites 1 and 2, once with too short a work buffer.
-fn begin(table: &mut [u8]) -> Opening
-    requires { length table.old ≡ table_bytes }
+fn begin(table: &mut [u8; TABLE_BYTES]) -> Opening
     ensures { Opened result table.new }
 {
     service::lay_out(table);
@@ -100,8 +100,7 @@ fn go_on(table: &mut [u8]) -> Closing
 }
 
 // Lays out a table and adds site 2, and in another batch site 1.
-fn refill(table: &mut [u8])
-    requires { length table.old ≡ table_bytes }
+fn refill(table: &mut [u8; TABLE_BYTES])
     ensures { Refilled table.new }
 {
     service::lay_out(table);

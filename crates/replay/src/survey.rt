@@ -1,12 +1,12 @@
 // Calls with receiver readings, beside the same with the steps written out.
-ghost use Rattle.std.specs.Prelude.{◌≡◌, length};
-ghost use Rattle.limits.specs.Limits.{table_bytes, work_bytes};
+ghost use Rattle.limits.specs.Limits.{work_bytes};
 ghost use Rattle.replay.specs.Replayed.{ask, Called};
 ghost use Rattle.replay.specs.Surveys.{survey, move_one, add_beyond, list_cut};
 ghost use Rattle.replay.specs.Surveys.{steps, move_one_steps, add_beyond_steps, list_cut_steps};
 ghost use Rattle.replay.specs.Surveys.{add_zero, add_infinite, add_held, move_zero, move_infinite, move_absent};
 ghost use Rattle.replay.specs.Surveys.{Begun, GoneOn, Run, NotTaken, BothNotTaken, SurveyTold};
 
+use limits::TABLE_BYTES;
 use crate::{Heard, call, small_call};
 use book::BatchResult;
 
@@ -68,8 +68,7 @@ fn longer_call(table: &mut [u8], commands: &[u8]) -> Longer
 }
 
 // Lays out a table, and makes the first call on it.
-fn begin(table: &mut [u8], commands: &[u8]) -> Heard
-    requires { length table.old ≡ table_bytes }
+fn begin(table: &mut [u8; TABLE_BYTES], commands: &[u8]) -> Heard
     ensures { Begun commands.now result table.new }
 {
     service::lay_out(table);
@@ -89,8 +88,7 @@ fn go_on(table: &mut [u8], used: &[u8], unknown: &[u8], cut: &[u8]) -> Rest
 // The four calls with readings. Adds site 1 at -150 m and negative zero; a print behind it finds no room. Moves site 1
 // to 150 m and 250 m. Adds site 3 at 1,200,050 m, with an unknown command behind it. Adds site 2 by steps and asks for
 // a leg, with a cut addition behind it.
-fn survey_all(table: &mut [u8]) -> Readings
-    requires { length table.old ≡ table_bytes }
+fn survey_all(table: &mut [u8; TABLE_BYTES]) -> Readings
     ensures { Run survey move_one add_beyond list_cut result table.new }
 {
     let survey = [0x61u8, 1, 0, 0, 0, 22, 195, 0, 0, 0, 128, 0x50];
@@ -103,8 +101,7 @@ fn survey_all(table: &mut [u8]) -> Readings
 }
 
 // The same four with the steps written out.
-fn step_all(table: &mut [u8]) -> Readings
-    requires { length table.old ≡ table_bytes }
+fn step_all(table: &mut [u8; TABLE_BYTES]) -> Readings
     ensures { Run steps move_one_steps add_beyond_steps list_cut_steps result table.new }
 {
     let steps = [0x41u8, 1, 0, 0xFE, 0xFF, 0, 0, 0x50];

@@ -6,12 +6,12 @@ mod arguments;
 mod streams;
 
 ghost use Rattle.std.specs.Prelude.{◌≡◌, ◌≤◌, ◌<◌, length, take};
-ghost use Rattle.limits.specs.Limits.{table_bytes};
 ghost use Rattle.table_rules.specs.Table.{Sound};
 ghost use Rattle.stops.specs.Input.{KeptInput, ReadOn};
 ghost use Rattle.stops.specs.Calls.{Buffers, WantsMore, Resumable, Follows, after_read};
 ghost use Rattle.stops.specs.Calls.{Proceeds, Reported, Turned, Series, Program};
 
+use limits::TABLE_BYTES;
 use book::Reason;
 use std::io::Read;
 
@@ -211,12 +211,12 @@ fn run(
 fn serve_all(
     rt: &(impl Print + Eprint),
     reader: &mut impl Read,
-    table: &mut [u8],
+    table: &mut [u8; TABLE_BYTES],
     work: &mut [u8],
     input: &mut [u8],
     report: &mut [u8],
 ) -> Next
-    requires { (length table.old ≡ table_bytes) × Buffers work.old input.old report.old }
+    requires { Buffers work.old input.old report.old }
     ensures { Program (length input.old) (length report.old) result table.new }
 {
     service::lay_out(table);
