@@ -3,7 +3,7 @@
 use mathlib.Core.Path.{◌≡◌, refl, sym, ap, subst, ◌∙◌}
 use mathlib.Core.Bool.{Bool, true, false}
 use mathlib.Core.List.{List, [], ◌∷◌, ◌++◌}
-use Prim.Native.Nat.{ℕ, ◌+◌, ◌-◌, ◌≤◌, ◌<◌}
+use Prim.Native.Nat.{ℕ, ◌+◌, ◌≤◌}
 use native.Mathlib.Omega.{arith}
 use lib.ListN.{length, take, length-append}
 use Rattle.limits.specs.Limits.{table_bytes}
@@ -18,7 +18,7 @@ use Rattle.demands.proofs.Demand1.{demand1_laid}
 use Rattle.stops.specs.declared.Next.{Next}
 use Rattle.stops.specs.declared.Next.TheVariants.{More, End, Unread, Untaken, Spent}
 use Rattle.stops.specs.Input.{TakenWhole}
-use Rattle.stops.specs.Calls.{Buffers, Follows, Proceeds, rest_of, Turned, Takes, Fed, most_calls, Calls, Series, Program}
+use Rattle.stops.specs.Calls.{Buffers, Follows, Proceeds, rest_of, Turned, Takes, Fed, most_calls, Calls, Series}
 use Rattle.stops.specs.Calls.Fed.{start, more}
 use Rattle.stops.specs.Calls.Calls.{ended, unread, untaken, spent}
 use Rattle.stops.proofs.Serving.{sound_after}
@@ -29,11 +29,6 @@ laid_as t t₁ r l h = subst (λ (n : ℕ). LaidOut t n t₁) ((demand1_laid t (
 
 pub laid_sound : (t t₁ : List ℕ) (r : Reason) → length t ≡ table_bytes → LaidOut t (reason_number r) t₁ → Sound t₁
 laid_sound t t₁ r l h = (laid_holds t t₁ (laid_as t t₁ r l h)).sound
-
-pub program : (size room : ℕ) (t t₁ : List ℕ) (r : Reason) (x : Next) (t' : List ℕ) → length t ≡ table_bytes → LaidOut t (reason_number r) t₁ → Series size room t₁ x t'
-    → Program size room x t'
-program size room t t₁ r x t' l h s =
-    record { calls = s.calls; are = s.are; ran = record { before = t; laid_table = t₁; laid = laid_as t t₁ r l h; made = s.made } }
 
 -- one call more
 made_more : (t : List ℕ) (cs : List Call) (t₁ : List ℕ) (c : Call) (t' : List ℕ) → Made t cs t₁ → MadeOn t₁ c t' → Made t (cs ++ (c ∷ [])) t'

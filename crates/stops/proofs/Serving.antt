@@ -10,7 +10,7 @@ use lib.Seq.{length-take-le}
 use borrow.Author.Tests.{eq-eqb}
 use Rattle.limits.specs.Limits.{table_bytes, work_bytes}
 use Rattle.book.specs.declared.Reason.{Reason}
-use Rattle.book.specs.declared.Reason.TheVariants.{AllUsed, WrongLength, Broken, UnknownCommand, CutShort, NoRoom, BrokenStanding}
+use Rattle.book.specs.declared.Reason.TheVariants.{NoRoom}
 use Rattle.book.specs.Numbers.{reason_number}
 use Rattle.book.specs.declared.BatchResult.{BatchResult}
 use Rattle.book.specs.Run.{Outcome, records, run, after_all, StopsFor}
@@ -88,13 +88,3 @@ answered held t w s rep r t' w' rep' left taken s' sound bs h b k e q =
 
     count_left : left ≡ length (take held s) - (run (take held s) (length rep) (book_of t)).used
     count_left = omega (arith, k.count, length-take-le held s h, ap (λ (x : Return). x.used) said)
-
--- a reason's number is a byte
-pub reason_byte : (x : Reason) (n : ℕ) → n ≡ reason_number x → n < 256
-reason_byte AllUsed n e = omega (arith, e)
-reason_byte WrongLength n e = omega (arith, e)
-reason_byte Broken n e = omega (arith, e)
-reason_byte UnknownCommand n e = omega (arith, e)
-reason_byte CutShort n e = omega (arith, e)
-reason_byte NoRoom n e = omega (arith, e)
-reason_byte BrokenStanding n e = omega (arith, e)
