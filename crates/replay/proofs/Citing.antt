@@ -51,15 +51,15 @@ called n t w cs rep t' w' rep' r e b =
       report = refl;
     }
 
--- with room for two bytes
-pub small_made : (n : ℕ) (cs rep : List ℕ) (r : BatchResult) (t t' rep' : List ℕ) → length rep ≡ 2 → Called (ask n cs (length rep)) r t t' rep' → Called (ask n cs 2) r t t' rep'
-small_made n cs rep r t t' rep' e h = subst (λ (k : ℕ). Called (ask n cs k) r t t' rep') e h
+-- with so much room
+pub room_made : (n m : ℕ) (cs rep : List ℕ) (r : BatchResult) (t t' rep' : List ℕ) → length rep ≡ m → Called (ask n cs (length rep)) r t t' rep' → Called (ask n cs m) r t t' rep'
+room_made n m cs rep r t t' rep' e h = subst (λ (k : ℕ). Called (ask n cs k) r t t' rep') e h
 
 pub short_made : (t w cs rep t' w' rep' : List ℕ) (r : BatchResult) → length w ≡ 1 → length rep ≡ 2 → Batch t w cs rep (return_of r) t' w' rep' → Called (ask 1 cs 2) r t t' rep'
-short_made t w cs rep t' w' rep' r e f b = small_made 1 cs rep r t t' rep' f (called 1 t w cs rep t' w' rep' r e b)
+short_made t w cs rep t' w' rep' r e f b = room_made 1 2 cs rep r t t' rep' f (called 1 t w cs rep t' w' rep' r e b)
 
 -- what it said
-pub called_said : (a : Ask) (r : Heard) (t t' : List ℕ) (h : Called a r.result t t' r.report) → said h.call ≡ said_in r
+pub called_said : {n : ℕ} (a : Ask) (r : Heard n) (t t' : List ℕ) (h : Called a r.result t t' r.report) → said h.call ≡ said_in r
 called_said a r t t' h = λ i.
     record { reason = (h.result i).reason; used = (h.result i).used; written = (h.result i).written; bytes = take (h.result i).written (h.report i) }
 
@@ -80,11 +80,11 @@ module _ (t t₁ : List ℕ) (x : Reason) (l : LaidOut t (reason_number x) t₁)
   laid : LaidOut t 0 t₁
   laid = subst (λ (n : ℕ). LaidOut t n t₁) ((demand1_laid t (reason_number x) t₁ l).laid e).0 l
 
-  pub opened : (t₂ t₃ : List ℕ) (a b : Heard) → Called (ask 1 add_both 2) a.result t₁ t₂ a.report → Called (ask work_bytes add_both 2) b.result t₂ t₃ b.report
+  pub opened : (t₂ t₃ : List ℕ) (a b : Heard 2) → Called (ask 1 add_both 2) a.result t₁ t₂ a.report → Called (ask work_bytes add_both 2) b.result t₂ t₃ b.report
       → Opened (record { short = a; used = b }) t₃
   opened t₂ t₃ a b x y = record { before = t; table = t₁; laid = laid; between = t₂; short = x; used = y }
 
-  pub refilled : (t₂ t₃ : List ℕ) (r₁ r₂ : Heard) → Called (ask work_bytes add_two 2) r₁.result t₁ t₂ r₁.report → Called (ask work_bytes add_one 2) r₂.result t₂ t₃ r₂.report
+  pub refilled : (t₂ t₃ : List ℕ) (r₁ r₂ : Heard 2) → Called (ask work_bytes add_two 2) r₁.result t₁ t₂ r₁.report → Called (ask work_bytes add_one 2) r₂.result t₂ t₃ r₂.report
       → Refilled t₃
   unfolding to_word
   refilled t₂ t₃ r₁ r₂ a b =
@@ -96,7 +96,7 @@ module _ (t t₁ : List ℕ) (x : Reason) (l : LaidOut t (reason_number x) t₁)
             (more-asks {a = ask work_bytes add_two 2} (site_two ∷ []) refl refl (omega arith) (more-asks {a = ask work_bytes add_one 2} (site_one ∷ []) refl refl (omega arith) no-ask));
       }
 
-pub closed : (t t₂ t₃ t' : List ℕ) (a b c : Heard) → Called (ask work_bytes add_unknown 2) a.result t t₂ a.report → Called (ask work_bytes remove_cut 2) b.result t₂ t₃ b.report
+pub closed : (t t₂ t₃ t' : List ℕ) (a b c : Heard 2) → Called (ask work_bytes add_unknown 2) a.result t t₂ a.report → Called (ask work_bytes remove_cut 2) b.result t₂ t₃ b.report
     → Called (ask work_bytes list_ten 2) c.result t₃ t' c.report → Closed (record { unknown = a; cut = b; full = c }) t t'
 closed t t₂ t₃ t' a b c x y z = record { second = t₂; third = t₃; unknown = x; cut = y; full = z }
 

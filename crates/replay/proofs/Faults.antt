@@ -26,7 +26,7 @@ use Rattle.replay.specs.Replayed.{ask, Called, print_alone, stand_ten, reply, sa
 use Rattle.replay.proofs.Computed.{stood_book, no_entry_lem}
 
 -- a call that was refused with n said so
-refused_said : (n : ℕ) (a : Heard) → return_of a.result ≡ returns n 0 0 → said_in a ≡ reply n 0 []
+refused_said : (n : ℕ) (a : Heard 2) → return_of a.result ≡ returns n 0 0 → said_in a ≡ reply n 0 []
 refused_said n a q = λ i.
     record { reason = (q i).reason; used = (q i).used; written = (q i).written; bytes = take (q i).written a.report }
 
@@ -36,7 +36,7 @@ work_is cs r t t' rep' h = ap (λ (k : Ask). k.work) h.asked_so
 
 -- ---- on a table just laid out
 
-module _ (t t₁ : List ℕ) (x : Reason) (l : LaidOut t (reason_number x) t₁) (e : length t ≡ table_bytes) (t₂ t₃ : List ℕ) (a : Heard)
+module _ (t t₁ : List ℕ) (x : Reason) (l : LaidOut t (reason_number x) t₁) (e : length t ≡ table_bytes) (t₂ t₃ : List ℕ) (a : Heard 2)
     (c : Called (ask work_bytes print_alone 2) a.result t₂ t₃ a.report) where
   laid : t₁ ≡ empty_table
   laid = ((demand1_laid t (reason_number x) t₁ l).laid e).1
@@ -54,7 +54,7 @@ module _ (t t₁ : List ℕ) (x : Reason) (l : LaidOut t (reason_number x) t₁)
       refused_said 65 a (sym c.result ∙ (laid_zero c.call t₃ (work_is print_alone a.result t₂ t₃ a.report c) (made 4 1 h)).0)
 
 -- and on that with a wrong length
-pub flag_hit : (t : List ℕ) → t ≡ length_hit → (t₁ t₂ : List ℕ) (a : Heard) → t₁ ≡ put_word t 2 2
+pub flag_hit : (t : List ℕ) → t ≡ length_hit → (t₁ t₂ : List ℕ) (a : Heard 2) → t₁ ≡ put_word t 2 2
     → Called (ask work_bytes print_alone 2) a.result t₁ t₂ a.report → said_in a ≡ reply 65 0 []
 flag_hit t e t₁ t₂ a h c =
     let hit : t₁ ≡ put_word length_hit 2 2 = h ∙ ap (λ (y : List ℕ). put_word y 2 2) e in
@@ -68,7 +68,7 @@ hit_long t e = omega (arith, ap length e, (only_put_word empty_table 12 65535).l
 
 -- ---- on a table with a standing leg
 
-pub stood : (t t₁ : List ℕ) (x : Reason) → LaidOut t (reason_number x) t₁ → length t ≡ table_bytes → (t₂ : List ℕ) (a : Heard)
+pub stood : (t t₁ : List ℕ) (x : Reason) → LaidOut t (reason_number x) t₁ → length t ≡ table_bytes → (t₂ : List ℕ) (a : Heard 2)
     → Called (ask work_bytes stand_ten 2) a.result t₁ t₂ a.report → Stood t₂
 stood t t₁ x l e t₂ a c =
     record {
@@ -82,7 +82,7 @@ stood t t₁ x l e t₂ a c =
       asks = ap (λ (k : Ask). k ∷ []) c.asked_so;
     }
 
-module _ (t : List ℕ) (s : Stood t) (t₁ t₂ : List ℕ) (a : Heard) (c : Called (ask work_bytes print_alone 2) a.result t₁ t₂ a.report) where
+module _ (t : List ℕ) (s : Stood t) (t₁ t₂ : List ℕ) (a : Heard 2) (c : Called (ask work_bytes print_alone 2) a.result t₁ t₂ a.report) where
   book : book_of_run s.calls ≡ record { lines = []; leg = Some ten; tour = None }
   book = ap (book_after empty_book) s.asks ∙ stood_book
 

@@ -33,7 +33,6 @@ use Rattle.demands.proofs.Demand1.{demand1_laid}
 use Rattle.demands.proofs.Demand3.{demand3}
 use Rattle.demands.proofs.InSteps.{in_steps_lem, rest_written}
 use Rattle.replay.specs.declared.Heard.{Heard}
-use Rattle.replay.specs.declared.survey.Longer.{Longer}
 use Rattle.replay.specs.declared.survey.Rest.{Rest}
 use Rattle.replay.specs.declared.survey.Readings.{Readings}
 use Rattle.replay.specs.declared.survey.Refusals.{Refusals}
@@ -41,7 +40,7 @@ use Rattle.replay.specs.declared.survey.Badly.{Badly}
 use Rattle.replay.specs.Replayed.{ask, Called, reply, ten_bytes}
 use Rattle.replay.specs.Surveys.{survey, move_one, add_beyond, list_cut, steps, move_one_steps, add_beyond_steps, list_cut_steps}
 use Rattle.replay.specs.Surveys.{add_zero, add_infinite, add_held, move_zero, move_infinite, move_absent, refused_so}
-use Rattle.replay.specs.Surveys.{said_longer, said_badly, Begun, GoneOn, Run, NotTaken, BothNotTaken, SurveyTold}
+use Rattle.replay.specs.Surveys.{said_badly, Begun, GoneOn, Run, NotTaken, BothNotTaken, SurveyTold}
 use Rattle.replay.proofs.Citing.{called_said}
 
 -- ---- computed by the checker
@@ -124,28 +123,23 @@ rest_of (y ∷ ys) = ys
 
 -- ---- the calls
 
-pub survey_begun : (cs : List ℕ) (t t₁ : List ℕ) (x : Reason) → LaidOut t (reason_number x) t₁ → length t ≡ table_bytes → (t₂ : List ℕ) (a : Heard)
+pub survey_begun : (cs : List ℕ) (t t₁ : List ℕ) (x : Reason) → LaidOut t (reason_number x) t₁ → length t ≡ table_bytes → (t₂ : List ℕ) (a : Heard 2)
     → Called (ask work_bytes cs 2) a.result t₁ t₂ a.report → Begun cs a t₂
 survey_begun cs t t₁ x l e t₂ a c =
     record { before = t; table = t₁; laid = subst (λ (n : ℕ). LaidOut t n t₁) ((demand1_laid t (reason_number x) t₁ l).laid e).0 l; called = c }
 
-pub survey_went_on : (cs ds es t t₁ t₂ t₃ : List ℕ) (a b : Heard) (c : Longer) → Called (ask work_bytes cs 2) a.result t t₁ a.report
+pub survey_went_on : (cs ds es t t₁ t₂ t₃ : List ℕ) (a b : Heard 2) (c : Heard 24) → Called (ask work_bytes cs 2) a.result t t₁ a.report
     → Called (ask work_bytes ds 2) b.result t₁ t₂ b.report → Called (ask work_bytes es 24) c.result t₂ t₃ c.report
     → GoneOn cs ds es (record { used = a; unknown = b; cut = c }) t t₃
 survey_went_on cs ds es t t₁ t₂ t₃ a b c p q r = record { second = t₁; third = t₂; used = p; unknown = q; cut = r }
 
-pub survey_ran : (bs cs ds es t t' : List ℕ) (a : Heard) (r : Rest) → Begun bs a t → GoneOn cs ds es r t t' → Run bs cs ds es (record { full = a; rest = r }) t'
+pub survey_ran : (bs cs ds es t t' : List ℕ) (a : Heard 2) (r : Rest) → Begun bs a t → GoneOn cs ds es r t t' → Run bs cs ds es (record { full = a; rest = r }) t'
 survey_ran bs cs ds es t t' a r p q = record { after = t; begun = p; on = q }
 
-pub survey_not_taken : (cs ds es t t₁ t₂ t₃ : List ℕ) (a b c : Heard) → Called (ask work_bytes cs 2) a.result t t₁ a.report
+pub survey_not_taken : (cs ds es t t₁ t₂ t₃ : List ℕ) (a b c : Heard 2) → Called (ask work_bytes cs 2) a.result t t₁ a.report
     → Called (ask work_bytes ds 2) b.result t₁ t₂ b.report → Called (ask work_bytes es 2) c.result t₂ t₃ c.report
     → NotTaken cs ds es (record { zero = a; infinite = b; beyond = c }) t t₃
 survey_not_taken cs ds es t t₁ t₂ t₃ a b c p q r = record { second = t₁; third = t₂; zero = p; infinite = q; beyond = r }
-
--- what a call said
-said_longer_lem : (a : Ask) (r : Longer) (t t' : List ℕ) (h : Called a r.result t t' r.report) → said h.call ≡ said_longer r
-said_longer_lem a r t t' h = λ i.
-    record { reason = (h.result i).reason; used = (h.result i).used; written = (h.result i).written; bytes = take (h.result i).written (h.report i) }
 
 -- the calls of refusals, and what they said
 module _ (cs ds es : List ℕ) (r : Refusals) (t t' : List ℕ) (h : NotTaken cs ds es r t t') where
@@ -299,7 +293,7 @@ module _ (m s : Readings) (v w : Badly) (t₁ t₂ u₁ u₂ : List ℕ) (k : Ru
         full = sym (called_said _ m.full _ _ a.called) ∙ full_said;
         used = sym (called_said _ m.rest.used _ _ b.used) ∙ used_said;
         unknown = sym (called_said _ m.rest.unknown _ _ b.unknown) ∙ unknown_said;
-        cut = sym (said_longer_lem _ m.rest.cut _ _ b.cut) ∙ cut_said;
+        cut = sym (called_said _ m.rest.cut _ _ b.cut) ∙ cut_said;
         full_steps =
             sym (called_said _ s.full _ _ c.called) ∙ ap (λ (z : List Said). first_of z) promise.said_as_written
             ∙ in_steps_said a.called.call survey (reply 68 11 (0x2B ∷ [])) 7 (ap (λ (h : Ask). h.commands) a.called.asked_so) full_said first_long;
@@ -310,7 +304,7 @@ module _ (m s : Readings) (v w : Badly) (t₁ t₂ u₁ u₂ : List ℕ) (k : Ru
             sym (called_said _ s.rest.unknown _ _ d.unknown) ∙ ap (λ (z : List Said). first_of (rest_of (rest_of z))) promise.said_as_written
             ∙ in_steps_said b.unknown.call add_beyond (reply 66 11 (0x21 ∷ 2 ∷ [])) 7 (ap (λ (h : Ask). h.commands) b.unknown.asked_so) unknown_said beyond_long;
         cut_steps =
-            sym (said_longer_lem _ s.rest.cut _ _ d.cut) ∙ ap (λ (z : List Said). first_of (rest_of (rest_of (rest_of z)))) promise.said_as_written
+            sym (called_said _ s.rest.cut _ _ d.cut) ∙ ap (λ (z : List Said). first_of (rest_of (rest_of (rest_of z)))) promise.said_as_written
             ∙ in_steps_said b.cut.call list_cut (reply 67 16 (0x2B ∷ ten_bytes)) 16 (ap (λ (h : Ask). h.commands) b.cut.asked_so) cut_said third_long;
         left =
             sym (λ i. drop (c.called.result i).used (c.called.asked_so i).commands)

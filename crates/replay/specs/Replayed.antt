@@ -78,7 +78,7 @@ abbrev pub ten_bytes : List ℕ
 ten_bytes = 0x3D ∷ 2 ∷ 0 ∷ 1 ∷ 0 ∷ 0 ∷ 0 ∷ 0 ∷ 0 ∷ 1 ∷ 0 ∷ 0 ∷ 0 ∷ 2 ∷ 0 ∷ 37 ∷ 0 ∷ 0 ∷ 0 ∷ 100 ∷ 0 ∷ 0 ∷ 0 ∷ []
 
 -- what a call said that returned and reported so
-abbrev pub said_in : Heard → Said
+abbrev pub said_in : {n : ℕ} → Heard n → Said
 said_in r =
     record {
       reason = reason_number r.result.reason;
@@ -150,7 +150,7 @@ abbrev pub length_hit : List ℕ
 length_hit = put_word empty_table 12 65535
 
 -- a call on it says 69, and leaves it
-pub record LengthHit (r : Heard) (t' : List ℕ) : Type 0 where
+pub record LengthHit (r : Heard 2) (t' : List ℕ) : Type 0 where
   pub told : said_in r ≡ reply 69 0 []
   pub left : t' ≡ length_hit
 

@@ -7,7 +7,6 @@ use Rattle.book.specs.WrittenOut.{written_bytes}
 use Rattle.demands.specs.Batch.{LaidOut}
 use Rattle.demands.specs.Whole.{Said}
 use Rattle.replay.specs.declared.Heard.{Heard}
-use Rattle.replay.specs.declared.survey.Longer.{Longer}
 use Rattle.replay.specs.declared.survey.Rest.{Rest}
 use Rattle.replay.specs.declared.survey.Readings.{Readings}
 use Rattle.replay.specs.declared.survey.Refusals.{Refusals}
@@ -71,18 +70,8 @@ move_infinite = 0x6D ∷ 9 ∷ 0 ∷ 0x90 ∷ 0x7D ∷ 0x92 ∷ 0x49 ∷ 0 ∷ 0
 abbrev pub move_absent : List ℕ
 move_absent = 0x6D ∷ 9 ∷ 0 ∷ 0 ∷ 0 ∷ 0 ∷ 0 ∷ 0xFF ∷ 0xFF ∷ 0x7F ∷ 0xFF ∷ []
 
--- what a call with more room said
-abbrev pub said_longer : Longer → Said
-said_longer r =
-    record {
-      reason = reason_number r.result.reason;
-      used = r.result.used;
-      written = r.result.written;
-      bytes = take r.result.written r.report;
-    }
-
 -- a call was made on a table just laid out, with these commands, and left t'
-pub record Begun (cs : List ℕ) (r : Heard) (t' : List ℕ) : Type 0 where
+pub record Begun (cs : List ℕ) (r : Heard 2) (t' : List ℕ) : Type 0 where
   pub before : List ℕ
   pub table : List ℕ
   pub laid : LaidOut before 0 table
@@ -131,11 +120,11 @@ pub record SurveyTold (r : Surveyed) : Type 0 where
   pub full : said_in r.metres.full ≡ reply 68 11 (0x2B ∷ [])
   pub used : said_in r.metres.rest.used ≡ reply 0 11 (0x2B ∷ [])
   pub unknown : said_in r.metres.rest.unknown ≡ reply 66 11 (0x21 ∷ 2 ∷ [])
-  pub cut : said_longer r.metres.rest.cut ≡ reply 67 16 (0x2B ∷ ten_bytes)
+  pub cut : said_in r.metres.rest.cut ≡ reply 67 16 (0x2B ∷ ten_bytes)
   pub full_steps : said_in r.steps.full ≡ reply 68 7 (0x2B ∷ [])
   pub used_steps : said_in r.steps.rest.used ≡ reply 0 7 (0x2B ∷ [])
   pub unknown_steps : said_in r.steps.rest.unknown ≡ reply 66 7 (0x21 ∷ 2 ∷ [])
-  pub cut_steps : said_longer r.steps.rest.cut ≡ reply 67 16 (0x2B ∷ ten_bytes)
+  pub cut_steps : said_in r.steps.rest.cut ≡ reply 67 16 (0x2B ∷ ten_bytes)
   -- what 68 left of one is what it left of the other, written out
   pub left : drop r.steps.full.result.used steps ≡ written_bytes (drop r.metres.full.result.used survey)
   pub adds : said_badly r.refused.adds ≡ refused_so

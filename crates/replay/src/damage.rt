@@ -3,47 +3,47 @@ ghost use Rattle.std.specs.Prelude.{◌≡◌, []};
 ghost use Rattle.replay.specs.Replayed.{reply, said_in, length_hit, LengthHit, Stood, DamageTold};
 
 use limits::TABLE_BYTES;
-use crate::{Heard, small_call};
+use crate::{Heard, hear};
 
 // What was said of tables with a wrong length of the standing list, with a wrong flag of its leg beside it, with a
 // coordinate and no leg, with a coordinate off the grid, and with a list where no site is held.
 #[derive(Clone, Copy)]
 pub struct Damaged {
-    length: Heard,
-    flag: Heard,
-    zeros: Heard,
-    leg: Heard,
-    siteless: Heard,
+    length: Heard<2>,
+    flag: Heard<2>,
+    zeros: Heard<2>,
+    leg: Heard<2>,
+    siteless: Heard<2>,
 }
 
 // Lays out a table, writes 65,535 for the length of its standing list, and calls.
-fn hit_length(table: &mut [u8; TABLE_BYTES]) -> Heard
+fn hit_length(table: &mut [u8; TABLE_BYTES]) -> Heard<2>
     ensures { LengthHit result table.new }
 {
     service::lay_out(table);
     words::put_word(table, 12, 65535);
     let print = [0x50u8];
-    small_call(table, &print)
+    hear::<2>(table, &print)
 }
 
 // Writes 2 for the flag of the standing leg as well, and calls.
-fn hit_flag(table: &mut [u8]) -> Heard
+fn hit_flag(table: &mut [u8]) -> Heard<2>
     requires { table.old ≡ length_hit }
     ensures { said_in result ≡ reply 65 0 [] }
 {
     words::put_word(table, 2, 2);
     let print = [0x50u8];
-    small_call(table, &print)
+    hear::<2>(table, &print)
 }
 
 // Lays out a table, writes a coordinate of the standing leg, which it has not, and calls.
-fn hit_zeros(table: &mut [u8; TABLE_BYTES]) -> Heard
+fn hit_zeros(table: &mut [u8; TABLE_BYTES]) -> Heard<2>
     ensures { said_in result ≡ reply 65 0 [] }
 {
     service::lay_out(table);
     words::put_word(table, 4, 1);
     let print = [0x50u8];
-    small_call(table, &print)
+    hear::<2>(table, &print)
 }
 
 // Lays out a table and sets the standing leg from (0, 0) to (10, 0).
@@ -52,27 +52,27 @@ fn stand_ten(table: &mut [u8; TABLE_BYTES])
 {
     service::lay_out(table);
     let stand = [0x53u8, 0, 0, 0, 0, 10, 0, 0, 0];
-    small_call(table, &stand);
+    hear::<2>(table, &stand);
 }
 
 // Writes a coordinate off the grid for one of that leg, and calls.
-fn hit_leg(table: &mut [u8; TABLE_BYTES]) -> Heard
+fn hit_leg(table: &mut [u8; TABLE_BYTES]) -> Heard<2>
     ensures { said_in result ≡ reply 69 0 [] }
 {
     stand_ten(table);
     words::put_word(table, 4, 24001);
     let print = [0x50u8];
-    small_call(table, &print)
+    hear::<2>(table, &print)
 }
 
 // Writes 1 for the length of its list, where no site is held, and calls.
-fn hit_siteless(table: &mut [u8; TABLE_BYTES]) -> Heard
+fn hit_siteless(table: &mut [u8; TABLE_BYTES]) -> Heard<2>
     ensures { said_in result ≡ reply 69 0 [] }
 {
     stand_ten(table);
     words::put_word(table, 12, 1);
     let print = [0x50u8];
-    small_call(table, &print)
+    hear::<2>(table, &print)
 }
 
 // The calls on tables that were damaged.

@@ -15,24 +15,24 @@ use book::BatchResult;
 
 // What a call returned, and its report.
 #[derive(Clone, Copy)]
-pub struct Heard {
+pub struct Heard<const ROOM: usize> {
     result: BatchResult,
-    report: [u8; 2],
+    report: [u8; ROOM],
 }
 
 // What the first two calls said: with too short a work buffer, and with all commands used.
 #[derive(Clone, Copy)]
 pub struct Opening {
-    short: Heard,
-    used: Heard,
+    short: Heard<2>,
+    used: Heard<2>,
 }
 
 // What the three behind them said: ended by an unknown command, by a cut one, and for want of room.
 #[derive(Clone, Copy)]
 pub struct Closing {
-    unknown: Heard,
-    cut: Heard,
-    full: Heard,
+    unknown: Heard<2>,
+    cut: Heard<2>,
+    full: Heard<2>,
 }
 
 // These, and the reports of the leg on both tables.
@@ -53,18 +53,18 @@ fn call(table: &mut [u8], commands: &[u8], report: &mut [u8]) -> BatchResult
     service::batch(table, &mut work, commands, report)
 }
 
-// A call with buffers of its own, and room for two bytes.
-fn small_call(table: &mut [u8], commands: &[u8]) -> Heard
-    ensures { Called (ask work_bytes commands.now 2)
+// A call with buffers of its own.
+fn hear<const ROOM: usize>(table: &mut [u8], commands: &[u8]) -> Heard<ROOM>
+    ensures { Called (ask work_bytes commands.now ROOM)
         result.result table.old table.new result.report }
 {
-    let mut report = [0u8; 2];
+    let mut report = [0u8; ROOM];
     let result = call(table, commands, &mut report);
     Heard { result, report }
 }
 
 // The same with a work buffer of one byte.
-fn short_call(table: &mut [u8], commands: &[u8]) -> Heard
+fn short_call(table: &mut [u8], commands: &[u8]) -> Heard<2>
     ensures { Called (ask 1 commands.now 2)
         result.result table.old table.new result.report }
 {
@@ -81,7 +81,7 @@ fn begin(table: &mut [u8; TABLE_BYTES]) -> Opening
     service::lay_out(table);
     let add = [0x41u8, 1, 0, 2, 0, 3, 0, 0x41, 2, 0, 7, 0, 1, 0];
     let short = short_call(table, &add);
-    let used = small_call(table, &add);
+    let used = hear::<2>(table, &add);
     Opening { short, used }
 }
 
@@ -91,11 +91,11 @@ fn go_on(table: &mut [u8]) -> Closing
     ensures { Closed result table.old table.new }
 {
     let add = [0x41u8, 3, 0, 9, 0, 0xFC, 0xFF, 0xFF];
-    let unknown = small_call(table, &add);
+    let unknown = hear::<2>(table, &add);
     let remove = [0x44u8, 3, 0, 0x41, 1, 0];
-    let cut = small_call(table, &remove);
+    let cut = hear::<2>(table, &remove);
     let list = [0x4Cu8, 0, 0, 0, 0, 10, 0, 0, 0];
-    let full = small_call(table, &list);
+    let full = hear::<2>(table, &list);
     Closing { unknown, cut, full }
 }
 
@@ -106,8 +106,8 @@ fn refill(table: &mut [u8; TABLE_BYTES])
     service::lay_out(table);
     let two = [0x41u8, 2, 0, 7, 0, 1, 0];
     let one = [0x41u8, 1, 0, 2, 0, 3, 0];
-    small_call(table, &two);
-    small_call(table, &one);
+    hear::<2>(table, &two);
+    hear::<2>(table, &one);
 }
 
 // Asks for the list of the leg from (0, 0) to (10, 0).

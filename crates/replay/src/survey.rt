@@ -1,36 +1,26 @@
 // Calls with receiver readings, beside the same with the steps written out.
-ghost use Rattle.limits.specs.Limits.{work_bytes};
-ghost use Rattle.replay.specs.Replayed.{ask, Called};
 ghost use Rattle.replay.specs.Surveys.{survey, move_one, add_beyond, list_cut};
 ghost use Rattle.replay.specs.Surveys.{steps, move_one_steps, add_beyond_steps, list_cut_steps};
 ghost use Rattle.replay.specs.Surveys.{add_zero, add_infinite, add_held, move_zero, move_infinite, move_absent};
 ghost use Rattle.replay.specs.Surveys.{Begun, GoneOn, Run, NotTaken, BothNotTaken, SurveyTold};
 
 use limits::TABLE_BYTES;
-use crate::{Heard, call, small_call};
-use book::BatchResult;
-
-// What a call with more room returned, and its report.
-#[derive(Clone, Copy)]
-pub struct Longer {
-    result: BatchResult,
-    report: [u8; 24],
-}
+use crate::{Heard, hear};
 
 // What was said of three calls behind the first: with all commands used, ended by an unknown one, and by a cut one.
 #[derive(Clone, Copy)]
 pub struct Rest {
-    used: Heard,
-    unknown: Heard,
-    cut: Longer,
+    used: Heard<2>,
+    unknown: Heard<2>,
+    cut: Heard<24>,
 }
 
 // What was said of readings that are not taken, for more than one cause: the number 0, not finite, off the grid.
 #[derive(Clone, Copy)]
 pub struct Refusals {
-    zero: Heard,
-    infinite: Heard,
-    beyond: Heard,
+    zero: Heard<2>,
+    infinite: Heard<2>,
+    beyond: Heard<2>,
 }
 
 // Of additions and of moves.
@@ -43,7 +33,7 @@ pub struct Badly {
 // What was said of these, the first ended for want of room.
 #[derive(Clone, Copy)]
 pub struct Readings {
-    full: Heard,
+    full: Heard<2>,
     rest: Rest,
 }
 
@@ -57,31 +47,21 @@ pub struct Surveyed {
     alike: Badly,
 }
 
-// A call with buffers of its own, and room for 24 bytes.
-fn longer_call(table: &mut [u8], commands: &[u8]) -> Longer
-    ensures { Called (ask work_bytes commands.now 24)
-        result.result table.old table.new result.report }
-{
-    let mut report = [0u8; 24];
-    let result = call(table, commands, &mut report);
-    Longer { result, report }
-}
-
 // Lays out a table, and makes the first call on it.
-fn begin(table: &mut [u8; TABLE_BYTES], commands: &[u8]) -> Heard
+fn begin(table: &mut [u8; TABLE_BYTES], commands: &[u8]) -> Heard<2>
     ensures { Begun commands.now result table.new }
 {
     service::lay_out(table);
-    small_call(table, commands)
+    hear::<2>(table, commands)
 }
 
 // Three calls more.
 fn go_on(table: &mut [u8], used: &[u8], unknown: &[u8], cut: &[u8]) -> Rest
     ensures { GoneOn used.now unknown.now cut.now result table.old table.new }
 {
-    let used = small_call(table, used);
-    let unknown = small_call(table, unknown);
-    let cut = longer_call(table, cut);
+    let used = hear::<2>(table, used);
+    let unknown = hear::<2>(table, unknown);
+    let cut = hear::<24>(table, cut);
     Rest { used, unknown, cut }
 }
 
@@ -118,9 +98,9 @@ fn step_all(table: &mut [u8; TABLE_BYTES]) -> Readings
 fn refuse(table: &mut [u8], zero: &[u8], infinite: &[u8], beyond: &[u8]) -> Refusals
     ensures { NotTaken zero.now infinite.now beyond.now result table.old table.new }
 {
-    let zero = small_call(table, zero);
-    let infinite = small_call(table, infinite);
-    let beyond = small_call(table, beyond);
+    let zero = hear::<2>(table, zero);
+    let infinite = hear::<2>(table, infinite);
+    let beyond = hear::<2>(table, beyond);
     Refusals {
         zero,
         infinite,
