@@ -51,12 +51,9 @@ called n t w cs rep t' w' rep' r e b =
       report = refl;
     }
 
--- with so much room
-pub room_made : (n m : ℕ) (cs rep : List ℕ) (r : BatchResult) (t t' rep' : List ℕ) → length rep ≡ m → Called (ask n cs (length rep)) r t t' rep' → Called (ask n cs m) r t t' rep'
-room_made n m cs rep r t t' rep' e h = subst (λ (k : ℕ). Called (ask n cs k) r t t' rep') e h
-
-pub short_made : (t w cs rep t' w' rep' : List ℕ) (r : BatchResult) → length w ≡ 1 → length rep ≡ 2 → Batch t w cs rep (return_of r) t' w' rep' → Called (ask 1 cs 2) r t t' rep'
-short_made t w cs rep t' w' rep' r e f b = room_made 1 2 cs rep r t t' rep' f (called 1 t w cs rep t' w' rep' r e b)
+-- with buffers of such lengths
+pub heard : (n m : ℕ) (t w cs rep t' w' rep' : List ℕ) (r : BatchResult) → length w ≡ n → length rep ≡ m → Batch t w cs rep (return_of r) t' w' rep' → Called (ask n cs m) r t t' rep'
+heard n m t w cs rep t' w' rep' r e f b = subst (λ (k : ℕ). Called (ask n cs k) r t t' rep') f (called n t w cs rep t' w' rep' r e b)
 
 -- what it said
 pub called_said : {n : ℕ} (a : Ask) (r : Heard n) (t t' : List ℕ) (h : Called a r.result t t' r.report) → said h.call ≡ said_in r
@@ -64,13 +61,13 @@ called_said a r t t' h = λ i.
     record { reason = (h.result i).reason; used = (h.result i).used; written = (h.result i).written; bytes = take (h.result i).written (h.report i) }
 
 -- the leg
-pub asked_ten : (t rep t' rep' : List ℕ) (r : BatchResult) → length rep ≡ 23 → Called (ask work_bytes list_ten (length rep)) r t t' rep' → AskedTen t rep' t'
+pub asked_ten : (t t' rep' : List ℕ) (r : BatchResult) → Called (ask work_bytes list_ten 23) r t t' rep' → AskedTen t rep' t'
 unfolding to_word
-asked_ten t rep t' rep' r e h =
+asked_ten t t' rep' r h =
     record {
       call = h.call;
       asks = record { made = h.made; commands = ap (λ (a : Ask). a.commands) h.asked_so; work = ap (λ (a : Ask). a.work) h.asked_so };
-      room = ap (λ (a : Ask). a.room) h.asked_so ∙ e;
+      room = ap (λ (a : Ask). a.room) h.asked_so;
       report = h.report;
     }
 

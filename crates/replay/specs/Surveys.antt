@@ -1,8 +1,7 @@
 -- Calls with receiver readings, beside the same with the steps written out. Document 02, C-15.
 -- Assumes nothing.
-use Rattle.std.specs.Prelude.{◌≡◌, List, [], ◌∷◌, ◌++◌, ℕ, drop, take}
+use Rattle.std.specs.Prelude.{◌≡◌, List, [], ◌∷◌, ◌++◌, ℕ, drop}
 use Rattle.limits.specs.Limits.{work_bytes}
-use Rattle.book.specs.Numbers.{reason_number}
 use Rattle.book.specs.WrittenOut.{written_bytes}
 use Rattle.demands.specs.Batch.{LaidOut}
 use Rattle.demands.specs.Whole.{Said}

@@ -2,7 +2,7 @@
 ghost use Rattle.std.specs.Prelude.{◌≡◌, []};
 ghost use Rattle.replay.specs.Replayed.{reply, said_in, length_hit, LengthHit, Stood, DamageTold};
 
-use limits::TABLE_BYTES;
+use limits::{TABLE_BYTES, WORK_BYTES};
 use crate::{Heard, hear};
 
 // What was said of tables with a wrong length of the standing list, with a wrong flag of its leg beside it, with a
@@ -23,7 +23,7 @@ fn hit_length(table: &mut [u8; TABLE_BYTES]) -> Heard<2>
     service::lay_out(table);
     words::put_word(table, 12, 65535);
     let print = [0x50u8];
-    hear::<2>(table, &print)
+    hear::<WORK_BYTES, 2>(table, &print)
 }
 
 // Writes 2 for the flag of the standing leg as well, and calls.
@@ -33,7 +33,7 @@ fn hit_flag(table: &mut [u8]) -> Heard<2>
 {
     words::put_word(table, 2, 2);
     let print = [0x50u8];
-    hear::<2>(table, &print)
+    hear::<WORK_BYTES, 2>(table, &print)
 }
 
 // Lays out a table, writes a coordinate of the standing leg, which it has not, and calls.
@@ -43,7 +43,7 @@ fn hit_zeros(table: &mut [u8; TABLE_BYTES]) -> Heard<2>
     service::lay_out(table);
     words::put_word(table, 4, 1);
     let print = [0x50u8];
-    hear::<2>(table, &print)
+    hear::<WORK_BYTES, 2>(table, &print)
 }
 
 // Lays out a table and sets the standing leg from (0, 0) to (10, 0).
@@ -52,7 +52,7 @@ fn stand_ten(table: &mut [u8; TABLE_BYTES])
 {
     service::lay_out(table);
     let stand = [0x53u8, 0, 0, 0, 0, 10, 0, 0, 0];
-    hear::<2>(table, &stand);
+    hear::<WORK_BYTES, 2>(table, &stand);
 }
 
 // Writes a coordinate off the grid for one of that leg, and calls.
@@ -62,7 +62,7 @@ fn hit_leg(table: &mut [u8; TABLE_BYTES]) -> Heard<2>
     stand_ten(table);
     words::put_word(table, 4, 24001);
     let print = [0x50u8];
-    hear::<2>(table, &print)
+    hear::<WORK_BYTES, 2>(table, &print)
 }
 
 // Writes 1 for the length of its list, where no site is held, and calls.
@@ -72,7 +72,7 @@ fn hit_siteless(table: &mut [u8; TABLE_BYTES]) -> Heard<2>
     stand_ten(table);
     words::put_word(table, 12, 1);
     let print = [0x50u8];
-    hear::<2>(table, &print)
+    hear::<WORK_BYTES, 2>(table, &print)
 }
 
 // The calls on tables that were damaged.

@@ -6,11 +6,11 @@
 pub mod damage;
 pub mod survey;
 
-ghost use Rattle.std.specs.Prelude.{◌≡◌, length};
+ghost use Rattle.std.specs.Prelude.{◌≡◌, ◌≤◌};
 ghost use Rattle.limits.specs.Limits.{work_bytes};
 ghost use Rattle.replay.specs.Replayed.{ask, Called, Opened, Closed, Refilled, AskedTen, Replayed};
 
-use limits::TABLE_BYTES;
+use limits::{TABLE_BYTES, WORK_BYTES};
 use book::BatchResult;
 
 // What a call returned, and its report.
@@ -44,32 +44,14 @@ pub struct Row {
     theirs: [u8; 23],
 }
 
-// A call with a work buffer of its own.
-fn call(table: &mut [u8], commands: &[u8], report: &mut [u8]) -> BatchResult
-    ensures { Called (ask work_bytes commands.now (length report.old))
-        result table.old table.new report.new }
-{
-    let mut work = [0u8; limits::WORK_BYTES];
-    service::batch(table, &mut work, commands, report)
-}
-
 // A call with buffers of its own.
-fn hear<const ROOM: usize>(table: &mut [u8], commands: &[u8]) -> Heard<ROOM>
-    ensures { Called (ask work_bytes commands.now ROOM)
+fn hear<const WORK: usize, const ROOM: usize>(table: &mut [u8], commands: &[u8]) -> Heard<ROOM>
+    requires { WORK ≤ work_bytes }
+    ensures { Called (ask WORK commands.now ROOM)
         result.result table.old table.new result.report }
 {
+    let mut work = [0u8; WORK];
     let mut report = [0u8; ROOM];
-    let result = call(table, commands, &mut report);
-    Heard { result, report }
-}
-
-// The same with a work buffer of one byte.
-fn short_call(table: &mut [u8], commands: &[u8]) -> Heard<2>
-    ensures { Called (ask 1 commands.now 2)
-        result.result table.old table.new result.report }
-{
-    let mut work = [0u8; 1];
-    let mut report = [0u8; 2];
     let result = service::batch(table, &mut work, commands, &mut report);
     Heard { result, report }
 }
@@ -80,8 +62,8 @@ fn begin(table: &mut [u8; TABLE_BYTES]) -> Opening
 {
     service::lay_out(table);
     let add = [0x41u8, 1, 0, 2, 0, 3, 0, 0x41, 2, 0, 7, 0, 1, 0];
-    let short = short_call(table, &add);
-    let used = hear::<2>(table, &add);
+    let short = hear::<1, 2>(table, &add);
+    let used = hear::<WORK_BYTES, 2>(table, &add);
     Opening { short, used }
 }
 
@@ -91,11 +73,11 @@ fn go_on(table: &mut [u8]) -> Closing
     ensures { Closed result table.old table.new }
 {
     let add = [0x41u8, 3, 0, 9, 0, 0xFC, 0xFF, 0xFF];
-    let unknown = hear::<2>(table, &add);
+    let unknown = hear::<WORK_BYTES, 2>(table, &add);
     let remove = [0x44u8, 3, 0, 0x41, 1, 0];
-    let cut = hear::<2>(table, &remove);
+    let cut = hear::<WORK_BYTES, 2>(table, &remove);
     let list = [0x4Cu8, 0, 0, 0, 0, 10, 0, 0, 0];
-    let full = hear::<2>(table, &list);
+    let full = hear::<WORK_BYTES, 2>(table, &list);
     Closing { unknown, cut, full }
 }
 
@@ -106,8 +88,8 @@ fn refill(table: &mut [u8; TABLE_BYTES])
     service::lay_out(table);
     let two = [0x41u8, 2, 0, 7, 0, 1, 0];
     let one = [0x41u8, 1, 0, 2, 0, 3, 0];
-    hear::<2>(table, &two);
-    hear::<2>(table, &one);
+    hear::<WORK_BYTES, 2>(table, &two);
+    hear::<WORK_BYTES, 2>(table, &one);
 }
 
 // Asks for the list of the leg from (0, 0) to (10, 0).
@@ -115,9 +97,7 @@ fn ask_ten(table: &mut [u8]) -> [u8; 23]
     ensures { AskedTen table.old result table.new }
 {
     let list = [0x4Cu8, 0, 0, 0, 0, 10, 0, 0, 0];
-    let mut report = [0u8; 23];
-    call(table, &list, &mut report);
-    report
+    hear::<WORK_BYTES, 23>(table, &list).report
 }
 
 // The calls on one table, and the leg asked of it and of a fresh one.

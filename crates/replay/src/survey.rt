@@ -4,7 +4,7 @@ ghost use Rattle.replay.specs.Surveys.{steps, move_one_steps, add_beyond_steps, 
 ghost use Rattle.replay.specs.Surveys.{add_zero, add_infinite, add_held, move_zero, move_infinite, move_absent};
 ghost use Rattle.replay.specs.Surveys.{Begun, GoneOn, Run, NotTaken, BothNotTaken, SurveyTold};
 
-use limits::TABLE_BYTES;
+use limits::{TABLE_BYTES, WORK_BYTES};
 use crate::{Heard, hear};
 
 // What was said of three calls behind the first: with all commands used, ended by an unknown one, and by a cut one.
@@ -52,16 +52,16 @@ fn begin(table: &mut [u8; TABLE_BYTES], commands: &[u8]) -> Heard<2>
     ensures { Begun commands.now result table.new }
 {
     service::lay_out(table);
-    hear::<2>(table, commands)
+    hear::<WORK_BYTES, 2>(table, commands)
 }
 
 // Three calls more.
 fn go_on(table: &mut [u8], used: &[u8], unknown: &[u8], cut: &[u8]) -> Rest
     ensures { GoneOn used.now unknown.now cut.now result table.old table.new }
 {
-    let used = hear::<2>(table, used);
-    let unknown = hear::<2>(table, unknown);
-    let cut = hear::<24>(table, cut);
+    let used = hear::<WORK_BYTES, 2>(table, used);
+    let unknown = hear::<WORK_BYTES, 2>(table, unknown);
+    let cut = hear::<WORK_BYTES, 24>(table, cut);
     Rest { used, unknown, cut }
 }
 
@@ -98,9 +98,9 @@ fn step_all(table: &mut [u8; TABLE_BYTES]) -> Readings
 fn refuse(table: &mut [u8], zero: &[u8], infinite: &[u8], beyond: &[u8]) -> Refusals
     ensures { NotTaken zero.now infinite.now beyond.now result table.old table.new }
 {
-    let zero = hear::<2>(table, zero);
-    let infinite = hear::<2>(table, infinite);
-    let beyond = hear::<2>(table, beyond);
+    let zero = hear::<WORK_BYTES, 2>(table, zero);
+    let infinite = hear::<WORK_BYTES, 2>(table, infinite);
+    let beyond = hear::<WORK_BYTES, 2>(table, beyond);
     Refusals {
         zero,
         infinite,
