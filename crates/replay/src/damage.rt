@@ -2,8 +2,8 @@
 ghost use Rattle.std.specs.Prelude.{◌≡◌, []};
 ghost use Rattle.replay.specs.Replayed.{reply, said_in, length_hit, LengthHit, Stood, DamageTold};
 
-use limits::{TABLE_BYTES, WORK_BYTES};
 use crate::{Heard, hear};
+use limits::{TABLE_BYTES, WORK_BYTES};
 
 // What was said of tables with a wrong length of the standing list, with a wrong flag of its leg beside it, with a
 // coordinate and no leg, with a coordinate off the grid, and with a list where no site is held.

@@ -10,8 +10,8 @@ ghost use Rattle.std.specs.Prelude.{◌≡◌, ◌≤◌};
 ghost use Rattle.limits.specs.Limits.{work_bytes};
 ghost use Rattle.replay.specs.Replayed.{ask, Called, Opened, Closed, Refilled, AskedTen, Replayed};
 
-use limits::{TABLE_BYTES, WORK_BYTES};
 use book::BatchResult;
+use limits::{TABLE_BYTES, WORK_BYTES};
 
 // What a call returned, and its report.
 #[derive(Clone, Copy)]

@@ -4,8 +4,8 @@ ghost use Rattle.replay.specs.Surveys.{steps, move_one_steps, add_beyond_steps, 
 ghost use Rattle.replay.specs.Surveys.{add_zero, add_infinite, add_held, move_zero, move_infinite, move_absent};
 ghost use Rattle.replay.specs.Surveys.{Begun, GoneOn, Run, NotTaken, BothNotTaken, SurveyTold};
 
-use limits::{TABLE_BYTES, WORK_BYTES};
 use crate::{Heard, hear};
+use limits::{TABLE_BYTES, WORK_BYTES};
 
 // What was said of three calls behind the first: with all commands used, ended by an unknown one, and by a cut one.
 #[derive(Clone, Copy)]

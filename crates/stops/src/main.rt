@@ -11,8 +11,8 @@ ghost use Rattle.stops.specs.Input.{KeptInput, ReadOn};
 ghost use Rattle.stops.specs.Calls.{Buffers, WantsMore, Resumable, Follows, after_read};
 ghost use Rattle.stops.specs.Calls.{Proceeds, Reported, Turned, Series, Program};
 
-use limits::TABLE_BYTES;
 use book::Reason;
+use limits::TABLE_BYTES;
 use std::io::Read;
 
 // "ends with 2E and the reason byte"
