@@ -16,6 +16,9 @@ pub struct Damaged {
     siteless: Heard<2>,
 }
 
+// The calls below are a function each, alike but for what they write: each is pinned by its own bytes, and one for all
+// would promise nothing of what is said.
+
 // Lays out a table, writes 65,535 for the length of its standing list, and calls.
 fn hit_length(table: &mut [u8; TABLE_BYTES]) -> Heard<2>
     ensures { LengthHit result table.new }
