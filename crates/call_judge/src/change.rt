@@ -31,8 +31,8 @@ fn test(n: u16, l: Location) -> Result<Site, Cause>
     Err(Cause::OffGrid)
 }
 
-// A record's index in 16 bits: so a verdict is copied in machine words that no other field shares. The cast is proved to
-// lose none.
+// A record's index in 16 bits: so a verdict is copied in machine words that no other field shares. The cast is proved
+// to lose none.
 fn narrow(k: usize) -> u16
     requires { k ≤ max_sites }
     ensures { result ≡ k }

@@ -28,8 +28,8 @@ pub enum Answer {
 }
 
 // What is to be done for a command that is not refused, with what was found: nothing but a list; a site inserted before
-// a record; the record of a number deleted; a record given a new position; a standing leg set; a tour begun; a tour that
-// goes on along a leg, with so many entries of its list left out, the site that ends it, and the list's length.
+// a record; the record of a number deleted; a record given a new position; a standing leg set; a tour begun; a tour
+// that goes on along a leg, with so many entries of its list left out, the site that ends it, and the list's length.
 #[derive(Clone, Copy)]
 pub enum Verdict {
     Show(Leg, usize),

@@ -2,7 +2,6 @@
 ghost use Rattle.std.specs.Prelude.{◌≡◌, ◌≤◌, ◌<◌, length, Some};
 ghost use Rattle.grid.specs.Position.{OnGrid};
 ghost use Rattle.book.specs.declared.Command.{Command};
-ghost use Rattle.book.specs.Tour.{leg_to};
 ghost use Rattle.list_row.specs.Vertices.{row_bytes};
 ghost use Rattle.table_header.specs.Header.{tour_in};
 ghost use Rattle.table_rules.specs.Table.{Sound};
@@ -10,7 +9,7 @@ ghost use Rattle.table_rules.specs.Listing.{ListsTable};
 ghost use Rattle.call_judge.specs.Verdict.{Decided, Settled, passed_by};
 
 use crate::Verdict;
-use book::{Cause, Tour};
+use book::Cause;
 use grid::{Leg, Position};
 use limits::TABLE_BYTES;
 use list_row::Row;

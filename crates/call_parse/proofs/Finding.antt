@@ -35,10 +35,10 @@ leg_is s i p q hp hq = λ j. record { s = hp j; e = hq j }
 -- ---- the table of commands
 
 -- no other mark is a command's
-pub unlisted : (m : ℕ) → m ≢ 0x41 → m ≢ 0x44 → m ≢ 0x4D → m ≢ 0x4C → m ≢ 0x53 → m ≢ 0x50 → m ≢ 0x42 → m ≢ 0x43 → m ≢ 0x61 → m ≢ 0x6D
+pub no_row : (m : ℕ) → m ≢ 0x41 → m ≢ 0x44 → m ≢ 0x4D → m ≢ 0x4C → m ≢ 0x53 → m ≢ 0x50 → m ≢ 0x42 → m ≢ 0x43 → m ≢ 0x61 → m ≢ 0x6D
     → ◌≡◌ {A = Option TableRow} None (form_of m)
 unfolding form_of
-unlisted m a b c d e f g h i j =
+no_row m a b c d e f g h i j =
     rw (ne_eqb m 0x41 a, ne_eqb m 0x44 b, ne_eqb m 0x4D c, ne_eqb m 0x4C d, ne_eqb m 0x53 e, ne_eqb m 0x50 f, ne_eqb m 0x42 g, ne_eqb m 0x43 h, ne_eqb m 0x61 i, ne_eqb m 0x6D j) refl
 
 -- ---- what stands at a byte

@@ -27,7 +27,7 @@ enum Form {
 }
 
 // The table of commands: the form of a command byte.
-#[tactic(auto, using(crate::proofs::Finding::unlisted), unfolding(book::specs::Command::form_of))]
+#[tactic(auto, using(crate::proofs::Finding::no_row), unfolding(book::specs::Command::form_of))]
 fn form_of(byte: u8) -> Option<Form>
     ensures { option_map row_of result ≡ form_of byte }
 {

@@ -5,16 +5,12 @@ use mathlib.Core.Bool.{Bool, true, false}
 use mathlib.Core.List.{List, ◌∷◌}
 use Prim.Native.Nat.{ℕ, suc, ◌+◌, ◌*◌, ◌-◌, ◌≤◌, ◌<◌}
 use native.Mathlib.Omega.{arith}
-use lib.ListN.{length}
-use Rattle.limits.specs.Limits.{max_sites}
 use Rattle.grid.specs.declared.Site.{Site}
-use Rattle.grid.specs.declared.Leg.{Leg}
 use Rattle.grid.specs.Position.{OnGrid}
 use Rattle.grid.specs.Says.{Says}
 use Rattle.list_row.specs.Places.{site_at}
-use Rattle.list_row.specs.Vertices.{row_bytes}
 use Rattle.list_probe.specs.SiteArray.{sites_from}
-use Rattle.list_probe.specs.Probing.{NextSite, Orderly, Buildable}
+use Rattle.list_probe.specs.Probing.{NextSite, Orderly}
 
 -- the n records are in order exactly if those from i on are, above the last number
 pub record Tested (t : List ℕ) (n last i : ℕ) : Type 0 where

@@ -14,11 +14,6 @@ use Rattle.list_row.specs.declared.Vertex.{Vertex}
 use Rattle.list_row.specs.Places.{site_at_byte, site_at, HasSite}
 use Rattle.list_row.specs.Vertices.{IsVertex, place_at, Held}
 
-pub site_is : (t : List ℕ) (i n e o : ℕ) → n ≡ word_at t i → e ≡ word_at t (i + 2) → o ≡ word_at t (i + 4)
-    → ◌≡◌ {A = Site} (record { number = n; position = record { east = e; north = o } }) (site_at_byte t i)
-unfolding site_at_byte
-site_is t i n e o hn he ho = λ j. record { number = hn j; position = record { east = he j; north = ho j } }
-
 -- The site at p, measured.
 module _ {t : List ℕ} {p : ℕ} {s : Site} (e : s ≡ site_at t p) where
   pub read_on_grid : HasSite t p → OnGrid s.position

@@ -6,7 +6,7 @@ ghost use Rattle.std.specs.Prelude.{◌≡◌, ◌+◌, ◌*◌, ◌-◌, ◌^�
 ghost use Rattle.grid.specs.Position.{LegOnGrid};
 ghost use Rattle.grid.specs.Says.{Says};
 ghost use Rattle.split.specs.SplitList.{rank};
-ghost use Rattle.list_row.specs.Places.{site_at, HasSite};
+ghost use Rattle.list_row.specs.Places.{site_at_byte, site_at, HasSite};
 ghost use Rattle.list_row.specs.Vertices.{IsVertex, place_at, put_place, Held, Cut, CutBetween};
 ghost use Rattle.list_row.specs.Gaps.{Stands, About, Cuts};
 ghost use Rattle.list_row.specs.Alike.{held_alike};
@@ -25,7 +25,8 @@ pub struct Vertex {
     pub c: u32,
 }
 
-// The product of two differences of squared distances, in 64 bits.
+// The product of two differences of squared distances, in 64 bits. grid::side has one of numbers of 16 bits, with their
+// bound: a function for both would have to say of each type which numbers it has.
 pub fn product(x: u32, y: u32) -> u64
     requires { x * y < 2 ^ 64 }
     ensures { result ≡ x * y }
@@ -33,19 +34,27 @@ pub fn product(x: u32, y: u32) -> u64
     u64::from(x) * u64::from(y)
 }
 
-// The site at a place, wherever it lies.
-pub fn site_at(t: &[u8], p: usize) -> Site
-    requires { (p < 65536) × (2 * p + 6 ≤ length t.now) }
-    ensures { result ≡ site_at t.now p }
+// The site whose three words begin at byte i, wherever they lie.
+#[tactic(auto, unfolding(crate::specs::Places::site_at_byte))]
+pub fn site_at_byte(t: &[u8], i: usize) -> Site
+    requires { i + 6 ≤ length t.now }
+    ensures { result ≡ site_at_byte t.now i }
 {
-    let base = 2 * p;
-    let number = words::word(t, base);
-    let east = words::word(t, base + 2);
-    let north = words::word(t, base + 4);
+    let number = words::word(t, i);
+    let east = words::word(t, i + 2);
+    let north = words::word(t, i + 4);
     Site {
         number,
         position: Position { east, north },
     }
+}
+
+// The site at a place.
+pub fn site_at(t: &[u8], p: usize) -> Site
+    requires { (p < 65536) × (2 * p + 6 ≤ length t.now) }
+    ensures { result ≡ site_at t.now p }
+{
+    site_at_byte(t, 2 * p)
 }
 
 // The site at a place, measured from the leg's ends.

@@ -6,7 +6,7 @@
 pub mod damage;
 pub mod survey;
 
-ghost use Rattle.std.specs.Prelude.{◌≡◌, ◌≤◌};
+ghost use Rattle.std.specs.Prelude.{◌≤◌};
 ghost use Rattle.limits.specs.Limits.{work_bytes};
 ghost use Rattle.replay.specs.Replayed.{ask, Called, Opened, Closed, Refilled, AskedTen, Replayed};
 

@@ -80,8 +80,8 @@ fn survey_all(table: &mut [u8; TABLE_BYTES]) -> Readings
     Readings { full, rest }
 }
 
-// The same four with the steps written out. No one function of both: each holds the bytes that `Run` pins, with readings
-// and with steps.
+// The same four with the steps written out. No one function of both: each holds the bytes that `Run` pins, with
+// readings and with steps.
 fn step_all(table: &mut [u8; TABLE_BYTES]) -> Readings
     ensures { Run steps move_one_steps add_beyond_steps list_cut_steps result table.new }
 {

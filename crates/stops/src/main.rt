@@ -37,8 +37,8 @@ enum Got {
 }
 
 // What follows a batch: one more over so many bytes, or the end with its reason. Or the run breaks off: the input
-// cannot be read, the report was not taken, or the count of turns is spent. The ways to break off have no more in common
-// than that nothing is written behind them, so they are cases beside the others and no error type.
+// cannot be read, the report was not taken, or the count of turns is spent. The ways to break off have no more in
+// common than that nothing is written behind them, so they are cases beside the others and no error type.
 #[derive(Clone, Copy)]
 enum Next {
     More(usize),

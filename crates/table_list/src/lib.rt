@@ -4,7 +4,7 @@
 
 ghost use Rattle.std.specs.Prelude.{◌≡◌, true, ◌<◌, ◌≤◌, length, Some};
 ghost use mathlib.Core.List.{Memᴰ};
-ghost use Rattle.limits.specs.Limits.{table_bytes, max_sites};
+ghost use Rattle.limits.specs.Limits.{max_sites};
 ghost use Rattle.grid.specs.Position.{LegOnGrid};
 ghost use Rattle.grid.specs.Says.{Says, If};
 ghost use Rattle.book.specs.Book.{holds};

@@ -2,13 +2,13 @@
 // docs/LAYOUT.md. A record is a site's number, its easting and its northing, and a word that is 0, 16 bits each.
 #![tactic(auto)]
 
-ghost use Rattle.std.specs.Prelude.{◌≡◌, ◌*◌, ◌-◌, ◌<◌, ◌≤◌, length};
-ghost use Rattle.limits.specs.Limits.{max_sites, table_bytes};
+ghost use Rattle.std.specs.Prelude.{◌≡◌, ◌*◌, ◌-◌, ◌<◌, ◌≤◌};
+ghost use Rattle.limits.specs.Limits.{max_sites};
 ghost use Rattle.words.specs.Words.{word_at};
 ghost use Rattle.table_sites.specs.Layout.{record_start};
 ghost use Rattle.table_sites.specs.Lines.{lines_in, line_at, Array, FoundAs, Narrowed};
 
-use grid::{Position, Site};
+use grid::Site;
 use limits::TABLE_BYTES;
 
 pub mod change;
@@ -40,14 +40,7 @@ pub fn line(t: &[u8; TABLE_BYTES], k: usize) -> Site
     requires { k < max_sites }
     ensures { result ≡ line_at t.now k }
 {
-    let i = SITE_START + SITE_BYTES * k;
-    let number = words::word(t, i);
-    let east = words::word(t, i + EAST_OFFSET);
-    let north = words::word(t, i + NORTH_OFFSET);
-    Site {
-        number,
-        position: Position { east, north },
-    }
+    list_row::site_at_byte(t, SITE_START + SITE_BYTES * k)
 }
 
 // The place of record k: half the byte at which it begins.

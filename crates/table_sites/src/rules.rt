@@ -1,6 +1,5 @@
 // The test of the site array in any bytes.
-ghost use Rattle.std.specs.Prelude.{◌≡◌, ◌+◌, ◌≤◌, length};
-ghost use Rattle.limits.specs.Limits.{table_bytes};
+ghost use Rattle.std.specs.Prelude.{◌+◌, ◌≤◌, length};
 ghost use Rattle.grid.specs.Says.{Says};
 ghost use Rattle.table_sites.specs.Layout.{site_bytes};
 ghost use Rattle.table_sites.specs.Rules.{SitesOk, RecordOk};

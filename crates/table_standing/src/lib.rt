@@ -2,7 +2,7 @@
 #![tactic(auto)]
 
 ghost use Rattle.std.specs.Prelude.{◌≡◌, ◌<◌, length};
-ghost use Rattle.limits.specs.Limits.{max_sites, table_bytes};
+ghost use Rattle.limits.specs.Limits.{max_sites};
 ghost use Rattle.list_row.specs.Vertices.{Held, entries_in};
 ghost use Rattle.table_standing.specs.Standing.{stored_number, NumberRow, ListStored};
 

@@ -25,7 +25,7 @@ fn holds(f: NodeEntry, e: NodeEntry) -> bool
 }
 
 // The first entry of node n from k on of which `asked` says true.
-// A loop: a call for each entry costs more than the test of its box.
+// The closure is compiled into the loop: a call for each entry would cost more than the test of its box.
 fn next_where<F: Fn(NodeEntry) -> bool>(
     table: &[u8; TABLE_BYTES],
     n: usize,

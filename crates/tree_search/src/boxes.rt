@@ -1,7 +1,7 @@
 // The boxes of a node's entries, seen from the ends of the leg: measured once, for the choice of the first entry and
 // for the tests.
 ghost use Rattle.std.specs.Prelude.{◌≡◌, ◌<◌, length};
-ghost use Rattle.limits.specs.Limits.{max_entries, max_nodes, table_bytes};
+ghost use Rattle.limits.specs.Limits.{max_entries, max_nodes};
 ghost use Rattle.grid.specs.Position.{LegOnGrid};
 ghost use Rattle.list_skip.specs.Skipping.{IsCorner};
 ghost use Rattle.tree_node.specs.Node.{entries};

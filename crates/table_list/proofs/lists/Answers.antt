@@ -1,5 +1,4 @@
 use borrow.Author.Rules.{rules}
-use Prim.Native.Nat.{◌-◌}
 use Rattle.table_list.proofs.Naming.{unnamed_none, unnamed_one, unnamed_all, named}
 use Rattle.table_list.proofs.lists.Goals as goal
 

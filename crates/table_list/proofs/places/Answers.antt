@@ -1,5 +1,4 @@
 use borrow.Author.Rules.{rules}
-use Prim.Native.Nat.{◌-◌}
 use Rattle.table_list.proofs.Rows.{loading_none, loading_one, loading_all, number_held}
 use Rattle.table_list.proofs.places.Goals as goal
 

@@ -1,7 +1,6 @@
 use native.Mathlib.Omega.{arith}
 use Rattle.table_sites.proofs.Finding.{find_up, find_down, find_at, find_absent}
 use borrow.Author.Rules.{rules}
-use Prim.Native.Nat.{◌-◌}
 use Rattle.table_sites.proofs.bisect.Goals as goal
 
 pub returns-then-m-n : goal.returns-then-m-n

@@ -1,5 +1,4 @@
 use native.Mathlib.Omega.{arith}
-use Prim.Native.Nat.{◌-◌}
 use borrow.Author.Rules.{rules}
 use Rattle.table_sites.proofs.Finding.{find_up, find_down, find_at}
 use Rattle.table_sites.proofs.fall.Goals as goal

@@ -1,5 +1,4 @@
 use Rattle.table_sites.proofs.Checking.{check_none, check_one, check_stopped, check_all, check_many}
-use Prim.Native.Nat.{◌-◌}
 use borrow.Author.Rules.{rules}
 use Rattle.table_sites.proofs.rules.check.Goals as goal
 
