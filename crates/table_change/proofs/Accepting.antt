@@ -27,7 +27,7 @@ use Rattle.book.proofs.Lines.{strike_none, holds_strike, holds_member}
 use Rattle.book.proofs.ProperBooks.{proper_numbered}
 use Rattle.book.proofs.Lists.{last_held}
 use Rattle.table_header.specs.Layout.{layout_start, flag_start, leg_start, length_start, tour_start, corner_start, tour_end}
-use Rattle.table_header.specs.Header.{leg_in, length_in, tour_in, ZeroFrom, LegStored, TourStored}
+use Rattle.table_header.specs.Header.{leg_in, length_in, site_number, tour_at, tour_in, ZeroFrom, LegStored, TourStored}
 use Rattle.table_sites.specs.Lines.{lines_in, StandsAt, StandsNowhere}
 use Rattle.table_standing.specs.Standing.{standing_in, numbers_of}
 use Rattle.tree_node.specs.Layout.{tree_start}
@@ -233,16 +233,19 @@ module _ (b b₀ : List ℕ) (s : Sound b) where
         let h = holds_member n (lines_in b) held_last in
         omega (arith, h.named, (s.whole.sites.numbers h.line h.held).least)
 
-    goes_on_lem : goes_on (tour_in b) l.e (list_of (tour_leg (tour_in b) l.e) (lines_in b)) ≡ Some (record { corner = l.e; last = Some n })
+    last_number_lem : site_number n ≡ Some n
+    last_number_lem = rw (ne_eqb n 0 (λ z. omega (arith, z, last_numbered))) refl
+
+    goes_on_lem : goes_on (tour_in b) l.e (list_of (tour_leg (tour_in b) l.e) (lines_in b)) ≡ Some (tour_at l.e n)
     goes_on_lem =
         ap (λ (o : Option Tour). goes_on o l.e (list_of (tour_leg o l.e) (lines_in b))) f.runs
         ∙ (λ i. Some (cornered l.e (split_of (record { s = f.from i; e = l.e }) (lines_in b))))
-        ∙ ap (λ (o : Option ℕ). Some (record { corner = l.e; last = o })) f.last
+        ∙ ap (λ (o : Option ℕ). Some (record { corner = l.e; last = o })) (f.last ∙ sym last_number_lem)
 
     -- GONE ON
-    pub follow_done : TourStored (Some (record { corner = l.e; last = Some n })) b b₀ → Holds b₀ (change (Corner l.e) (book_of b))
+    pub follow_done : TourStored (Some (tour_at l.e n)) b b₀ → Holds b₀ (change (Corner l.e) (book_of b))
     unfolding change
     follow_done st =
         subst⁻¹ (λ (o : Option Tour). Holds b₀ (with_tour o (book_of b))) goes_on_lem
-        (toured_holds b b₀ (Some (record { corner = l.e; last = Some n })) s.whole st s.standing
-        (record { on_grid = f.on_grid; held = held_last }))
+        (toured_holds b b₀ (Some (tour_at l.e n)) s.whole st s.standing
+        (record { on_grid = f.on_grid; held = rw last_number_lem held_last }))

@@ -13,7 +13,7 @@ use Rattle.words.proofs.Frame.{only_trans, only_wider, only_put_word, word_put_w
 use Rattle.grid.specs.declared.Position.{Position}
 use Rattle.book.specs.declared.Tour.{Tour}
 use Rattle.table_header.specs.Layout.{tour_start, corner_start, last_start, tour_end}
-use Rattle.table_header.specs.Header.{position_words, put_position, site_number, tour_at, tour_in, put_tour, TourStored}
+use Rattle.table_header.specs.Header.{position_words, put_position, site_number, tour_at, tour_in, stored_as, put_tour, TourStored}
 use Rattle.table_header.proofs.Zeros.{zero_word, zero_both}
 use Rattle.table_header.proofs.Legs.{only_position, position_put, position_low}
 
@@ -31,6 +31,11 @@ from_is b f p n o h nz hp hn ho =
 numbered : (o : Option ℕ) → IfSome o (λ n. 0 < n) → site_number (unwrap_or o 0) ≡ o
 numbered None h = refl
 numbered (Some n) h = rw (ne_eqb n 0 (λ z. omega (arith, h, z))) refl
+
+-- so a tour that remembers no 0 is stored as it is
+pub stored_told : (o : Option Tour) → IfSome o (λ k. IfSome k.last (λ n. 0 < n)) → stored_as o ≡ o
+stored_told None h = refl
+stored_told (Some k) h = λ i. Some (record { corner = k.corner; last = numbered k.last h i })
 
 pub tour_put : (b b₁ b₂ b₃ : List ℕ) (f : ℕ) (p : Position) (n : ℕ) → b₁ ≡ put_word b tour_start f → b₂ ≡ put_position b₁ corner_start p → b₃ ≡ put_word b₂ last_start n
     → b₃ ≡ put_tour b f p n
@@ -77,29 +82,26 @@ module _ (b : List ℕ) (f : ℕ) (p : Position) (n : ℕ) (len : length b ≡ t
   put_last = word_put_word b₂ last_start n (omega (arith, o₁.len, o₂.len))
 
 -- THE TOUR STORED is the tour under way
-pub tour_stored : (b b' : List ℕ) (o : Option Tour) (k : Tour) (n : ℕ) → length b ≡ table_bytes → o ≡ Some k → IfSome o (λ k. IfSome k.last (λ n. 0 < n))
-    → n ≡ unwrap_or k.last 0 → b' ≡ put_tour b 1 k.corner n → TourStored o b b'
+pub tour_stored : (b b' : List ℕ) (o : Option Tour) (k : Tour) (f n : ℕ) → length b ≡ table_bytes → o ≡ Some k
+    → n ≡ unwrap_or k.last 0 → b' ≡ put_tour b f k.corner n → f ≡ 1 → TourStored (stored_as o) b b'
 unfolding tour_in
-tour_stored b b' o k n len is few q e =
-    let last : site_number n ≡ k.last =
-    ap site_number q ∙ numbered k.last (subst (λ (x : Option Tour). IfSome x (λ y. IfSome y.last (λ m. 0 < m))) is few) in
-    rw e
+tour_stored b b' o k f n len is q e one =
+    rw (e, one, is, sym q)
     (record {
       tour = rw (ne_eqb (word_at (put_tour b 1 k.corner n) tour_start) 0 (λ z. omega (arith, put_flag b 1 k.corner n len)))
-          (λ i. Some (record { corner = put_corner b 1 k.corner n len i; last = (ap site_number (put_last b 1 k.corner n len) ∙ last) i }))
-          ∙ sym is;
+          (λ i. Some (tour_at (put_corner b 1 k.corner n len i) (put_last b 1 k.corner n len i)));
       layout = record { flag = omega (arith, put_flag b 1 k.corner n len); unset = λ z. absurd (omega (arith, put_flag b 1 k.corner n len)) };
       only = put_only b 1 k.corner n len;
     })
 
 -- A TOUR ENDED leaves zeros
 pub tour_ended : (b b' : List ℕ) (o : Option Tour) (p : Position) → length b ≡ table_bytes → o ≡ None → p.east ≡ 0 → p.north ≡ 0 → b' ≡ put_tour b 0 p 0
-    → TourStored o b b'
+    → TourStored (stored_as o) b b'
 unfolding tour_in position_words
 tour_ended b b' o p len is pe pn e =
-    rw e
+    rw (e, is)
     (record {
-      tour = rw (eq-eqb (word_at (put_tour b 0 p 0) tour_start) 0 (put_flag b 0 p 0 len)) (sym is);
+      tour = rw (eq-eqb (word_at (put_tour b 0 p 0) tour_start) 0 (put_flag b 0 p 0 len)) refl;
       layout = record {
         flag = omega (arith, put_flag b 0 p 0 len);
         unset = λ z.

@@ -1,7 +1,7 @@
 -- What stands in the table's header, and the rules on it. Document 01: "The standing leg is that of the last accepted
 -- 53, and there is none before it." Document 02, C-13: "The tour is kept in the table between batches".
 -- Assumes nothing.
-use Rattle.std.specs.Prelude.{◌≡◌, List, cond, ℕ, ◌+◌, ◌≤◌, ◌<◌, get_or, eqb, Option, None, Some}
+use Rattle.std.specs.Prelude.{◌≡◌, List, cond, ℕ, ◌+◌, ◌≤◌, ◌<◌, get_or, eqb, Option, None, Some, unwrap_or}
 use Rattle.words.specs.Words.{word_at, put_word, Only}
 use Rattle.grid.specs.declared.Position.{Position}
 use Rattle.grid.specs.declared.Leg.{Leg}
@@ -63,6 +63,11 @@ site_number n = cond (eqb n 0) None (Some n)
 -- the tour whose last corner is p and in which n is remembered
 abbrev pub tour_at : Position → ℕ → Tour
 tour_at p n = record { corner = p; last = site_number n }
+
+-- a tour as the table has it: the number 0 stands for no site
+abbrev pub stored_as : Option Tour → Option Tour
+stored_as None = None
+stored_as (Some k) = Some (tour_at k.corner (unwrap_or k.last 0))
 
 -- the tour that is under way, or none
 unfoldable pub tour_in : List ℕ → Option Tour

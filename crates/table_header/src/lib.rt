@@ -3,14 +3,14 @@
 // else, but that laying out first sets the whole table to 0.
 #![tactic(auto)]
 
-ghost use Rattle.std.specs.Prelude.{◌≡◌, ◌+◌, ◌<◌, ◌≤◌, length, IfSome};
+ghost use Rattle.std.specs.Prelude.{◌≡◌, ◌+◌, ◌<◌, ◌≤◌, length};
 ghost use Rattle.limits.specs.Limits.{table_bytes};
 ghost use Rattle.words.specs.Words.{put_word};
 ghost use Rattle.grid.specs.Says.{Says};
 ghost use Rattle.table_header.specs.Layout.{count_start, length_start, layout_start, layout_number};
 ghost use Rattle.table_header.specs.Header.{count_in, length_in, position_words, put_position, leg_in};
 ghost use Rattle.table_header.specs.Header.{LegStored, ZeroFrom, FlagOk, HeaderOk};
-ghost use Rattle.table_header.specs.Header.{site_number, tour_in, put_tour, TourStored};
+ghost use Rattle.table_header.specs.Header.{site_number, tour_in, stored_as, put_tour, TourStored};
 
 use book::Tour;
 use grid::{Leg, Position};
@@ -183,10 +183,9 @@ fn put_tour(t: &mut [u8; TABLE_BYTES], flag: u16, corner: Position, last: u16)
     words::put_word(t, LAST_START, last);
 }
 
-// Stores the tour, or that there is none. A site's number is not 0: that stands for no site.
+// Stores the tour, or that there is none. A remembered number 0 is stored as no site.
 pub fn store_tour(t: &mut [u8; TABLE_BYTES], tour: Option<Tour>)
-    requires { IfSome tour (λ k. IfSome k.last (λ n. 0 < n)) }
-    ensures { TourStored tour t.old t.new }
+    ensures { TourStored (stored_as tour) t.old t.new }
 {
     match tour {
         None => {
