@@ -12,7 +12,7 @@ whole_ok-requires c = search (rules, not-false, marks_fit)
 
 pub returns-then-not-whole_ok : goal.returns-then-not-whole_ok
 returns-then-not-whole_ok c =
-    broken_table _ _ _ c.lengths_ok.ensures c.if-not-lengths_ok.false _ c.in-Ok.ensures.1 _ c.whole_ok.ensures _ (search rules) _ c.clear.ensures c.if-not-whole_ok.true
+    broken_table _ _ _ c.lengths_ok.ensures c.if-not-lengths_ok.false _ c.in-Ok.ensures.1 _ c.whole_ok.ensures c.whole_ok.new.work (search rules) _ (search rules) c.if-not-whole_ok.true
 
 pub standing_ok-requires : goal.standing_ok-requires
 standing_ok-requires c = (search (rules, is_whole), search (rules, not-false, row_fits))
@@ -23,4 +23,4 @@ returns-then-standing_ok c =
 
 pub returns : goal.returns
 returns c =
-    broken_standing _ _ _ c.lengths_ok.ensures c.if-not-lengths_ok.false _ c.in-Ok.ensures.1 _ c.whole_ok.ensures c.whole_ok.new.work (search rules) c.if-not-whole_ok.false _ c.standing_ok.ensures c.standing_ok.new.work (search rules) _ c.clear-2.ensures c.if-standing_ok.false
+    broken_standing _ _ _ c.lengths_ok.ensures c.if-not-lengths_ok.false _ c.in-Ok.ensures.1 _ c.whole_ok.ensures c.whole_ok.new.work (search rules) c.if-not-whole_ok.false _ c.standing_ok.ensures c.standing_ok.new.work (search rules) _ (search rules) c.if-standing_ok.false
