@@ -1,7 +1,7 @@
 -- The laws that the returns of `is_finite`, `reading_at`, `survey` and `locate` cite.
 -- Assumes nothing.
-use Rattle.std.proofs.Common.{◌≡◌, ℕ, ◌+◌, Bool, true, false, T, List, sym, refl, ap, ◌∙◌, subst}
-use lib.Ieee.{Float, nan, inf, fin}
+use Rattle.std.proofs.Common.{◌≡◌, ℕ, ◌+◌, Bool, true, false, T, List, sym, refl, ap, ◌∙◌, subst, true≢false}
+use lib.Ieee.{Float, nan, inf, fin, binary32, neg, lt, of_bits}
 use lib.Ieee.Scale.{finite}
 use Rattle.std.specs.Float.{float_is_finite}
 use Rattle.grid.specs.declared.Position.{Position}
@@ -18,6 +18,21 @@ unfolding float_is_finite
 finite_same nan = refl
 finite_same (inf s) = refl
 finite_same (fin s m e) = refl
+
+-- the same told by comparing with the infinities
+pub finite_below : (x : Float) → lt x (of_bits binary32 0x7F800000) ≡ true
+    → lt (neg (of_bits binary32 0x7F800000)) x ≡ finite x
+unfolding lt neg of_bits
+finite_below nan h = refl
+finite_below (inf true) h = refl
+finite_below (inf false) h = absurd (true≢false (sym h))
+finite_below (fin s m e) h = refl
+
+pub finite_not : (x : Float) → lt x (of_bits binary32 0x7F800000) ≡ false → false ≡ finite x
+unfolding lt of_bits
+finite_not nan h = refl
+finite_not (inf s) h = refl
+finite_not (fin s m e) h = absurd (true≢false h)
 
 pub finite_told : (x : Float) (q : Bool) → q ≡ finite x → q ≡ true → T (finite x)
 finite_told x q f e = subst T (sym (sym f ∙ e)) tt

@@ -75,7 +75,7 @@ pub fn step(r: Reading) -> Position
 }
 
 // Whether a reading is a finite number: neither an infinity nor no number at all.
-#[tactic(auto, using(crate::proofs::Answers::finite_same))]
+#[tactic(auto, using(crate::proofs::Answers::finite_same, crate::proofs::Answers::finite_below, crate::proofs::Answers::finite_not))]
 pub fn is_finite(x: f32) -> bool
     ensures { result ≡ finite x }
 {
